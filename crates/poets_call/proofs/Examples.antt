@@ -1,0 +1,265 @@
+-- Worked histories: their replies were written by hand, and each is the right one.
+use Rattle.std.proofs.Common.{arith, ◌≡◌, ℕ, zero, suc, ◌+◌, Bool, true, false, nat_lt, List, [], ◌∷◌, Some, None, if◌then◌else◌, ◌<◌, ◌≤◌, take, refl, inl, inr}
+use Rattle.std.specs.Prelude.{ℤ, pos, IsTrue, ◌↔◌}
+use Rattle.poets_value.specs.declared.value.Name.{Name}
+use Rattle.poets_value.specs.declared.event.Event.{Event}
+use Rattle.poets_value.specs.declared.value.Ty.TheVariants as T
+use Rattle.poets_value.specs.declared.value.Value.TheVariants as V
+use Rattle.poets_expr.specs.declared.expr.Op.TheVariants as O
+use Rattle.poets_expr.specs.Env.{Declared, Env}
+use Rattle.poets_expr.specs.Expression.{Expression, Literal, Named, Unary, Binary, Not, AmountOf, KindOf}
+use Rattle.poets_syntax.specs.declared.term.Binders.{Binders}
+use Rattle.poets_syntax.specs.Contract.{Contract}
+use Rattle.poets_syntax.specs.Between.{Between}
+use Rattle.poets_syntax.specs.Perf.{Perf}
+use Rattle.poets_syntax.specs.May.{May}
+use Rattle.poets_syntax.specs.Plain.{plain}
+use Rattle.poets_report.specs.Keys.{Key, same_key}
+use Rattle.poets_report.specs.Query.{Query, folded, key_on, with_key}
+use Rattle.poets_report.specs.Answers.{Finding, row_at, if_any}
+use Rattle.poets_call.specs.Calls.{Request, Response, HistoryEntry}
+use Rattle.poets_call.specs.Frame.{Frame}
+use Rattle.poets_call.specs.Plain.{plain_frame}
+use Rattle.poets_call.specs.Replies.{Legal, widest}
+
+abbrev name : ℕ → Name
+name n = record { id = n }
+
+-- agents ann, bob;; kinds Oil, USD;;
+abbrev ann : Name
+ann = name 0
+
+abbrev bob : Name
+bob = name 1
+
+abbrev oil : Name
+oil = name 2
+
+abbrev usd : Name
+usd = name 3
+
+abbrev declared : Declared
+declared x = if nat_lt x.id 2 then Some T.Agent else (if nat_lt x.id 4 then Some T.Kind else None)
+
+abbrev binders : Binders
+binders = record { sender = name 10; receiver = name 11; what = name 12; day = name 13 }
+
+-- report sum(): Int = fold x = 0 with (s, v, r, t) in x + amount(r)
+abbrev sum : Query
+sum = record {
+  name = name 20;
+  params = [];
+  ty = T.Int;
+  start = Literal (V.Int (pos 0));
+  carry = name 14;
+  binders = binders;
+  step = Binary O.Add (Named (name 14)) (Unary AmountOf (Named (name 12)));
+  key = None;
+}
+
+-- report moved(): the same by kind(r)
+abbrev moved : Query
+moved = record sum { name = name 21; key = Some (Unary KindOf (Named (name 12))) }
+
+abbrev frame : Frame
+frame = plain_frame declared (sum ∷ moved ∷ [])
+
+-- transmit(s, v, r, t | kind(r) = Oil). then
+abbrev oil_then : Contract → Contract
+oil_then c = Contract.Transmit binders (Binary O.Eq (Unary KindOf (Named (name 12))) (Named oil)) c
+
+-- so much oil from ann to bob, on a day of January 2006
+abbrev moves : ℤ → ℕ → Event
+moves amount day = record { sender = ann; receiver = bob; what = record { kind = oil; amount = amount }; day = pos (13148 + day) }
+
+abbrev by : ℕ → Request → Response → HistoryEntry
+by clerk request response = record { clerk = clerk; request = request; response = response }
+
+abbrev a : Name
+a = name 30
+
+abbrev c : Name
+c = name 31
+
+abbrev d : Name
+d = name 32
+
+is_not_too_large : {n : ℕ} → n ≤ widest → widest < n → ⊥
+is_not_too_large small large = omega (arith, small, large)
+
+-- a contract is registered, shown and ended once; a second one of its name, and an event that it does not want, are refused
+abbrev first_day : List HistoryEntry
+first_day =
+    by 1 (Request.Register a Contract.Success) (Response.Registered 1)
+    ∷ by 2 (Request.Register a Contract.Failure) (Response.NameTaken 1)
+    ∷ by 2 (Request.Transmit a (moves (pos 1) 1)) Response.Unmatched
+    ∷ by 1 (Request.Show a) (Response.Shown Contract.Success 0 true false)
+    ∷ by 1 (Request.End a) Response.EndedNow
+    ∷ by 1 (Request.End a) Response.AlreadyEnded
+    ∷ by 2 (Request.Transmit a (moves (pos 1) 1)) Response.Ended
+    ∷ by 1 (Request.Show a) (Response.Shown Contract.Success 0 true true)
+    ∷ by 1 (Request.Register d (oil_then Contract.Failure)) Response.Hopeless
+    ∷ by 1 (Request.Show d) (Response.NoContract d)
+    ∷ []
+
+success_is_over : {env : Env} {e : Event} {n : ℕ} → May (plain declared) env Contract.Success (e ∷ []) n → ⊥
+success_is_over m = elim m [ ]
+
+failure_is_hopeless : {env : Env} {n : ℕ} → May (plain declared) env (oil_then Contract.Failure) [] n → ⊥
+failure_is_hopeless (May.Granted m) = elim m [ ]
+
+success_is_performed : IsTrue true ↔ Perf (plain declared) [] Contract.Success []
+success_is_performed = (λ _. Perf.Done, λ _. refl)
+
+no : IsTrue false → ⊥
+no e = absurd cc
+
+pub first_day_is_legal : Legal frame first_day
+first_day_is_legal =
+    let h₁ : Legal frame (take 1 first_day) = Legal.More _ Legal.Empty (inr ((0, May.Done), inr (is_not_too_large (omega arith), refl))) in
+    let h₂ : Legal frame (take 2 first_day) = Legal.More _ h₁ refl in
+    let h₃ : Legal frame (take 3 first_day) = Legal.More _ h₂ (inr (no, inl (λ m. success_is_over m.1, refl))) in
+    let h₄ : Legal frame (take 4 first_day) = Legal.More _ h₃ (true, success_is_performed, refl) in
+    let h₅ : Legal frame (take 5 first_day) = Legal.More _ h₄ (inr (no, inr (Perf.Done, refl))) in
+    let h₆ : Legal frame (take 6 first_day) = Legal.More _ h₅ (inl (refl, refl)) in
+    let h₇ : Legal frame (take 7 first_day) = Legal.More _ h₆ (inl (refl, refl)) in
+    let h₈ : Legal frame (take 8 first_day) = Legal.More _ h₇ (true, success_is_performed, refl) in
+    let h₉ : Legal frame (take 9 first_day) = Legal.More _ h₈ (inl (λ m. failure_is_hopeless m.1, refl)) in
+    Legal.More _ h₉ refl
+
+-- two events are recorded, though not out of order, and told by a watch, a tally and a portfolio
+abbrev trade : List HistoryEntry
+trade =
+    by 1 (Request.Register c (oil_then (oil_then Contract.Success))) (Response.Registered 1)
+    ∷ by 1 (Request.Register a Contract.Success) (Response.Registered 2)
+    ∷ by 2 (Request.Watch moved.name []) (Response.Watching 1)
+    ∷ by 1 (Request.Transmit c (moves (pos 5) 2)) (Response.Recorded 1 false)
+    ∷ by 1 (Request.Transmit c (moves (pos 2) 1)) (Response.Late (pos 13150))
+    ∷ by 1 (Request.Show c) (Response.Shown (oil_then Contract.Success) 1 false false)
+    ∷ by 1 (Request.End c) Response.NotPerformed
+    ∷ by 1 (Request.Transmit c (moves (pos 2) 2)) (Response.Recorded 2 true)
+    ∷ by 2 (Request.Read 1) (Response.Answered (Finding.Rows ((Some (V.Kind oil), Some (V.Int (pos 7))) ∷ [])))
+    ∷ by 2 (Request.Read 2) (Response.NoWatch 2)
+    ∷ by 2 (Request.Read 0) (Response.NoWatch 0)
+    ∷ by 2 (Request.Tally sum.name []) (Response.Answered (Finding.Single (Some (V.Int (pos 7)))))
+    ∷ by 2 (Request.Portfolio sum.name [] (c ∷ a ∷ c ∷ []))
+    (Response.Folio
+    ((c, Finding.Single (Some (V.Int (pos 7)))) ∷ (a, Finding.Single (Some (V.Int (pos 0)))) ∷ (c, Finding.Single (Some (V.Int (pos 7)))) ∷ [])
+    (Some (Some (V.Int (pos 14)))))
+    ∷ by 2 (Request.Portfolio sum.name [] (c ∷ d ∷ [])) (Response.NoContract d)
+    ∷ by 1 (Request.End c) Response.EndedNow
+    ∷ []
+
+one_is_too_few : Perf (plain declared) [] (oil_then (oil_then Contract.Success)) (moves (pos 5) 2 ∷ []) → ⊥
+one_is_too_few (Perf.Taken h p) = none_is_too_few p
+  where
+    none_is_too_few : {env : Env} → Perf (plain declared) env (oil_then Contract.Success) [] → ⊥
+    none_is_too_few p = elim p [ ]
+
+two_are_enough : Perf (plain declared) [] (oil_then (oil_then Contract.Success)) (moves (pos 5) 2 ∷ moves (pos 2) 2 ∷ [])
+two_are_enough = Perf.Taken refl (Perf.Taken refl Perf.Done)
+
+is_not : (IsTrue false) ↔ Perf (plain declared) [] (oil_then (oil_then Contract.Success)) (moves (pos 5) 2 ∷ [])
+is_not = (λ e. absurd (no e), λ p. absurd (one_is_too_few p))
+
+-- the row of oil is the sum of both amounts, and there is no other row
+abbrev AreSeven : Key → Type 0
+AreSeven k =
+    row_at k ((Some (V.Kind oil), Some (V.Int (pos 7))) ∷ [])
+    ≡ if_any (folded declared moved []) (with_key (key_on declared moved [] (Unary KindOf (Named (name 12)))) k (moves (pos 5) 2 ∷ moves (pos 2) 2 ∷ []))
+
+seven_moved : (k : Key) → AreSeven k
+seven_moved k = at_oil (same_key k (Some (V.Kind oil))) refl
+  where
+    at_oil : (b : Bool) → same_key k (Some (V.Kind oil)) ≡ b → AreSeven k
+    at_oil true e = rw e refl
+    at_oil false e = rw e refl
+
+pub trade_is_legal : Legal frame trade
+trade_is_legal =
+    let h₁ : Legal frame (take 1 trade) = Legal.More _ Legal.Empty (inr ((2, May.Granted (May.Granted May.Done)), inr (is_not_too_large (omega arith), refl))) in
+    let h₂ : Legal frame (take 2 trade) = Legal.More _ h₁ (inr ((0, May.Done), inr (is_not_too_large (omega arith), refl))) in
+    let h₃ : Legal frame (take 3 trade) = Legal.More _ h₂ refl in
+    let h₄ : Legal frame (take 4 trade) = Legal.More _ h₃
+    (inr (no, inr ((1, May.Taken refl (May.Granted May.Done)), inr (is_not_too_large (omega arith), (false, is_not, refl))))) in
+    let h₅ : Legal frame (take 5 trade) = Legal.More _ h₄ (inr (no, refl)) in
+    let h₆ : Legal frame (take 6 trade) = Legal.More _ h₅ (false, is_not, refl) in
+    let h₇ : Legal frame (take 7 trade) = Legal.More _ h₆ (inr (no, inl (one_is_too_few, refl))) in
+    let h₈ : Legal frame (take 8 trade) = Legal.More _ h₇
+    (inr (no, inr ((0, May.Taken refl (May.Taken refl May.Done)), inr (is_not_too_large (omega arith), (true, (λ _. two_are_enough, λ _. refl), refl))))) in
+    let h₉ : Legal frame (take 9 trade) = Legal.More _ h₈
+    (moved, refl, (Finding.Rows ((Some (V.Kind oil), Some (V.Int (pos 7))) ∷ []), record { rising = tt; each = seven_moved }, refl)) in
+    let h₁₀ : Legal frame (take 10 trade) = Legal.More _ h₉ refl in
+    let h₁₁ : Legal frame (take 11 trade) = Legal.More _ h₁₀ refl in
+    let h₁₂ : Legal frame (take 12 trade) = Legal.More _ h₁₁ (sum, refl, (Finding.Single (Some (V.Int (pos 7))), refl, refl)) in
+    let h₁₃ : Legal frame (take 13 trade) = Legal.More _ h₁₂ (
+      sum,
+      refl,
+      (
+        (c, Finding.Single (Some (V.Int (pos 7)))) ∷ (a, Finding.Single (Some (V.Int (pos 0)))) ∷ (c, Finding.Single (Some (V.Int (pos 7)))) ∷ [],
+        ((refl, refl), ((refl, refl), ((refl, refl), tt))),
+        refl,
+      ),
+    ) in
+    let h₁₄ : Legal frame (take 14 trade) = Legal.More _ h₁₃ refl in
+    Legal.More _ h₁₄ (inr (no, inr (two_are_enough, refl)))
+
+-- transmit(s, v, r, t | kind(r) = USD). Success
+abbrev usd_then_success : Contract
+usd_then_success = Contract.Transmit binders (Binary O.Eq (Unary KindOf (Named (name 12))) (Named usd)) Contract.Success
+
+-- an event that both sides want leaves both open
+abbrev either_side : List HistoryEntry
+either_side =
+    by 1 (Request.Register c (Contract.Par (oil_then Contract.Success) (oil_then usd_then_success))) (Response.Registered 1)
+    ∷ by 1 (Request.Transmit c (moves (pos 1) 1)) (Response.Recorded 1 false)
+    ∷ by 1 (Request.Show c)
+    (Response.Shown
+    (Contract.Plus (oil_then usd_then_success) (Contract.Par (oil_then Contract.Success) usd_then_success)) 1 false false)
+    ∷ []
+
+three_are_wanted : {s₁ s₂ : List Event} {e : Event} → Between s₁ s₂ (e ∷ []) →
+    Perf (plain declared) [] (oil_then Contract.Success) s₁ → Perf (plain declared) [] (oil_then usd_then_success) s₂ → ⊥
+three_are_wanted (Between.First b) (Perf.Taken h p) (Perf.Taken h' (Perf.Taken h'' q)) = elim b [ ]
+three_are_wanted (Between.Second b) (Perf.Taken h p) (Perf.Taken h' (Perf.Taken h'' q)) = elim b [ ]
+
+not_both : IsTrue false ↔ Perf (plain declared) [] (Contract.Par (oil_then Contract.Success) (oil_then usd_then_success)) (moves (pos 1) 1 ∷ [])
+not_both = (λ e. absurd (no e), λ p. absurd (one_is_no_three p))
+  where
+    one_is_no_three : Perf (plain declared) [] (Contract.Par (oil_then Contract.Success) (oil_then usd_then_success)) (moves (pos 1) 1 ∷ []) → ⊥
+    one_is_no_three (Perf.Beside b p q) = three_are_wanted b p q
+
+pub either_side_is_legal : Legal frame either_side
+either_side_is_legal =
+    let first : Between (moves (pos 1) 1 ∷ []) [] (moves (pos 1) 1 ∷ []) = Between.First Between.Empty in
+    let h₁ : Legal frame (take 1 either_side) = Legal.More _ Legal.Empty
+    (inr ((3, May.Beside Between.Empty refl (May.Granted May.Done) (May.Granted (May.Granted May.Done))), inr (is_not_too_large (omega arith), refl))) in
+    let h₂ : Legal frame (take 2 either_side) = Legal.More _ h₁
+    (inr (
+      no,
+      inr (
+        (2, May.Beside first refl (May.Taken refl May.Done) (May.Granted (May.Granted May.Done))),
+        inr (is_not_too_large (omega arith), (false, not_both, refl)),
+      ),
+    )) in
+    Legal.More _ h₂ (false, not_both, refl)
+
+-- a predicate with so many nodes above its literal
+abbrev nots : ℕ → Expression
+nots zero = Literal (V.Bool true)
+nots (suc n) = Unary Not (nots n)
+
+abbrev wide_by : ℕ → Contract
+wide_by n = Contract.Transmit binders (nots n) Contract.Success
+
+-- a width of 1000 is taken, and one of 1001 is not
+abbrev at_the_limit : List HistoryEntry
+at_the_limit =
+    by 1 (Request.Register a (wide_by 998)) Response.TooLarge
+    ∷ by 1 (Request.Register a (wide_by 997)) (Response.Registered 1)
+    ∷ []
+
+pub at_the_limit_is_legal : Legal frame at_the_limit
+at_the_limit_is_legal =
+    let h₁ : Legal frame (take 1 at_the_limit) = Legal.More _ Legal.Empty (inr ((1, May.Granted May.Done), inl (omega arith, refl))) in
+    Legal.More _ h₁ (inr ((1, May.Granted May.Done), inr (is_not_too_large (omega arith), refl)))

@@ -1,0 +1,4 @@
+pub mod OneReplies
+pub mod Histories
+pub mod OneFrames
+pub mod Examples

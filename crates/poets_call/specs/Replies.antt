@@ -1,0 +1,166 @@
+-- The reply to a command after a history.
+use Rattle.std.specs.Prelude.{◌≡◌, ℕ, ◌+◌, ◌<◌, ℤ, pos, ◌+ℤ◌, Bool, IsTrue, ◌↔◌, ◌⊎◌, List, [], ◌∷◌, ◌++◌, Option, Some, None, map, fold, length, if◌then◌else◌}
+use Rattle.std.specs.List.{AllZip}
+use Rattle.poets_value.specs.declared.value.Name.{Name}
+use Rattle.poets_value.specs.declared.event.Event.{Event}
+use Rattle.poets_value.specs.declared.value.Ty.{Ty}
+use Rattle.poets_value.specs.declared.value.Ty.TheVariants as T
+use Rattle.poets_value.specs.declared.value.Value.{Value}
+use Rattle.poets_value.specs.declared.value.Value.TheVariants as V
+use Rattle.poets_expr.specs.Expression.{Expression}
+use Rattle.poets_expr.specs.Env.{same_name}
+use Rattle.poets_expr.specs.Val.{val, whole}
+use Rattle.poets_syntax.specs.Contract.{Contract}
+use Rattle.poets_syntax.specs.Perf.{Perf}
+use Rattle.poets_syntax.specs.May.{May}
+use Rattle.poets_syntax.specs.Marks.{Hopeful}
+use Rattle.poets_syntax.specs.Normal.{normal}
+use Rattle.poets_syntax.specs.Width.{width}
+use Rattle.poets_syntax.specs.Residual.{residual_after}
+use Rattle.poets_report.specs.Query.{Query}
+use Rattle.poets_report.specs.Answers.{Finding, IsAnswer}
+use Rattle.poets_call.specs.Calls.{Request, Response, HistoryEntry, Call, calls_of}
+use Rattle.poets_call.specs.Ledger.{Ledger, ledger_of, contract_named, number_of, trace, events, is_ended, late_day, first_absent, watch_at}
+use Rattle.poets_call.specs.Frame.{Frame}
+
+-- the first where the condition holds, else the second
+abbrev pub When : Type 0 → Type 0 → Type 0 → Type 0
+When Condition First Second = (Condition × First) ⊎ ((Condition → ⊥) × Second)
+
+-- the first where the condition does not hold, else the second
+abbrev pub Unless : Type 0 → Type 0 → Type 0 → Type 0
+Unless Condition First Second = ((Condition → ⊥) × First) ⊎ (Condition × Second)
+
+-- the greatest width of a contract that is kept
+abbrev pub widest : ℕ
+widest = 1000
+
+abbrev pub IsTooLarge : Frame → Contract → Type 0
+IsTooLarge f c = widest < width f.book f.marks c
+
+-- some number of granted steps after the trace performs it
+abbrev pub CanGoOn : Frame → Contract → List Event → Type 0
+CanGoOn f o s = (n : ℕ) × May f.book [] o s n
+
+-- the truth value tells whether the trace performs the contract
+abbrev pub TellsWhetherPerformed : Frame → Bool → Contract → List Event → Type 0
+TellsWhetherPerformed f b o s = IsTrue b ↔ Perf f.book [] o s
+
+-- the report with a name
+abbrev pub report_in : List Query → Name → Option Query
+report_in [] x = None
+report_in (q ∷ reports) x = if same_name q.name x then Some q else report_in reports x
+
+-- the values of a report's arguments, or undefined
+abbrev pub argument_values : Frame → List Expression → List (Option Value)
+argument_values f args = map (val f.book.declared []) args
+
+-- what a report answers over events
+abbrev pub IsFinding : Frame → Query → List Expression → List Event → Finding → Type 0
+IsFinding f q args s a = IsAnswer f.book.declared q (argument_values f args) s a
+
+-- one row more in the exact sum, which is none where a row is undefined or no whole number
+abbrev pub added : Option ℤ → Finding → Option ℤ
+added (Some z) (Finding.Single (Some (V.Int n))) = Some (z +ℤ n)
+added _ _ = None
+
+-- a sum outside the whole numbers of the language is undefined too
+abbrev pub if_whole : Option ℤ → Option Value
+if_whole None = None
+if_whole (Some z) = whole z
+
+abbrev pub total_by : Ty → Option Expression → List (Name × Finding) → Option (Option Value)
+total_by T.Int None rows = Some (if_whole (fold (λ z row. added z row.1) (Some (pos 0)) rows))
+total_by _ _ rows = None
+
+-- the total of a portfolio's rows: there is one exactly for a report of type Int without a key
+abbrev pub total_of : Query → List (Name × Finding) → Option (Option Value)
+total_of q rows = total_by q.ty q.key rows
+
+-- a row for each listed name, in order: the report's answer over the contract's events
+abbrev pub AreFolioRows : Frame → Ledger → Query → List Expression → List Name → List (Name × Finding) → Type 0
+AreFolioRows f ledger q args over rows =
+    AllZip (λ x row. (row.0 ≡ x) × IsFinding f q args (trace ledger (number_of ledger x)) row.1) over rows
+
+-- The replies to each command: of the rows the first that applies.
+-- `named` is the number and the original of the contract with the command's name, if there is one.
+
+abbrev pub Registers : Frame → Ledger → Contract → (named : Option (ℕ × Contract)) → Response → Type 0
+Registers f ledger c (Some named) r = r ≡ Response.NameTaken named.0
+Registers f ledger c None r =
+    Unless (Hopeful f.book c) (r ≡ Response.Hopeless) (
+    When (IsTooLarge f (normal f.book f.marks c)) (r ≡ Response.TooLarge)
+    (r ≡ Response.Registered (length ledger.contracts + 1)))
+
+-- to the event e after the trace s of the original o; `later` is the last day of s, if e's day is before it
+abbrev pub Records : Frame → Contract → List Event → Event → (later : Option ℤ) → Response → Type 0
+Records f o s e (Some later) r = r ≡ Response.Late later
+Records f o s e None r =
+    Unless (CanGoOn f o (s ++ e ∷ [])) (r ≡ Response.Unmatched) (
+    When (IsTooLarge f (residual_after f.book f.marks o (s ++ e ∷ []))) (r ≡ Response.TooLarge)
+    ((b : Bool) × TellsWhetherPerformed f b o (s ++ e ∷ []) × (r ≡ Response.Recorded (length s + 1) b)))
+
+abbrev pub Transmits : Frame → Ledger → Name → Event → (named : Option (ℕ × Contract)) → Response → Type 0
+Transmits f ledger x e None r = r ≡ Response.NoContract x
+Transmits f ledger x e (Some named) r =
+    let s = trace ledger named.0 in
+    When (IsTrue (is_ended ledger named.0)) (r ≡ Response.Ended)
+    (Records f named.1 s e (late_day s e.day) r)
+
+abbrev pub Ends : Frame → Ledger → Name → (named : Option (ℕ × Contract)) → Response → Type 0
+Ends f ledger x None r = r ≡ Response.NoContract x
+Ends f ledger x (Some named) r =
+    let s = trace ledger named.0 in
+    When (IsTrue (is_ended ledger named.0)) (r ≡ Response.AlreadyEnded) (
+    Unless (Perf f.book [] named.1 s) (r ≡ Response.NotPerformed)
+    (r ≡ Response.EndedNow))
+
+abbrev pub Shows : Frame → Ledger → Name → (named : Option (ℕ × Contract)) → Response → Type 0
+Shows f ledger x None r = r ≡ Response.NoContract x
+Shows f ledger x (Some named) r =
+    let s = trace ledger named.0 in
+    (b : Bool) × TellsWhetherPerformed f b named.1 s
+    × (r ≡ Response.Shown (residual_after f.book f.marks named.1 s) (length s) b (is_ended ledger named.0))
+
+-- to a tally of the report with a name over events
+abbrev pub Tallies : Frame → Name → List Expression → List Event → Response → Type 0
+Tallies f x args s r =
+    (q : Query) × (report_in f.reports x ≡ Some q) × ((a : Finding) × IsFinding f q args s a × (r ≡ Response.Answered a))
+
+-- `absent` is the first listed name that no contract has, if there is one
+abbrev pub GivesFolio : Frame → Ledger → Name → List Expression → List Name → (absent : Option Name) → Response → Type 0
+GivesFolio f ledger x args over (Some absent) r = r ≡ Response.NoContract absent
+GivesFolio f ledger x args over None r =
+    (q : Query) × (report_in f.reports x ≡ Some q)
+    × ((rows : List (Name × Finding)) × AreFolioRows f ledger q args over rows × (r ≡ Response.Folio rows (total_of q rows)))
+
+abbrev pub Watches : Ledger → Response → Type 0
+Watches ledger r = r ≡ Response.Watching (length ledger.watches + 1)
+
+-- `watch` is the report's name and the arguments of the watch with the number, if there is one
+abbrev pub Reads : Frame → Ledger → ℕ → (watch : Option (Name × List Expression)) → Response → Type 0
+Reads f ledger n None r = r ≡ Response.NoWatch n
+Reads f ledger n (Some watch) r = Tallies f watch.0 watch.1 (events ledger) r
+
+-- the reply to a command after the history of a ledger
+abbrev pub Replies : Frame → Ledger → Request → Response → Type 0
+Replies f ledger (Request.Register x c) r = Registers f ledger c (contract_named ledger x) r
+Replies f ledger (Request.Transmit x e) r = Transmits f ledger x e (contract_named ledger x) r
+Replies f ledger (Request.End x) r = Ends f ledger x (contract_named ledger x) r
+Replies f ledger (Request.Show x) r = Shows f ledger x (contract_named ledger x) r
+Replies f ledger (Request.Tally x args) r = Tallies f x args (events ledger) r
+Replies f ledger (Request.Portfolio x args over) r = GivesFolio f ledger x args over (first_absent ledger over) r
+Replies f ledger (Request.Watch x args) r = Watches ledger r
+Replies f ledger (Request.Read n) r = Reads f ledger n (watch_at ledger n) r
+
+-- each entry has the reply after the entries before it
+pub data Legal (f : Frame) : List HistoryEntry → Type 0 where
+  Empty : Legal f []
+  More : {h : List HistoryEntry} (e : HistoryEntry) → Legal f h → Replies f (ledger_of h) e.request e.response → Legal f (h ++ e ∷ [])
+
+-- after those calls this is the reply to the command: it is the one after the legal history of these calls
+pub record Answers (f : Frame) (calls : List Call) (request : Request) (response : Response) : Type 0 where
+  pub history : List HistoryEntry
+  pub legal : Legal f history
+  pub same : calls_of history ≡ calls
+  pub reply : Replies f (ledger_of history) request response

@@ -1,0 +1,92 @@
+//! Commands, replies, and the entries of a history.
+
+use poets_expr::Expr;
+use poets_report::Answer;
+use poets_syntax::Term;
+use poets_value::{Day, Event, List, Name, Value};
+use std::sync::Arc;
+
+/// What a clerk asks for. Contracts and reports are told by their names.
+#[derive(Drop)]
+pub enum Command {
+    Register {
+        name: Name,
+        term: Term,
+    },
+    Transmit {
+        name: Name,
+        event: Event,
+    },
+    End {
+        name: Name,
+    },
+    Show {
+        name: Name,
+    },
+    Tally {
+        report: Name,
+        args: List<Expr>,
+    },
+    Portfolio {
+        report: Name,
+        args: List<Expr>,
+        over: List<Name>,
+    },
+    Watch {
+        report: Name,
+        args: List<Expr>,
+    },
+    /// Asks for the watch with that number, from 1.
+    Read {
+        number: u64,
+    },
+}
+
+/// What a command is answered. Contracts and watches are numbered from 1.
+#[derive(Drop)]
+pub enum Reply {
+    Registered(u64),
+    /// The contract with that number has the name.
+    NameTaken(u64),
+    Hopeless,
+    TooLarge,
+    /// The event is recorded as the contract's event of that number.
+    Recorded {
+        count: u64,
+        may_end: bool,
+    },
+    NoContract(Name),
+    Ended,
+    /// An event of that later day is recorded.
+    Late(Day),
+    Unmatched,
+    EndedNow,
+    AlreadyEnded,
+    NotPerformed,
+    Shown {
+        residual: Term,
+        count: u64,
+        may_end: bool,
+        ended: bool,
+    },
+    Answered(Answer),
+    Folio(Folio),
+    Watching(u64),
+    NoWatch(u64),
+}
+
+/// A report over the events of each of several contracts.
+#[derive(Drop)]
+pub struct Folio {
+    pub rows: List<(Name, Answer)>,
+    /// The sum of the rows, for a report of whole numbers without a key. `Some(None)` is "undefined".
+    pub total: Option<Option<Value>>,
+}
+
+/// A clerk's command with its reply.
+#[derive(Drop)]
+pub struct Entry {
+    pub clerk: u32,
+    pub command: Arc<Command>,
+    pub reply: Reply,
+}

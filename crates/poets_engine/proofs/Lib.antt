@@ -1,0 +1,7 @@
+pub mod Days
+pub mod Named
+pub mod Owed
+pub mod Rows
+pub mod Registering
+pub mod Transmitting
+pub mod Histories

@@ -1,0 +1,6 @@
+-- The counter of evaluations, a `u64`.
+use Rattle.std.specs.Prelude.{ℕ, ◌+◌, ◌-◌, ◌^◌, min}
+
+-- one more; the greatest number stays
+abbrev pub one_more : ℕ → ℕ
+one_more n = min (n + 1) (2 ^ 64 - 1)

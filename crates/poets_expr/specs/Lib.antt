@@ -1,0 +1,11 @@
+pub mod Expression
+pub mod Env
+pub mod Asked
+pub mod Val
+pub mod Subst
+pub mod Same
+pub mod Free
+pub mod Fold
+pub mod Size
+pub mod Whole
+pub mod Laws

@@ -1,0 +1,29 @@
+//! Laws of expressions, each stated by a function that does nothing.
+ghost use Rattle.poets_expr.specs.Laws.{ReplacedKeepsValue, ReplacedKeepsValueAlone, LiteralHasValue, FoldedKeepsValue, FoldedKeepsValueOfExpr, DeclaredLiteralsGiveDeclared, ClosedNamesAreDeclared, ValueIsWhole, LiteralIsWhole, ReplacedIsWhole, FoldedIsWhole};
+
+/// An expression with its names replaced has the value that it has where these names have these values.
+pub fn values_of_replaced()
+    ensures under { ReplacedKeepsValue }
+    ensures alone { ReplacedKeepsValueAlone }
+    ensures literal { LiteralHasValue }
+{}
+
+/// A folded expression has the value that it had, unless it was closed and had an undeclared kind as its value.
+pub fn values_of_folded()
+    ensures expression { FoldedKeepsValue }
+    ensures expr { FoldedKeepsValueOfExpr }
+    ensures literals { DeclaredLiteralsGiveDeclared }
+{}
+
+/// Closed are the expressions of which every free name is declared.
+pub fn closed_expressions()
+    ensures { ClosedNamesAreDeclared }
+{}
+
+/// Of whole expressions under whole values all that this crate makes is whole.
+pub fn whole_results()
+    ensures value { ValueIsWhole }
+    ensures literal { LiteralIsWhole }
+    ensures replaced { ReplacedIsWhole }
+    ensures folded { FoldedIsWhole }
+{}

@@ -1,0 +1,21 @@
+-- What several reads or writes, one after another, do to the bytes that are told.
+use Rattle.std.specs.Prelude.{◌≡◌, ℕ, ◌<◌, ◌≤◌, List, [], Option, None, Some, length, take}
+use Rattle.std.specs.Io.KnownBytes.{Appends, Consumes}
+
+-- the bytes held grew by the front of the piece, and not by all of it
+pub record AppendsPart (old new : Option (List ℕ)) (piece : List ℕ) : Type 0 where
+  pub taken : ℕ
+  pub short : taken < length piece
+  pub bytes : Appends old new (take taken piece)
+
+-- the bytes left lost their front, which has at least and at most so many bytes
+pub record LosesFront (least most : ℕ) (old new : Option (List ℕ)) : Type 0 where
+  pub given : List ℕ
+  pub enough : least ≤ length given
+  pub few : length given ≤ most
+  pub bytes : Consumes old new given
+
+-- these were all the bytes left, and now none is
+abbrev pub GivesAll : Option (List ℕ) → Option (List ℕ) → List ℕ → Type 0
+GivesAll None new bs = Unit {0}
+GivesAll (Some xs) new bs = (xs ≡ bs) × (new ≡ Some [])

@@ -1,0 +1,20 @@
+//! Sources and sinks of bytes that count their faults: in memory, and over std's readers and writers.
+#![tactic(auto)]
+
+mod bytes;
+mod faults;
+mod plan;
+mod std_io;
+mod stream;
+mod sure;
+#[cfg(test)]
+mod tests;
+mod text;
+mod whole;
+
+pub use faults::{Failed, ReadFault};
+pub use std_io::{StdSink, StdSource};
+pub use stream::{Sink, Source};
+pub use sure::{SureSink, SureSource};
+pub use text::{TextSink, TextSource};
+pub use whole::{read_up_to, write_all};

@@ -1,0 +1,140 @@
+//! A source and a sink in memory that fail by plan.
+ghost use Rattle.std.specs.Prelude.{◌≡◌, Some, ◌+◌, ◌<◌, ◌≤◌, ◌↔◌, ◌⊎◌, [], ◌++◌, length, take, drop, min, IfOk, OnOk, OnErr, IsErr};
+ghost use Rattle.std.specs.Io.{ReadsAtMost, WritesAtMost};
+ghost use Rattle.std.specs.Io.KnownBytes.{ReadConsumes, WriteAppends};
+ghost use Rattle.poets_io.specs.Causes.{HasCause};
+ghost use Rattle.poets_io.specs.States.{NextFails, new_plan, after_call, after_fault};
+
+use crate::bytes::Bytes;
+use crate::plan::Plan;
+use crate::{Failed, Sink, Source};
+use poets_value::{List, Memory};
+use std::alloc::Global;
+use std::marker::Model;
+
+/// The bytes that a `TextSink` has room for.
+const ROOM: usize = 16_777_216;
+
+/// A source that gives a text by steps, and fails at the calls named.
+#[derive(Drop)]
+pub struct TextSource {
+    left: Bytes,
+    step: usize,
+    plan: Plan,
+}
+
+impl Model for TextSource {
+    ghost use Rattle.std.specs.Prelude.{◌≤◌};
+    ghost use Rattle.poets_io.specs.States.{TextLeft};
+
+    ghost Value = { TextLeft };
+
+    ghost view = { λ s. record { left = s.left; step = s.step; plan = s.plan } };
+
+    ghost invariant = { λ s. 1 ≤ s.step };
+}
+
+impl TextSource {
+    /// Gives these bytes, at most `step` of them at a read. The calls that fail are counted from 1.
+    /// It takes no memory.
+    pub fn new(_alloc: Global, bytes: List<u8>, step: usize, fails: List<u64>) -> TextSource
+        requires { 1 ≤ step }
+        ensures left { result.left ≡ bytes.items }
+        ensures step { result.step ≡ step }
+        ensures plan { result.plan ≡ new_plan fails.items }
+    {
+        TextSource {
+            left: Bytes::new(bytes),
+            step,
+            plan: Plan::new(fails),
+        }
+    }
+}
+
+impl Source for TextSource {
+    ghost left = { λ s. Some s.left };
+
+    ghost faults = { λ s. s.plan.faults };
+
+    fn read(&mut self, buf: &mut [u8]) -> Result<usize, Failed>
+        ensures bound { ReadsAtMost result buf.new }
+        ensures bytes { ReadConsumes (Some self.old.left) (Some self.new.left) result buf.new }
+        ensures cause { HasCause self.old.plan.faults self.new.plan.faults result }
+        ensures fails { IsErr result ↔ NextFails self.old.plan }
+        ensures count { IfOk result (λ n. n ≡ min self.old.step (min (length buf.old) (length self.old.left))) }
+        ensures given { IfOk result (λ n. buf.new ≡ take n self.old.left ++ drop n buf.old) }
+        ensures ok { IfOk result (λ n. self.new ≡ record self.old { left = drop n self.old.left; plan = after_call self.old.plan }) }
+        ensures err { OnErr result (self.new ≡ record self.old { plan = after_fault self.old.plan }) }
+        ensures untouched { OnErr result (buf.new ≡ buf.old) }
+    {
+        if self.plan.next_fails() {
+            self.plan.count_fault();
+            return Err(Failed);
+        }
+        Ok(self.left.give(buf, self.step))
+    }
+}
+
+/// A sink that holds what it took, takes whole pieces, and fails at the calls named and at a call
+/// that would pass its 16,777,216 bytes.
+#[derive(Drop)]
+pub struct TextSink {
+    held: Vec<u8>,
+    plan: Plan,
+}
+
+impl Model for TextSink {
+    ghost use Rattle.std.specs.Prelude.{◌≤◌, vec_len, vec_capacity};
+    ghost use Rattle.poets_io.specs.States.{TextHeld};
+
+    ghost Value = { TextHeld };
+
+    ghost view = { λ s. record { held = s.held.items; plan = s.plan } };
+
+    ghost invariant = { λ s. (vec_len s.held ≤ 16777216) × (16777216 ≤ vec_capacity s.held) };
+}
+
+impl TextSink {
+    /// Makes room for all that it will hold. The calls that fail are counted from 1.
+    pub fn new(alloc: Global, fails: List<u64>) -> Result<TextSink, Memory>
+        ensures held { IfOk result (λ s. s.held ≡ []) }
+        ensures plan { IfOk result (λ s. s.plan ≡ new_plan fails.items) }
+    {
+        Ok(TextSink {
+            held: Vec::with_capacity(alloc, ROOM)?,
+            plan: Plan::new(fails),
+        })
+    }
+
+    /// What it holds.
+    pub fn bytes(&self) -> &[u8]
+        ensures { result.now ≡ self.now.held }
+    {
+        self.held.as_slice()
+    }
+}
+
+impl Sink for TextSink {
+    ghost held = { λ s. Some s.held };
+
+    ghost faults = { λ s. s.plan.faults };
+
+    fn write(&mut self, piece: &[u8]) -> Result<usize, Failed>
+        ensures bound { WritesAtMost result piece.now }
+        ensures some { 0 < length piece.now → IfOk result (λ n. 0 < n) }
+        ensures bytes { WriteAppends (Some self.old.held) (Some self.new.held) result piece.now }
+        ensures cause { HasCause self.old.plan.faults self.new.plan.faults result }
+        ensures fails { IsErr result ↔ (NextFails self.old.plan ⊎ (16777216 < length self.old.held + length piece.now)) }
+        ensures whole { IfOk result (λ n. n ≡ length piece.now) }
+        ensures ok { OnOk result (self.new ≡ record self.old { held = self.old.held ++ piece.now; plan = after_call self.old.plan }) }
+        ensures err { OnErr result (self.new ≡ record self.old { plan = after_fault self.old.plan }) }
+    {
+        let fails = self.plan.next_fails();
+        let fits = piece.len() <= ROOM - self.held.len();
+        if fails || !fits || self.held.extend_from_slice(piece).is_err() {
+            self.plan.count_fault();
+            return Err(Failed);
+        }
+        Ok(piece.len())
+    }
+}

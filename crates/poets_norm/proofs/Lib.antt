@@ -1,0 +1,11 @@
+pub mod Adjoining
+pub mod Builders
+pub mod Meaning
+pub mod Parts
+pub mod WellFormedness
+pub mod Counts
+pub mod Hope
+pub mod NormalForms
+pub mod NoTemplates
+pub mod Sizes
+pub mod WholeNormals

@@ -1,0 +1,55 @@
+-- What normal forms mean.
+use Rattle.std.specs.Prelude.{◌≡◌, ℕ, List, [], ◌∷◌, length, Some, ◌↔◌}
+use Rattle.poets_value.specs.declared.event.Event.{Event}
+use Rattle.poets_expr.specs.Env.{Declared, Env}
+use Rattle.poets_expr.specs.Fold.{KeepsDeclared}
+use Rattle.poets_syntax.specs.Contract.{Contract, Success, Failure, Transmit, Plus, Par, Seq, App}
+use Rattle.poets_syntax.specs.Book.{Definitions, Definition, template_in}
+use Rattle.poets_syntax.specs.Whole.{IsWholeContract}
+use Rattle.poets_syntax.specs.May.{May}
+use Rattle.poets_syntax.specs.Marks.{Marks, AreRight, Hopeful}
+use Rattle.poets_syntax.specs.Normal.{normal}
+use Rattle.poets_syntax.specs.WellFormed.{IsWellFormed, AreWellFormed}
+use Rattle.poets_syntax.specs.Plain.{plain, no_marks}
+
+-- where a template is applied, it is to as many arguments as it has parameters
+abbrev pub CountsFit : Definitions → Contract → Type 0
+CountsFit book Success = Unit {0}
+CountsFit book Failure = Unit {0}
+CountsFit book (Transmit b p c) = CountsFit book c
+CountsFit book (Plus c₁ c₂) = CountsFit book c₁ × CountsFit book c₂
+CountsFit book (Par c₁ c₂) = CountsFit book c₁ × CountsFit book c₂
+CountsFit book (Seq c₁ c₂) = CountsFit book c₁ × CountsFit book c₂
+CountsFit book (App f args) = (t : Definition) → template_in book.templates f ≡ Some t → length t.params ≡ length args
+
+-- the normal form is performed as the contract is, where declared names stand for themselves
+abbrev pub NormalAlike : Type 0
+NormalAlike = (book : Definitions) (marks : Marks) (env : Env) (c : Contract) (s : List Event) (n : ℕ) →
+    AreRight book marks → KeepsDeclared book.declared env → IsWellFormed book.declared c →
+    May book env (normal book marks c) s n ↔ May book env c s n
+
+-- the normal form is `Failure` exactly where no number of granted steps performs the contract
+abbrev pub NormalHopeless : Type 0
+NormalHopeless = (book : Definitions) (marks : Marks) (c : Contract) →
+    AreRight book marks → IsWellFormed book.declared c → CountsFit book c →
+    (normal book marks c ≡ Failure) ↔ ¬ (Hopeful book c)
+
+-- the normal form of a normal form is itself
+abbrev pub NormalTwice : Type 0
+NormalTwice = (book : Definitions) (marks : Marks) (c : Contract) → normal book marks (normal book marks c) ≡ normal book marks c
+
+-- the normal form is whole, it is well-formed, and the numbers of arguments in it fit
+abbrev pub NormalWhole : Type 0
+NormalWhole = (book : Definitions) (marks : Marks) (c : Contract) → IsWholeContract c → IsWholeContract (normal book marks c)
+
+abbrev pub NormalWellFormed : Type 0
+NormalWellFormed = (book : Definitions) (marks : Marks) (c : Contract) → IsWellFormed book.declared c →
+    IsWellFormed book.declared (normal book marks c)
+
+abbrev pub NormalCountsFit : Type 0
+NormalCountsFit = (book : Definitions) (marks : Marks) (c : Contract) → CountsFit book c → CountsFit book (normal book marks c)
+
+-- in a book without templates the marks that say no are right, and so is each count
+abbrev pub PlainBooks : Type 0
+PlainBooks = (declared : Declared) → AreRight (plain declared) no_marks × AreWellFormed (plain declared)
+    × ((c : Contract) → CountsFit (plain declared) c)

@@ -1,0 +1,85 @@
+-- What residuals mean.
+use Rattle.std.specs.Prelude.{◌≡◌, ℕ, List, [], ◌∷◌, ◌++◌, All, ◌↔◌}
+use Rattle.poets_value.specs.declared.event.Event.{Event}
+use Rattle.poets_value.specs.Whole.{IsWholeEvent, IsWholeTrace}
+use Rattle.poets_syntax.specs.Contract.{Contract, Failure}
+use Rattle.poets_syntax.specs.Book.{Definitions}
+use Rattle.poets_syntax.specs.Whole.{IsWholeContract, AreWholeDefinitions}
+use Rattle.poets_syntax.specs.Perf.{Perf}
+use Rattle.poets_syntax.specs.May.{May}
+use Rattle.poets_syntax.specs.Marks.{Marks, AreRight}
+use Rattle.poets_syntax.specs.Normal.{normal}
+use Rattle.poets_syntax.specs.WellFormed.{IsWellFormed, IsDeclaredEvent, AreWellFormed}
+use Rattle.poets_syntax.specs.Residual.{After, after_at, residual_after}
+use Rattle.poets_norm.specs.Laws.{CountsFit}
+use Rattle.poets_residue.specs.Unfolding.{UnfoldsWithin, IsStudied}
+
+-- the residual is performed by what may follow the event
+abbrev pub ResidualFollows : Type 0
+ResidualFollows = (book : Definitions) (marks : Marks) (e : Event) (c r : Contract) (s : List Event) (n : ℕ) →
+    AreRight book marks → AreWellFormed book → IsDeclaredEvent book.declared e → IsWellFormed book.declared c →
+    After book marks e c r → May book [] r s n ↔ May book [] c (e ∷ s) n
+
+-- there is one residual at most
+abbrev pub ResidualOne : Type 0
+ResidualOne = (book : Definitions) (marks : Marks) (e : Event) (c r r' : Contract) → After book marks e c r → After book marks e c r' → r ≡ r'
+
+-- with enough unfoldings the function gives it
+abbrev pub ResidualIs : Type 0
+ResidualIs = (d : ℕ) (book : Definitions) (marks : Marks) (e : Event) (c r : Contract) →
+    AreRight book marks → UnfoldsWithin d book marks c → After book marks e c r → after_at d book marks e c ≡ r
+
+-- with enough unfoldings the function's contract is performed by what may follow the event
+abbrev pub ResidualAt : Type 0
+ResidualAt = (d : ℕ) (book : Definitions) (marks : Marks) (e : Event) (c : Contract) (s : List Event) (n : ℕ) →
+    AreRight book marks → AreWellFormed book → IsDeclaredEvent book.declared e → IsWellFormed book.declared c →
+    UnfoldsWithin d book marks c → May book [] (after_at d book marks e c) s n ↔ May book [] c (e ∷ s) n
+
+-- the residual is well-formed
+abbrev pub ResidualWellFormed : Type 0
+ResidualWellFormed = (d : ℕ) (book : Definitions) (marks : Marks) (e : Event) (c : Contract) →
+    AreWellFormed book → IsDeclaredEvent book.declared e → IsWellFormed book.declared c → IsWellFormed book.declared (after_at d book marks e c)
+
+-- the residual of a whole contract by a whole event is whole
+abbrev pub ResidualWhole : Type 0
+ResidualWhole = (d : ℕ) (book : Definitions) (marks : Marks) (e : Event) (c : Contract) →
+    AreWholeDefinitions book → IsWholeEvent e → IsWholeContract c → IsWholeContract (after_at d book marks e c)
+
+-- the residual of a normal form is a normal form
+abbrev pub ResidualNormal : Type 0
+ResidualNormal = (d : ℕ) (book : Definitions) (marks : Marks) (e : Event) (c : Contract) →
+    normal book marks c ≡ c → normal book marks (after_at d book marks e c) ≡ after_at d book marks e c
+
+-- after a trace the residual is performed by what may follow the trace
+abbrev pub TraceFollowed : Type 0
+TraceFollowed = (book : Definitions) (marks : Marks) (o : Contract) (s s' : List Event) (n : ℕ) →
+    IsStudied book marks → IsWellFormed book.declared o → CountsFit book o → All (IsDeclaredEvent book.declared) s →
+    May book [] (residual_after book marks o s) s' n ↔ May book [] o (s ++ s') n
+
+-- so it is with what performs it outright
+abbrev pub TracePerformed : Type 0
+TracePerformed = (book : Definitions) (marks : Marks) (o : Contract) (s s' : List Event) →
+    IsStudied book marks → IsWellFormed book.declared o → CountsFit book o → All (IsDeclaredEvent book.declared) s →
+    Perf book [] (residual_after book marks o s) s' ↔ Perf book [] o (s ++ s')
+
+-- after a trace the residual is `Failure` exactly where no number of granted steps finishes
+abbrev pub TraceHopeless : Type 0
+TraceHopeless = (book : Definitions) (marks : Marks) (o : Contract) (s : List Event) →
+    IsStudied book marks → IsWellFormed book.declared o → CountsFit book o → All (IsDeclaredEvent book.declared) s →
+    (residual_after book marks o s ≡ Failure) ↔ ¬ ((n : ℕ) × May book [] o s n)
+
+-- after a trace the residual is well-formed, and the numbers of arguments in it fit
+abbrev pub TraceWellFormed : Type 0
+TraceWellFormed = (book : Definitions) (marks : Marks) (o : Contract) (s : List Event) →
+    IsStudied book marks → IsWellFormed book.declared o → CountsFit book o → All (IsDeclaredEvent book.declared) s →
+    IsWellFormed book.declared (residual_after book marks o s) × CountsFit book (residual_after book marks o s)
+
+-- after a trace the residual is a normal form
+abbrev pub TraceNormal : Type 0
+TraceNormal = (book : Definitions) (marks : Marks) (o : Contract) (s : List Event) →
+    normal book marks (residual_after book marks o s) ≡ residual_after book marks o s
+
+-- the residual after a trace of whole events is whole
+abbrev pub TraceWhole : Type 0
+TraceWhole = (book : Definitions) (marks : Marks) (o : Contract) (s : List Event) →
+    AreWholeDefinitions book → IsWholeContract o → IsWholeTrace s → IsWholeContract (residual_after book marks o s)

@@ -1,0 +1,73 @@
+//! The laws of residuals, each carried by a function that does nothing.
+ghost use Rattle.poets_residue.specs.Laws.{ResidualFollows, ResidualOne, ResidualIs, ResidualAt, ResidualWellFormed, ResidualNormal, ResidualWhole, TraceFollowed, TracePerformed, TraceHopeless, TraceWellFormed, TraceNormal, TraceWhole};
+ghost use Rattle.poets_residue.specs.PlainLaws.{PlainStudied, PlainResidual, PlainTraceFollowed, PlainTracePerformed, PlainTraceHopeless};
+
+/// The residual is performed by what may follow the event.
+pub fn residual_follows()
+    ensures { ResidualFollows }
+{}
+
+/// There is one residual at most.
+pub fn residual_one()
+    ensures { ResidualOne }
+{}
+
+/// With enough unfoldings the function gives the residual.
+pub fn residual_is()
+    ensures { ResidualIs }
+{}
+
+/// With enough unfoldings the function's contract is performed by what may follow the event.
+pub fn residual_at()
+    ensures { ResidualAt }
+{}
+
+/// The residual of a well-formed contract is well-formed.
+pub fn residual_well_formed()
+    ensures { ResidualWellFormed }
+{}
+
+/// The residual of a normal form is a normal form.
+pub fn residual_normal()
+    ensures { ResidualNormal }
+{}
+
+/// The residual of a whole contract by a whole event is whole.
+pub fn residual_whole()
+    ensures { ResidualWhole }
+{}
+
+/// After a trace the residual is performed by what may follow the trace.
+pub fn trace_followed()
+    ensures may { TraceFollowed }
+    ensures performed { TracePerformed }
+{}
+
+/// After a trace the residual is `Failure` exactly where nothing can finish.
+pub fn trace_hopeless()
+    ensures { TraceHopeless }
+{}
+
+/// After a trace the residual is a well-formed normal form.
+pub fn trace_well_formed()
+    ensures formed { TraceWellFormed }
+    ensures normal { TraceNormal }
+    ensures whole { TraceWhole }
+{}
+
+/// A book without templates meets the premises of these laws.
+pub fn plain_studied()
+    ensures { PlainStudied }
+{}
+
+/// The law of residuals in a book without templates.
+pub fn plain_residual()
+    ensures { PlainResidual }
+{}
+
+/// The laws of traces in a book without templates.
+pub fn plain_traces()
+    ensures may { PlainTraceFollowed }
+    ensures performed { PlainTracePerformed }
+    ensures hopeless { PlainTraceHopeless }
+{}

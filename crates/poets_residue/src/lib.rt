@@ -1,0 +1,11 @@
+//! Residuals of contracts by events.
+#![tactic(auto)]
+
+mod endings;
+pub mod laws;
+mod residuals;
+#[cfg(test)]
+mod tests;
+
+pub use endings::may_end;
+pub use residuals::residual;

@@ -1,0 +1,162 @@
+//! Residuals.
+ghost use Rattle.std.specs.Prelude.{◌≡◌, ◌+◌, ◌≤◌, IfOk, reverse, []};
+ghost use Rattle.poets_expr.specs.Env.{declared_of};
+ghost use Rattle.poets_expr.specs.Expression.{expression_of};
+ghost use Rattle.poets_expr.specs.Val.{val};
+ghost use Rattle.poets_syntax.specs.Book.{taken};
+ghost use Rattle.poets_syntax.specs.Contract.{contract_of};
+ghost use Rattle.poets_syntax.specs.Normal.{plus as plus_lem, par as par_lem, seq as seq_lem, normal as normal_lem};
+ghost use Rattle.poets_syntax.specs.Plain.{plain, no_marks};
+ghost use Rattle.poets_syntax.specs.Replace.{replace};
+ghost use Rattle.poets_syntax.specs.Residual.{event_givens as event_givens_lem, after, is_true};
+ghost use Rattle.poets_syntax.specs.Width.{width};
+
+use crate::endings::nullable;
+use poets_expr::{Asks, Decls, Env, Expr, Given, eval};
+use poets_norm::{normal, par, plus, seq};
+use poets_syntax::{Binders, Term, copy, subst};
+use poets_value::{Event, Memory, Name, Ty, Value};
+use std::alloc::Global;
+
+// What the binders stand for once the event is taken, the newest last.
+fn event_givens(binders: &Binders, event: &Event) -> [(Name, Given); 4]
+    ensures { reverse result ≡ event_givens_lem binders.now event.now }
+{
+    let sender = Given {
+        value: Some(Value::Agent(event.sender)),
+        ty: Ty::Agent,
+    };
+    let receiver = Given {
+        value: Some(Value::Agent(event.receiver)),
+        ty: Ty::Agent,
+    };
+    let what = Given {
+        value: Some(Value::Resource(event.what)),
+        ty: Ty::Resource,
+    };
+    let day = Given {
+        value: Some(Value::Day(event.day)),
+        ty: Ty::Day,
+    };
+    [
+        (binders.sender, sender),
+        (binders.receiver, receiver),
+        (binders.what, what),
+        (binders.day, day),
+    ]
+}
+
+// Whether the predicate holds of the event.
+fn holds<L>(
+    decls: &Decls,
+    binders: &Binders,
+    when: &Expr,
+    event: &Event,
+    asks: &mut Asks<L>,
+) -> bool
+    ensures value { result ≡ is_true (val (declared_of decls.now.names) (taken binders.now event.now []) (expression_of when.now)) }
+    ensures rises { asks.old ≤ asks.new }
+    ensures asks { asks.new ≤ asks.old + 1 }
+{
+    let pairs = [
+        (binders.sender, Some(Value::Agent(event.sender))),
+        (binders.receiver, Some(Value::Agent(event.receiver))),
+        (binders.what, Some(Value::Resource(event.what))),
+        (binders.day, Some(Value::Day(event.day))),
+    ];
+    let env = Env {
+        decls,
+        pairs: &pairs,
+    };
+    // The count that was handed in is at most the greatest `u64`.
+    let _count = asks.count();
+    match eval(&env, when, asks) {
+        Some(Value::Bool(answer)) => answer,
+        _ => false,
+    }
+}
+
+// The event went to the first part, or to the second.
+fn either_side(
+    alloc: Global,
+    a: &Term,
+    b: &Term,
+    after_a: Term,
+    after_b: Term,
+) -> Result<Term, Memory>
+    ensures { IfOk result (λ r. contract_of r ≡ plus_lem (par_lem (contract_of after_a) (contract_of b.now)) (par_lem (contract_of a.now) (contract_of after_b))) }
+{
+    let first = par(alloc, after_a, copy(alloc, b)?)?;
+    let second = par(alloc, copy(alloc, a)?, after_b)?;
+    plus(alloc, first, second)
+}
+
+// The event went to the first part, and the second is to come.
+fn in_first(alloc: Global, after_a: Term, b: &Term) -> Result<Term, Memory>
+    ensures { IfOk result (λ r. contract_of r ≡ seq_lem (contract_of after_a) (contract_of b.now)) }
+{
+    seq(alloc, after_a, copy(alloc, b)?)
+}
+
+// What a transmission that took the event leads to.
+fn taken_on(
+    alloc: Global,
+    decls: &Decls,
+    binders: &Binders,
+    then: &Term,
+    event: &Event,
+) -> Result<Term, Memory>
+    ensures { IfOk result (λ r. contract_of r ≡ normal_lem (plain (declared_of decls.now.names)) no_marks (replace (event_givens_lem binders.now event.now) (contract_of then.now))) }
+{
+    let replaced = subst(alloc, then, &event_givens(binders, event))?;
+    normal(alloc, decls, &replaced)
+}
+
+/// The residual of a contract by an event, in a book without templates, where nothing performs an application.
+/// It asks each predicate that could take the event at most once.
+pub fn residual<L>(
+    alloc: Global,
+    decls: &Decls,
+    term: &Term,
+    event: &Event,
+    asks: &mut Asks<L>,
+) -> Result<Term, Memory>
+    ensures residual { IfOk result (λ r. contract_of r ≡ after (plain (declared_of decls.now.names)) no_marks event.now (contract_of term.now)) }
+    ensures rises { asks.old ≤ asks.new }
+    ensures asks { asks.new ≤ asks.old + width (plain (declared_of decls.now.names)) no_marks (contract_of term.now) }
+{
+    match term {
+        Term::Success => Ok(Term::Failure),
+        Term::Failure => Ok(Term::Failure),
+        Term::Transmit {
+            binders,
+            when,
+            then,
+        } => {
+            if !holds(decls, binders, when, event, asks) {
+                return Ok(Term::Failure);
+            }
+            taken_on(alloc, decls, binders, then, event)
+        }
+        Term::Plus(a, b) => {
+            let a = residual(alloc, decls, a, event, asks)?;
+            let b = residual(alloc, decls, b, event, asks)?;
+            plus(alloc, a, b)
+        }
+        Term::Par(a, b) => {
+            let after_a = residual(alloc, decls, a, event, asks)?;
+            let after_b = residual(alloc, decls, b, event, asks)?;
+            either_side(alloc, a, b, after_a, after_b)
+        }
+        Term::Seq(a, b) => {
+            let after_a = residual(alloc, decls, a, event, asks)?;
+            let first = in_first(alloc, after_a, b)?;
+            if !nullable(a) {
+                return Ok(first);
+            }
+            let after_b = residual(alloc, decls, b, event, asks)?;
+            plus(alloc, first, after_b)
+        }
+        Term::App { .. } => Ok(Term::Failure),
+    }
+}

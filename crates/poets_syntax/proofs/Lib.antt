@@ -1,0 +1,12 @@
+pub mod Lists
+pub mod Granting
+pub mod Alike
+pub mod Replacing
+pub mod SameContracts
+pub mod Givens
+pub mod WellFormedness
+pub mod Shapes
+pub mod Nullability
+pub mod Copying
+pub mod Inversions
+pub mod WholeContracts

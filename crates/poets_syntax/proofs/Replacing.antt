@@ -1,0 +1,148 @@
+-- A contract whose names were replaced says what it says under their values.
+use Rattle.std.proofs.Common.{◌≡◌, suc, Bool, true, false, ◌||◌, List, [], ◌∷◌, ◌++◌, length, map, refl, sym, ◌∙◌, ap, ap₂, Option, Some, None, ◌⊎◌, inl, inr, if◌then◌else◌}
+use Rattle.poets_value.specs.declared.value.Name.{Name}
+use Rattle.poets_value.specs.declared.value.Value.TheVariants as V
+use Rattle.poets_value.specs.declared.value.Ty.{Ty}
+use Rattle.poets_value.specs.declared.value.Value.{Value}
+use Rattle.poets_expr.specs.Expression.{Expression}
+use Rattle.poets_expr.specs.Env.{Declared, Env, same_name, value_in}
+use Rattle.poets_expr.specs.Val.{val}
+use Rattle.poets_expr.specs.Subst.{Givens, subst, replaced, literal_of, IsDeclared}
+use Rattle.poets_expr.proofs.ValSubst.{Agrees, val-subst}
+pub use Rattle.poets_expr.proofs.ValSubst.{Agrees-pairs, truth_of as truth}
+use Rattle.poets_expr.proofs.SameTrees.{name_one}
+use Rattle.poets_syntax.specs.declared.term.Binders.{Binders}
+use Rattle.poets_syntax.specs.Contract.{Contract}
+use Rattle.poets_syntax.specs.Book.{BinderValues, bound}
+use Rattle.poets_syntax.specs.Replace.{binds, without, replace, AreUndeclared, BindersAreUndeclared, AreDeclared, env_of}
+use Rattle.poets_expr.specs.Fold.{KeepsDeclared}
+use Rattle.poets_syntax.proofs.Alike.{Alike}
+
+-- one of four tests, or what comes after
+first_of_four : {A : Type 0} → Bool → Bool → Bool → Bool → A → A → A → A → A → A
+first_of_four p q r s a b c d z = if p then a else (if q then b else (if r then c else (if s then d else z)))
+
+none_of_four : {A : Type 0} (p q r s : Bool) (a b c d z : A) → (p || q || r || s) ≡ false → first_of_four p q r s a b c d z ≡ z
+unfolding first_of_four
+none_of_four false false false false a b c d z h = refl
+none_of_four true _ _ _ a b c d z h = absurd cc
+none_of_four false true _ _ a b c d z h = absurd cc
+none_of_four false false true _ a b c d z h = absurd cc
+none_of_four false false false true a b c d z h = absurd cc
+
+one_of_four : {A : Type 0} (p q r s : Bool) (a b c d y z : A) → (p || q || r || s) ≡ true →
+    first_of_four p q r s a b c d y ≡ first_of_four p q r s a b c d z
+unfolding first_of_four
+one_of_four true _ _ _ a b c d y z h = refl
+one_of_four false true _ _ a b c d y z h = refl
+one_of_four false false true _ a b c d y z h = refl
+one_of_four false false false true a b c d y z h = refl
+one_of_four false false false false a b c d y z h = absurd cc
+
+-- a name that is not bound has its value from outside
+pub bound-free : (declared : Declared) (b : Binders) (v : BinderValues) (env : Env) (x : Name) → binds b x ≡ false →
+    value_in declared (bound b v env) x ≡ value_in declared env x
+unfolding first_of_four
+bound-free declared b v env x h =
+    none_of_four (same_name b.day x) (same_name b.what x) (same_name b.receiver x) (same_name b.sender x) v.day v.what v.receiver v.sender _ h
+
+-- a bound name has the same value whatever stands outside
+pub bound-same : (declared : Declared) (b : Binders) (v : BinderValues) (env env' : Env) (x : Name) → binds b x ≡ true →
+    value_in declared (bound b v env) x ≡ value_in declared (bound b v env') x
+unfolding first_of_four
+bound-same declared b v env env' x h =
+    one_of_four (same_name b.day x) (same_name b.what x) (same_name b.receiver x) (same_name b.sender x) v.day v.what v.receiver v.sender _ _ h
+
+-- a name that is declared is not bound
+pub declared_free : (declared : Declared) (b : Binders) (x : Name) → AreUndeclared declared b → ((declared x ≡ None) → ⊥) → binds b x ≡ false
+declared_free declared b x f h = go (same_name b.day x) (same_name b.what x) (same_name b.receiver x) (same_name b.sender x)
+    (λ e. h (ap declared (sym (name_one b.day x e)) ∙ f.day)) (λ e. h (ap declared (sym (name_one b.what x e)) ∙ f.what))
+    (λ e. h (ap declared (sym (name_one b.receiver x e)) ∙ f.receiver)) (λ e. h (ap declared (sym (name_one b.sender x e)) ∙ f.sender))
+  where
+    go : (p q r s : Bool) → (p ≡ true → ⊥) → (q ≡ true → ⊥) → (r ≡ true → ⊥) → (s ≡ true → ⊥) → (p || q || r || s) ≡ false
+    go false false false false i j k l = refl
+    go true _ _ _ i j k l = absurd (i refl)
+    go false true _ _ i j k l = absurd (j refl)
+    go false false true _ i j k l = absurd (k refl)
+    go false false false true i j k l = absurd (l refl)
+
+-- the literal of a value that stands has that value also below binders
+literal-bound : (declared : Declared) (b : Binders) (v : BinderValues) (env : Env) → AreUndeclared declared b → (o : Option Value) (t : Ty) → IsDeclared declared o →
+    val declared (bound b v env) (literal_of o t) ≡ val declared env (literal_of o t)
+literal-bound declared b v env f None t h = refl
+literal-bound declared b v env f (Some (V.Int n)) t h = refl
+literal-bound declared b v env f (Some (V.Bool n)) t h = refl
+literal-bound declared b v env f (Some (V.Agent x)) t h = bound-free declared b v env x (declared_free declared b x f (λ e. cc))
+literal-bound declared b v env f (Some (V.Kind x)) t h = bound-free declared b v env x (declared_free declared b x f (λ e. cc))
+literal-bound declared b v env f (Some (V.Resource r)) t h = refl
+literal-bound declared b v env f (Some (V.Day d)) t h = refl
+
+-- below binders a name is replaced as outside, unless it is bound
+pub replaced-free : (b : Binders) (given : Givens) (x : Name) → binds b x ≡ false → replaced (without b given) x ≡ replaced given x
+replaced-free b [] x h = refl
+replaced-free b (p ∷ given) x h =
+    let rest = replaced-free b given x h in
+    elim (truth (same_name p.0 x)) [
+      | inl e ↦ (let k : binds b p.0 ≡ false = ap (binds b) (name_one p.0 x e) ∙ h in rw (k, e) refl)
+      | inr e ↦ elim (truth (binds b p.0)) [ inl k ↦ rw (k, e) rest | inr k ↦ rw (k, e) rest ]
+    ]
+
+pub replaced-bound : (b : Binders) (given : Givens) (x : Name) → binds b x ≡ true → replaced (without b given) x ≡ Expression.Named x
+replaced-bound b [] x h = refl
+replaced-bound b (p ∷ given) x h =
+    let rest = replaced-bound b given x h in
+    elim (truth (same_name p.0 x)) [
+      | inl e ↦ (let k : binds b p.0 ≡ true = ap (binds b) (name_one p.0 x e) ∙ h in rw k rest)
+      | inr e ↦ elim (truth (binds b p.0)) [ inl k ↦ rw k rest | inr k ↦ rw (k, e) rest ]
+    ]
+
+-- what a name is replaced by has its value also below binders
+replaced-value : (declared : Declared) (b : Binders) (v : BinderValues) (env : Env) → AreUndeclared declared b → (given : Givens) → AreDeclared declared given →
+    (x : Name) → binds b x ≡ false → val declared (bound b v env) (replaced given x) ≡ val declared env (replaced given x)
+replaced-value declared b v env f [] h x k = bound-free declared b v env x k
+replaced-value declared b v env f (p ∷ given) h x k =
+    let rest = replaced-value declared b v env f given h.1 x k in
+    let here = literal-bound declared b v env f p.1.value p.1.ty h.0 in
+    elim (truth (same_name p.0 x)) [ inl e ↦ rw e here | inr e ↦ rw e rest ]
+
+-- names keep their values below binders
+Agrees-bound : (declared : Declared) (b : Binders) (v : BinderValues) (env : Env) (given : Givens) (env' : Env) → AreUndeclared declared b → AreDeclared declared given →
+    Agrees declared env given env' → Agrees declared (bound b v env) (without b given) (bound b v env')
+Agrees-bound declared b v env given env' f h agrees x = elim (truth (binds b x)) [
+  | inl k ↦ rw (replaced-bound b given x k) (bound-same declared b v env env' x k)
+  | inr k ↦ rw (replaced-free b given x k) (replaced-value declared b v env f given h x k ∙ agrees x ∙ sym (bound-free declared b v env' x k))
+]
+
+AreDeclared-without : (declared : Declared) (b : Binders) (given : Givens) → AreDeclared declared given → AreDeclared declared (without b given)
+AreDeclared-without declared b [] h = tt
+AreDeclared-without declared b (p ∷ given) h =
+    let rest = AreDeclared-without declared b given h.1 in
+    elim (truth (binds b p.0)) [ inl k ↦ rw k rest | inr k ↦ rw k (h.0, rest) ]
+
+args-alike : (declared : Declared) (env : Env) (given : Givens) (env' : Env) → Agrees declared env given env' →
+    (args : List Expression) → map (val declared env) (map (subst given) args) ≡ map (val declared env') args
+args-alike declared env given env' h [] = refl
+args-alike declared env given env' h (a ∷ args) =
+    ap₂ (λ x xs. x ∷ xs) (val-subst declared env given env' h a) (args-alike declared env given env' h args)
+
+pub args_count : (given : Givens) (args : List Expression) → length (map (subst given) args) ≡ length args
+args_count given [] = refl
+args_count given (a ∷ args) = ap suc (args_count given args)
+
+-- where names agree, the replaced contract says what the contract says
+pub Alike-replace : (declared : Declared) (c : Contract) (env : Env) (given : Givens) (env' : Env) → BindersAreUndeclared declared c → AreDeclared declared given →
+    Agrees declared env given env' → Alike declared env (replace given c) env' c
+Alike-replace declared Contract.Success env given env' f h agrees = Alike.Success
+Alike-replace declared Contract.Failure env given env' f h agrees = Alike.Failure
+Alike-replace declared (Contract.Transmit b p c) env given env' f h agrees = Alike.Transmit
+    (λ v. val-subst declared (bound b v env) (without b given) (bound b v env') (Agrees-bound declared b v env given env' f.0 h agrees) p)
+    (λ v. Alike-replace declared c (bound b v env) (without b given) (bound b v env') f.1 (AreDeclared-without declared b given h)
+    (Agrees-bound declared b v env given env' f.0 h agrees))
+Alike-replace declared (Contract.Plus c d) env given env' f h agrees =
+    Alike.Plus (Alike-replace declared c env given env' f.0 h agrees) (Alike-replace declared d env given env' f.1 h agrees)
+Alike-replace declared (Contract.Par c d) env given env' f h agrees =
+    Alike.Par (Alike-replace declared c env given env' f.0 h agrees) (Alike-replace declared d env given env' f.1 h agrees)
+Alike-replace declared (Contract.Seq c d) env given env' f h agrees =
+    Alike.Seq (Alike-replace declared c env given env' f.0 h agrees) (Alike-replace declared d env given env' f.1 h agrees)
+Alike-replace declared (Contract.App g args) env given env' f h agrees =
+    Alike.App (args_count given args) (args-alike declared env given env' agrees args)

@@ -1,0 +1,23 @@
+-- Applications of templates with as many arguments as they have parameters.
+use Rattle.std.specs.Prelude.{◌≡◌, ℕ, length, Some}
+use Rattle.poets_value.specs.declared.value.Name.{Name}
+use Rattle.poets_syntax.specs.Contract.{Contract, Success, Failure, Transmit, Plus, Par, Seq, App}
+use Rattle.poets_syntax.specs.Book.{Definitions, Definition, template_in}
+
+-- there is a template of that name with so many parameters
+abbrev pub Takes : Definitions → Name → ℕ → Type 0
+Takes book f n = (t : Definition) × (template_in book.templates f ≡ Some t) × (length t.params ≡ n)
+
+-- each application in the contract is of a template with as many parameters
+abbrev pub ApplicationsFit : Definitions → Contract → Type 0
+ApplicationsFit book Success = Unit {0}
+ApplicationsFit book Failure = Unit {0}
+ApplicationsFit book (Transmit b p c) = ApplicationsFit book c
+ApplicationsFit book (Plus c₁ c₂) = ApplicationsFit book c₁ × ApplicationsFit book c₂
+ApplicationsFit book (Par c₁ c₂) = ApplicationsFit book c₁ × ApplicationsFit book c₂
+ApplicationsFit book (Seq c₁ c₂) = ApplicationsFit book c₁ × ApplicationsFit book c₂
+ApplicationsFit book (App f args) = Takes book f (length args)
+
+-- so it is in the bodies of the templates
+abbrev pub BodiesFit : Definitions → Type 0
+BodiesFit book = (f : Name) (t : Definition) → template_in book.templates f ≡ Some t → ApplicationsFit book t.body

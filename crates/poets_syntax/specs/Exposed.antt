@@ -1,0 +1,25 @@
+-- Exposed applications: those outside every transmit, and not behind a part that is not nullable.
+use Rattle.std.specs.Prelude.{◌≡◌, ℕ, zero, suc, true, List, length, Some}
+use Rattle.poets_value.specs.declared.value.Name.{Name}
+use Rattle.poets_expr.specs.Expression.{Expression}
+use Rattle.poets_syntax.specs.Contract.{Contract, Success, Failure, Transmit, Plus, Par, Seq, App}
+use Rattle.poets_syntax.specs.Book.{Definitions, Definition, template_in}
+use Rattle.poets_syntax.specs.Marks.{Marks, nullable}
+use Rattle.poets_syntax.specs.Residual.{body_of}
+
+-- each exposed application is as said
+abbrev pub EachExposed : (Name → List Expression → Type 0) → Marks → Contract → Type 0
+EachExposed Is marks Success = Unit {0}
+EachExposed Is marks Failure = Unit {0}
+EachExposed Is marks (Transmit b p c) = Unit {0}
+EachExposed Is marks (Plus c₁ c₂) = EachExposed Is marks c₁ × EachExposed Is marks c₂
+EachExposed Is marks (Par c₁ c₂) = EachExposed Is marks c₁ × EachExposed Is marks c₂
+EachExposed Is marks (Seq c₁ c₂) = EachExposed Is marks c₁ × (nullable marks c₁ ≡ true → EachExposed Is marks c₂)
+EachExposed Is marks (App f args) = Is f args
+
+-- each exposed application fits its template, and so many unfoldings in a row leave none
+abbrev pub Unfolds : ℕ → Definitions → Marks → Contract → Type 0
+Unfolds zero book marks c = EachExposed (λ _ _. ⊥) marks c
+Unfolds (suc d) book marks c =
+    EachExposed (λ f args. (t : Definition) × (template_in book.templates f ≡ Some t) × (length t.params ≡ length args)
+    × Unfolds d book marks (body_of book marks (Some t) args)) marks c

@@ -1,0 +1,67 @@
+-- The laws of performing, of granted steps, and of replacing names, as statements.
+use Rattle.std.specs.Prelude.{◌≡◌, ℕ, ◌+◌, true, List, [], ◌++◌, length, ◌↔◌}
+use Rattle.poets_value.specs.declared.event.Event.{Event}
+use Rattle.poets_expr.specs.Env.{Env}
+use Rattle.poets_expr.specs.Subst.{Givens}
+use Rattle.poets_expr.specs.Fold.{KeepsDeclared}
+use Rattle.poets_expr.specs.Whole.{AreWholeGivens}
+use Rattle.poets_syntax.specs.Contract.{Contract}
+use Rattle.poets_syntax.specs.Book.{Definitions}
+use Rattle.poets_syntax.specs.Perf.{Perf}
+use Rattle.poets_syntax.specs.May.{May}
+use Rattle.poets_syntax.specs.Shape.{SameShape}
+use Rattle.poets_syntax.specs.Whole.{IsWholeContract}
+use Rattle.poets_syntax.specs.Applied.{ApplicationsFit}
+use Rattle.poets_syntax.specs.Replace.{replace, env_of, AreDeclared, BindersAreUndeclared}
+use Rattle.poets_syntax.specs.Marks.{Marks, AreRight, Nullable, Hopeful, nullable}
+
+-- with no granted step, to be performed perhaps is to be performed
+abbrev pub NothingGranted : Type 0
+NothingGranted = (book : Definitions) (env : Env) (c : Contract) (s : List Event) → May book env c s 0 ↔ Perf book env c s
+
+-- the rest of a trace may be granted
+abbrev pub RestGranted : Type 0
+RestGranted = (book : Definitions) (env : Env) (c : Contract) (s rest : List Event) →
+    Perf book env c (s ++ rest) → May book env c s (length rest)
+
+-- a whole trace may be granted
+abbrev pub AllGranted : Type 0
+AllGranted = (book : Definitions) (env : Env) (c : Contract) (s : List Event) (n : ℕ) →
+    May book env c s n → May book env c [] (length s + n)
+
+-- what granted steps alone perform depends on no environment
+abbrev pub GrantedAnywhere : Type 0
+GrantedAnywhere = (book : Definitions) (env env' : Env) (c : Contract) (n : ℕ) → May book env c [] n → May book env' c [] n
+
+-- what granted steps alone perform depends on the shape of the contract alone
+abbrev pub GrantedByShape : Type 0
+GrantedByShape = (book : Definitions) (env env' : Env) (c c' : Contract) (n : ℕ) →
+    SameShape c c' → May book env c [] n ↔ May book env' c' [] n
+
+-- and so do nullability and hope
+abbrev pub NullableByShape : Type 0
+NullableByShape = (book : Definitions) (c c' : Contract) → SameShape c c' → Nullable book c ↔ Nullable book c'
+
+abbrev pub HopefulByShape : Type 0
+HopefulByShape = (book : Definitions) (c c' : Contract) → SameShape c c' → Hopeful book c ↔ Hopeful book c'
+
+-- right marks tell whether the empty trace performs a contract
+abbrev pub NullableByMarks : Type 0
+NullableByMarks = (book : Definitions) (marks : Marks) (c : Contract) →
+    AreRight book marks → ApplicationsFit book c → (nullable marks c ≡ true) ↔ Nullable book c
+
+-- a contract with its names replaced may be performed as the contract may be where the names have these values
+abbrev pub ReplacedAlike : Type 0
+ReplacedAlike = (book : Definitions) (given : Givens) (env : Env) (c : Contract) (s : List Event) (n : ℕ) →
+    AreDeclared book.declared given → KeepsDeclared book.declared env → BindersAreUndeclared book.declared c →
+    May book env (replace given c) s n ↔ May book (env_of given ++ env) c s n
+
+-- and it is performed likewise
+abbrev pub ReplacedPerformed : Type 0
+ReplacedPerformed = (book : Definitions) (given : Givens) (env : Env) (c : Contract) (s : List Event) →
+    AreDeclared book.declared given → KeepsDeclared book.declared env → BindersAreUndeclared book.declared c →
+    Perf book env (replace given c) s ↔ Perf book (env_of given ++ env) c s
+
+-- a whole contract stays whole where names are replaced by whole values
+abbrev pub ReplacedIsWhole : Type 0
+ReplacedIsWhole = (given : Givens) (c : Contract) → AreWholeGivens given → IsWholeContract c → IsWholeContract (replace given c)

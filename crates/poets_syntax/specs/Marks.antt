@@ -1,0 +1,39 @@
+-- Nullable and hopeful contracts, and the marks of the templates that are.
+use Rattle.std.specs.Prelude.{◌≡◌, ℕ, Bool, true, false, ◌&&◌, ◌||◌, [], Some, IsTrue, ◌↔◌}
+use Rattle.poets_value.specs.declared.value.Name.{Name}
+use Rattle.poets_syntax.specs.Contract.{Contract, Success, Failure, Transmit, Plus, Par, Seq, App}
+use Rattle.poets_syntax.specs.Book.{Definitions, Definition, template_in}
+use Rattle.poets_syntax.specs.Perf.{Perf}
+use Rattle.poets_syntax.specs.May.{May}
+
+-- which templates are nullable and which are hopeful
+pub record Marks : Type 0 where
+  pub nullable : Name → Bool
+  pub hopeful : Name → Bool
+
+-- the empty trace performs it
+abbrev pub Nullable : Definitions → Contract → Type 0
+Nullable book c = Perf book [] c []
+
+-- some number of granted steps performs it
+abbrev pub Hopeful : Definitions → Contract → Type 0
+Hopeful book c = (n : ℕ) × May book [] c [] n
+
+-- there is a template of that name, and its body is so
+abbrev pub BodyIs : Definitions → (Contract → Type 0) → Name → Type 0
+BodyIs book Is f = (t : Definition) × (template_in book.templates f ≡ Some t) × Is t.body
+
+-- each mark is right: a template has it exactly where its body is so
+pub record AreRight (book : Definitions) (marks : Marks) : Type 0 where
+  pub nullable : (f : Name) → IsTrue (marks.nullable f) ↔ BodyIs book (Nullable book) f
+  pub hopeful : (f : Name) → IsTrue (marks.hopeful f) ↔ BodyIs book (Hopeful book) f
+
+-- whether the empty trace performs a contract, by the marks of its templates
+abbrev pub nullable : Marks → Contract → Bool
+nullable marks Success = true
+nullable marks Failure = false
+nullable marks (Transmit b p c) = false
+nullable marks (Plus a b) = nullable marks a || nullable marks b
+nullable marks (Par a b) = nullable marks a && nullable marks b
+nullable marks (Seq a b) = nullable marks a && nullable marks b
+nullable marks (App f args) = marks.nullable f

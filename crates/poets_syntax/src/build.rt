@@ -1,0 +1,67 @@
+//! Contracts made of their parts.
+ghost use Rattle.std.specs.Prelude.{◌≡◌, IfOk, ◌∷◌, [], ◌++◌};
+ghost use Rattle.poets_expr.specs.Expression.{expression_of};
+ghost use Rattle.poets_syntax.specs.Contract.{contract_of, Transmit, Plus, Par, Seq};
+
+pub use crate::equality::same;
+pub use crate::substitution::{copy, subst};
+use crate::term::{Binders, Term};
+use poets_expr::Expr;
+use poets_value::{List, Memory};
+use std::alloc::Global;
+
+/// A contract in a box of its own.
+pub fn boxed(alloc: Global, term: Term) -> Result<Box<Term>, Memory>
+    ensures { IfOk result (λ b. b.value ≡ term) }
+{
+    Ok(Box::new(alloc, term)?)
+}
+
+/// The list with one more item.
+pub fn push<T: Drop>(list: &mut List<T>, item: T) -> Result<(), Memory>
+    ensures { IfOk result (λ _. list.new.items ≡ list.old.items ++ item ∷ []) }
+{
+    match list.push(item) {
+        Ok(()) => Ok(()),
+        Err(_) => Err(Memory),
+    }
+}
+
+/// A transmit and what follows it.
+pub fn transmit(alloc: Global, binders: Binders, when: Expr, then: Term) -> Result<Term, Memory>
+    ensures { IfOk result (λ c. contract_of c ≡ Transmit binders (expression_of when) (contract_of then)) }
+{
+    let then = boxed(alloc, then)?;
+    Ok(Term::Transmit {
+        binders,
+        when,
+        then,
+    })
+}
+
+/// A choice.
+pub fn plus(alloc: Global, a: Term, b: Term) -> Result<Term, Memory>
+    ensures { IfOk result (λ c. contract_of c ≡ Plus (contract_of a) (contract_of b)) }
+{
+    let a = boxed(alloc, a)?;
+    let b = boxed(alloc, b)?;
+    Ok(Term::Plus(a, b))
+}
+
+/// Two contracts side by side.
+pub fn par(alloc: Global, a: Term, b: Term) -> Result<Term, Memory>
+    ensures { IfOk result (λ c. contract_of c ≡ Par (contract_of a) (contract_of b)) }
+{
+    let a = boxed(alloc, a)?;
+    let b = boxed(alloc, b)?;
+    Ok(Term::Par(a, b))
+}
+
+/// One contract after the other.
+pub fn seq(alloc: Global, a: Term, b: Term) -> Result<Term, Memory>
+    ensures { IfOk result (λ c. contract_of c ≡ Seq (contract_of a) (contract_of b)) }
+{
+    let a = boxed(alloc, a)?;
+    let b = boxed(alloc, b)?;
+    Ok(Term::Seq(a, b))
+}

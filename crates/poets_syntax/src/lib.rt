@@ -1,0 +1,17 @@
+//! Contracts, books and their laws.
+#![tactic(auto)]
+
+pub mod build;
+mod equality;
+mod examples;
+pub mod laws;
+mod sizes;
+mod substitution;
+mod term;
+#[cfg(test)]
+mod tests;
+
+pub use equality::same;
+pub use sizes::size;
+pub use substitution::{copy, subst};
+pub use term::{Binders, Book, Param, Template, Term};

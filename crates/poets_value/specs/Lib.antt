@@ -1,0 +1,5 @@
+pub mod Civil
+pub mod Listed
+pub mod Names
+pub mod Order
+pub mod Whole

@@ -1,0 +1,17 @@
+//! Values of the contract language: names, civil days, resources, events, and lists that own their items.
+#![tactic(auto)]
+
+mod day;
+mod event;
+mod fault;
+pub mod laws;
+mod list;
+#[cfg(test)]
+mod tests;
+mod value;
+
+pub use day::Day;
+pub use event::Event;
+pub use fault::{DayFault, Memory};
+pub use list::List;
+pub use value::{Name, Resource, Ty, Value};

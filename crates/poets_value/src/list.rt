@@ -1,0 +1,135 @@
+//! A list that owns its items.
+ghost use Rattle.std.specs.Prelude.{◌≡◌, ◌+◌, ◌-◌, ◌<◌, ◌≤◌, ◌↔◌, [], ◌∷◌, ◌++◌, length, IsSome, IsNone, IfSome, IfNone, IfErr, OnOk, OnErr, IsOk, IsTrue, slice_get, insert, set};
+
+use crate::Memory;
+use std::alloc::Global;
+use std::marker::Model;
+
+/// A list of items, with room for some more.
+#[derive(Drop)]
+pub struct List<T> {
+    vec: Vec<T>,
+}
+
+impl<T> Model for List<T> {
+    ghost use Rattle.std.specs.Prelude.{◌-◌, vec_len, vec_capacity};
+    ghost use Rattle.poets_value.specs.Listed.{Listed, listed_code};
+
+    ghost Value = { Listed T };
+
+    ghost coded = { listed_code T.code };
+
+    ghost view = { λ l. record {
+      items = l.vec.items;
+      room = vec_capacity l.vec - vec_len l.vec;
+    } };
+}
+
+impl<T> List<T> {
+    /// The empty list.
+    pub fn new(alloc: Global) -> List<T>
+        ensures { result.items ≡ [] }
+    {
+        List {
+            vec: Vec::new(alloc),
+        }
+    }
+
+    /// Adds an item at the end. `Err` hands the item back and changes nothing.
+    pub fn push(&mut self, item: T) -> Result<(), T>
+        ensures ok { OnOk result (self.new.items ≡ self.old.items ++ item ∷ []) }
+        ensures err { OnErr result (self.new ≡ self.old) }
+        ensures back { IfErr result (λ x. x ≡ item) }
+        ensures succeeds { 0 < self.old.room → IsOk result }
+        ensures room { self.old.room ≤ self.new.room + 1 }
+    {
+        if self.vec.reserve(1).is_err() {
+            return Err(item);
+        }
+        match self.vec.push(item) {
+            Ok(()) => Ok(()),
+            Err(failed) => Err(failed.value),
+        }
+    }
+
+    /// The number of items.
+    pub fn len(&self) -> usize
+        ensures { result ≡ length self.now.items }
+    {
+        self.vec.len()
+    }
+
+    /// Whether there is no item.
+    pub fn is_empty(&self) -> bool
+        ensures { IsTrue result ↔ (self.now.items ≡ []) }
+    {
+        self.vec.is_empty()
+    }
+
+    /// The item at a place, if there is one.
+    pub fn get(&self, place: usize) -> Option<&T>
+        ensures found { IfSome result (λ x. slice_get self.now.items place ≡ Some x.now) }
+        ensures none { IsNone result ↔ (length self.now.items ≤ place) }
+    {
+        self.vec.get(place)
+    }
+
+    /// The same list as a slice.
+    pub fn as_slice(&self) -> &[T]
+        ensures { result.now ≡ self.now.items }
+    {
+        self.vec.as_slice()
+    }
+
+    /// Takes the last item.
+    pub fn pop(&mut self) -> Option<T>
+        ensures some { IfSome result (λ x. self.old.items ≡ self.new.items ++ x ∷ []) }
+        ensures none { IfNone result ((self.old.items ≡ []) × (self.new ≡ self.old)) }
+        ensures room { IsSome result → self.old.room + 1 ≤ self.new.room }
+    {
+        self.vec.pop()
+    }
+
+    /// Makes room for so many more items.
+    pub fn reserve(&mut self, more: usize) -> Result<(), Memory>
+        ensures items { self.new.items ≡ self.old.items }
+        ensures ok { OnOk result (more ≤ self.new.room) }
+        ensures err { OnErr result (self.new ≡ self.old) }
+        ensures succeeds { more ≤ self.old.room → IsOk result }
+        ensures room { self.old.room ≤ self.new.room }
+    {
+        match self.vec.reserve(more) {
+            Ok(()) => Ok(()),
+            Err(_) => Err(Memory),
+        }
+    }
+
+    /// Puts an item at a place, and moves those behind it. `Err` hands the item back and changes nothing.
+    pub fn insert(&mut self, place: usize, item: T) -> Result<(), T>
+        requires { place ≤ length self.old.items }
+        ensures ok { OnOk result (self.new.items ≡ insert self.old.items place item) }
+        ensures err { OnErr result (self.new ≡ self.old) }
+        ensures back { IfErr result (λ x. x ≡ item) }
+        ensures succeeds { 0 < self.old.room → IsOk result }
+        ensures room { self.old.room ≤ self.new.room + 1 }
+    {
+        if self.vec.reserve(1).is_err() {
+            return Err(item);
+        }
+        match self.vec.insert(place, item) {
+            Ok(()) => Ok(()),
+            Err(failed) => Err(failed.value),
+        }
+    }
+}
+
+impl<T: Drop> List<T> {
+    /// Replaces the item at a place.
+    pub fn put(&mut self, place: usize, item: T)
+        requires { place < length self.old.items }
+        ensures items { self.new.items ≡ set self.old.items place item }
+        ensures room { self.new.room ≡ self.old.room }
+    {
+        self.vec[place] = item;
+    }
+}
