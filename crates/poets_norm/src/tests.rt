@@ -57,10 +57,10 @@ fn amount(alloc: Global, number: i64) -> Result<Term, Memory> {
     build::transmit(alloc, BINDERS, when, Term::Success)
 }
 
-// The choice of these for the numbers from 1 to `count`.
-fn amounts(alloc: Global, count: i64) -> Result<Term, Memory> {
+// The choice of these for the numbers from 1 on, before `end`.
+fn amounts(alloc: Global, end: i64) -> Result<Term, Memory> {
     let mut choice = amount(alloc, 1)?;
-    for number in 2..count + 1 {
+    for number in 2..end {
         choice = build::plus(alloc, choice, amount(alloc, number)?)?;
     }
     Ok(choice)
@@ -152,8 +152,8 @@ fn without_templates_an_application_fails(rt: HostRuntime) -> Result<(), Fail> {
 fn the_width_is_cut_at_1001(rt: HostRuntime) -> Result<(), Fail> {
     let alloc = rt.alloc();
     assert_eq!(rt; wide(&Term::Success), 1);
-    assert_eq!(rt; wide(&amounts(alloc, 3)?), 20);
-    assert_eq!(rt; wide(&amounts(alloc, 143)?), 1000);
-    assert_eq!(rt; wide(&amounts(alloc, 144)?), 1001);
+    assert_eq!(rt; wide(&amounts(alloc, 4)?), 20);
+    assert_eq!(rt; wide(&amounts(alloc, 144)?), 1000);
+    assert_eq!(rt; wide(&amounts(alloc, 145)?), 1001);
     Ok(())
 }
