@@ -1,5 +1,5 @@
 -- The day of the last event.
-use Rattle.std.proofs.Common.{◌≡◌, ℕ, suc, ◌+◌, ◌-◌, List, [], ◌∷◌, Option, Some, None, length, slice_get, option_map, refl, sym, ◌∙◌, ap, arith}
+use Rattle.std.proofs.Common.{◌≡◌, suc, ◌-◌, List, [], ◌∷◌, Option, length, slice_get, option_map, refl, sym, ◌∙◌, ap, arith}
 use Rattle.poets_value.specs.declared.event.Event.{Event}
 use Rattle.poets_call.specs.Ledger.{last_day}
 

@@ -1,5 +1,5 @@
 -- One call more in a history.
-use Rattle.std.proofs.Common.{◌≡◌, ℕ, List, [], ◌∷◌, ◌++◌, map, length, slice_get, ◌-◌, Bool, true, false, Option, Some, None, ◌≤◌, refl, sym, ◌∙◌, ap, subst}
+use Rattle.std.proofs.Common.{◌≡◌, ℕ, List, [], ◌∷◌, ◌++◌, map, length, slice_get, ◌-◌, true, false, Option, Some, None, ◌≤◌, sym, ◌∙◌, ap, subst}
 use Rattle.std.proofs.lemmas.List.Elements.{All-nil}
 use Rattle.std.proofs.lemmas.List.{map-append, length-map}
 use Rattle.std.specs.declared.alloc.Global.{Global}
@@ -15,7 +15,7 @@ use Rattle.poets_syntax.specs.declared.term.Term.{Term}
 use Rattle.poets_report.specs.Query.{Query}
 use Rattle.poets_table.specs.TableView.{TableView, RowView, number_named}
 use Rattle.poets_call.specs.declared.call.Command.{Command}
-use Rattle.poets_call.specs.Calls.{Request, Response, HistoryEntry, Call, calls_of, request_of}
+use Rattle.poets_call.specs.Calls.{Request, Response, HistoryEntry, Call, request_of}
 use Rattle.poets_call.specs.Ledger.{Ledger, ledger_of, empty_ledger}
 use Rattle.poets_call.specs.Frame.{Frame}
 use Rattle.poets_call.specs.Plain.{plain_frame}

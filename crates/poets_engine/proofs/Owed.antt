@@ -1,11 +1,11 @@
 -- What normal forms and residuals tell of the original, in a book without templates.
-use Rattle.std.proofs.Common.{◌≡◌, ◌≢◌, ℕ, ◌<◌, ◌≤◌, Bool, true, false, nat_lt, min, List, [], ◌∷◌, ◌++◌, refl, sym, ◌∙◌, ap, subst, arith, ◌⊎◌, inl, inr, append-nil}
+use Rattle.std.proofs.Common.{◌≡◌, ◌≢◌, ℕ, ◌<◌, ◌≤◌, true, false, nat_lt, min, List, [], refl, subst, arith, append-nil}
 use Rattle.std.specs.List.{All}
 use Rattle.std.specs.Prelude.{◌↔◌}
 use Rattle.std.proofs.lemmas.Bool.Decides.{nat_tests}
 use Rattle.poets_value.specs.declared.event.Event.{Event}
 use Rattle.poets_expr.specs.Env.{Declared}
-use Rattle.poets_syntax.specs.Contract.{Contract, contract_of, Success, Failure, Transmit, Plus, Par, Seq, App}
+use Rattle.poets_syntax.specs.Contract.{Contract, Failure}
 use Rattle.poets_syntax.specs.WellFormed.{IsWellFormed, IsDeclaredEvent}
 use Rattle.poets_syntax.specs.Plain.{plain, no_marks}
 use Rattle.poets_syntax.specs.Normal.{normal}

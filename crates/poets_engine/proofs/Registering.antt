@@ -1,28 +1,26 @@
 -- A registration goes from ledger to ledger.
-use Rattle.std.proofs.Common.{◌≡◌, ◌≢◌, ℕ, zero, suc, ◌+◌, ◌-◌, ◌<◌, ◌≤◌, Bool, true, false, nat_lt, List, [], ◌∷◌, ◌++◌, Option, Some, None, map, length, slice_get, option_map, refl, sym, ◌∙◌, ap, subst, arith, ◌⊎◌, inl, inr}
-use Rattle.std.specs.List.{position, All}
+use Rattle.std.proofs.Common.{◌≡◌, ℕ, ◌+◌, ◌≤◌, Bool, true, false, nat_lt, List, [], ◌∷◌, ◌++◌, Option, Some, None, map, length, option_map, refl, sym, ◌∙◌, ap, subst, arith, inl, inr}
+use Rattle.std.specs.List.{position}
 use Rattle.std.proofs.lemmas.List.{map-append, length-append, length-map}
 use Rattle.std.proofs.lemmas.List.Elements.{All-weaker}
 use Rattle.poets_value.specs.declared.value.Name.{Name}
-use Rattle.poets_value.specs.declared.event.Event.{Event}
 use Rattle.poets_expr.specs.Env.{Declared}
-use Rattle.poets_syntax.specs.Contract.{Contract, contract_of, Failure}
+use Rattle.poets_syntax.specs.Contract.{Contract, contract_of}
 use Rattle.poets_syntax.specs.declared.term.Term.{Term}
 use Rattle.poets_syntax.specs.WellFormed.{IsWellFormed}
 use Rattle.poets_syntax.specs.Plain.{plain, no_marks}
 use Rattle.poets_syntax.specs.Normal.{normal}
-use Rattle.poets_syntax.specs.Marks.{Hopeful}
 use Rattle.poets_syntax.specs.Width.{width}
 use Rattle.poets_report.specs.Query.{Query}
-use Rattle.poets_table.specs.TableView.{TableView, RowView, number_named, new_row}
+use Rattle.poets_table.specs.TableView.{TableView, new_row}
 use Rattle.poets_call.specs.Calls.{Request, Response}
 use Rattle.poets_call.specs.Ledger.{Ledger, with_entry, contract_named, contract_from}
 use Rattle.poets_call.specs.Frame.{Frame}
 use Rattle.poets_call.specs.Plain.{plain_frame}
-use Rattle.poets_call.specs.Replies.{Replies, Registers, widest}
+use Rattle.poets_call.specs.Replies.{Replies, widest}
 use Rattle.poets_engine.specs.Rows.{IsLedger, RowsAre, RowIs}
-use Rattle.poets_engine.specs.Steps.{Choice, Refused, Kept, is_failure, judged, judge, Unchanged, Adds, NumberRegisters, RegistersTable}
-use Rattle.poets_engine.proofs.Named.{truth, named, has_name, contract_from-none, contract_from-found}
+use Rattle.poets_engine.specs.Steps.{is_failure, judged, Unchanged, Adds, NumberRegisters, RegistersTable}
+use Rattle.poets_engine.proofs.Named.{named, has_name, contract_from-none, contract_from-found}
 use Rattle.poets_engine.proofs.Rows.{with_contract, rows_added, new_row_is}
 use Rattle.poets_engine.proofs.Owed.{normal_hopeless, normal_hopeful, failure_is, no_failure, past_limit, within_limit}
 

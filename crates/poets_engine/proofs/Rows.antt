@@ -1,10 +1,10 @@
 -- Rows under a ledger that grows.
-use Rattle.std.proofs.Common.{◌≡◌, ◌≢◌, ℕ, zero, suc, ◌+◌, ◌-◌, ◌<◌, ◌≤◌, Bool, true, false, ◌||◌, nat_eq, List, [], ◌∷◌, ◌++◌, Option, Some, None, map, length, slice_get, refl, sym, ◌∙◌, ap, subst, arith, ◌⊎◌, inl, inr, append-nil}
-use Rattle.std.specs.Prelude.{filter, fold}
+use Rattle.std.proofs.Common.{◌≡◌, ◌≢◌, ℕ, zero, suc, ◌+◌, ◌<◌, ◌≤◌, false, nat_eq, List, [], ◌∷◌, ◌++◌, Some, map, length, slice_get, refl, sym, ◌∙◌, ap, subst, arith, inl, inr, append-nil}
+use Rattle.std.specs.Prelude.{filter}
 use Rattle.std.specs.List.{All, list_any}
 use Rattle.std.proofs.lemmas.Bool.{eqb-true, eq-eqb}
 use Rattle.std.proofs.lemmas.List.{map-append}
-use Rattle.std.proofs.lemmas.List.Elements.{filter-append, All-nil, All-cons, All-append, All-weaker}
+use Rattle.std.proofs.lemmas.List.Elements.{filter-append, All-nil, All-cons, All-append}
 use Rattle.std.proofs.lemmas.List.Sums.{fold-append}
 use Rattle.poets_value.specs.declared.value.Name.{Name}
 use Rattle.poets_value.specs.declared.event.Event.{Event}
@@ -15,7 +15,7 @@ use Rattle.poets_syntax.specs.Residual.{after, residual_after}
 use Rattle.poets_syntax.specs.Normal.{normal}
 use Rattle.poets_syntax.specs.Width.{width}
 use Rattle.poets_table.specs.TableView.{RowView, changed_at, with_event, new_row}
-use Rattle.poets_call.specs.Ledger.{Ledger, trace, is_ended}
+use Rattle.poets_call.specs.Ledger.{Ledger, trace}
 use Rattle.poets_call.specs.Frame.{Frame}
 use Rattle.poets_call.specs.Replies.{widest}
 use Rattle.poets_engine.specs.Rows.{RowIs, RowsAre}

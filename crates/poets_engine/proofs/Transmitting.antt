@@ -1,29 +1,27 @@
 -- A transmission goes from ledger to ledger.
-use Rattle.std.proofs.Common.{◌≡◌, ◌≢◌, ℕ, zero, suc, ◌+◌, ◌-◌, ◌<◌, ◌≤◌, Bool, true, false, nat_lt, ℤ, List, [], ◌∷◌, ◌++◌, Option, Some, None, map, length, slice_get, option_map, refl, sym, ◌∙◌, ap, subst, arith, ◌⊎◌, inl, inr, append-nil}
+use Rattle.std.proofs.Common.{◌≡◌, ℕ, zero, suc, ◌+◌, ◌-◌, ◌<◌, ◌≤◌, Bool, true, false, nat_lt, ℤ, List, [], ◌∷◌, ◌++◌, Option, Some, None, map, length, slice_get, option_map, refl, sym, ◌∙◌, ap, subst, arith, inl, inr}
 use Rattle.std.specs.Prelude.{IsTrue, ◌↔◌}
 use Rattle.std.specs.List.{position, All}
-use Rattle.std.proofs.lemmas.List.Elements.{All-nil, All-cons, All-append, All-weaker}
+use Rattle.std.proofs.lemmas.List.Elements.{All-nil, All-cons, All-append}
 use Rattle.poets_value.specs.declared.value.Name.{Name}
 use Rattle.poets_value.specs.declared.event.Event.{Event}
 use Rattle.poets_expr.specs.Env.{Declared}
-use Rattle.poets_syntax.specs.Contract.{Contract, contract_of, Failure}
+use Rattle.poets_syntax.specs.Contract.{Contract, contract_of}
 use Rattle.poets_syntax.specs.declared.term.Term.{Term}
 use Rattle.poets_syntax.specs.Perf.{Perf}
-use Rattle.poets_syntax.specs.WellFormed.{IsWellFormed, IsDeclaredEvent}
+use Rattle.poets_syntax.specs.WellFormed.{IsDeclaredEvent}
 use Rattle.poets_syntax.specs.Plain.{plain, no_marks}
 use Rattle.poets_syntax.specs.Residual.{after, residual_after}
 use Rattle.poets_syntax.specs.Width.{width}
-use Rattle.poets_residue.specs.PlainLaws.{PlainTracePerformed}
 use Rattle.poets_report.specs.Query.{Query}
-use Rattle.poets_table.specs.TableView.{TableView, RowView, number_named, changed_at, with_event}
+use Rattle.poets_table.specs.TableView.{TableView, RowView, changed_at, with_event}
 use Rattle.poets_call.specs.Calls.{Request, Response}
 use Rattle.poets_call.specs.Ledger.{Ledger, with_entry, contract_named, contract_from, number_of, number_in, trace, is_ended, late_day}
-use Rattle.poets_call.specs.Frame.{Frame}
 use Rattle.poets_call.specs.Plain.{plain_frame}
-use Rattle.poets_call.specs.Replies.{Replies, Transmits, Records, CanGoOn, widest}
+use Rattle.poets_call.specs.Replies.{Transmits, Records, CanGoOn, widest}
 use Rattle.poets_engine.specs.Rows.{IsLedger, RowsAre, RowIs}
-use Rattle.poets_engine.specs.Steps.{Choice, Refused, Kept, is_failure, judged, judge, unless_over, choice_by, Unchanged, Chooses, RowTransmits, NumberTransmits, TransmitsTable}
-use Rattle.poets_engine.proofs.Named.{truth, named, has_name, contract_from-none, contract_from-some, row_is}
+use Rattle.poets_engine.specs.Steps.{is_failure, judged, unless_over, Unchanged, Chooses, RowTransmits, NumberTransmits, TransmitsTable}
+use Rattle.poets_engine.proofs.Named.{named, has_name, contract_from-none, contract_from-some, row_is}
 use Rattle.poets_engine.proofs.Rows.{with_log, rows_recorded, row_this, named-changed_at, length-changed_at, residual_after-append}
 use Rattle.poets_engine.proofs.Registering.{Goes, same_ledger}
 use Rattle.poets_engine.proofs.Owed.{residual_hopeless, residual_hopeful, failure_is, no_failure, past_limit, within_limit, residual_performed}

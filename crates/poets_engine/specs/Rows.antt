@@ -1,18 +1,17 @@
 -- What an engine keeps: its rows and its log are the ledger of its history.
 use Rattle.std.specs.Prelude.{◌≡◌, ℕ, suc, ◌≤◌, List, [], ◌∷◌, map, length, All}
-use Rattle.poets_value.specs.declared.value.Name.{Name}
 use Rattle.poets_value.specs.declared.event.Event.{Event}
 use Rattle.poets_expr.specs.Env.{Declared}
-use Rattle.poets_syntax.specs.Contract.{Contract, contract_of}
+use Rattle.poets_syntax.specs.Contract.{contract_of}
 use Rattle.poets_syntax.specs.declared.term.Term.{Term}
 use Rattle.poets_syntax.specs.WellFormed.{IsWellFormed, IsDeclaredEvent}
 use Rattle.poets_syntax.specs.Residual.{residual_after}
 use Rattle.poets_syntax.specs.Width.{width}
 use Rattle.poets_table.specs.TableView.{RowView}
-use Rattle.poets_call.specs.Calls.{Request, Response, HistoryEntry, Call, calls_of}
-use Rattle.poets_call.specs.Ledger.{Ledger, ledger_of, with_entry, trace, is_ended}
+use Rattle.poets_call.specs.Calls.{Request, HistoryEntry, Call, calls_of}
+use Rattle.poets_call.specs.Ledger.{Ledger, ledger_of, trace, is_ended}
 use Rattle.poets_call.specs.Frame.{Frame}
-use Rattle.poets_call.specs.Replies.{Legal, Replies, widest}
+use Rattle.poets_call.specs.Replies.{Legal, widest}
 
 -- a row is what the ledger says of the contract with that number
 pub record RowIs (f : Frame) (l : Ledger) (i : ℕ) (r : RowView Term) : Type 0 where

@@ -1,9 +1,9 @@
 -- What a step does with the rows and the log.
-use Rattle.std.specs.Prelude.{◌≡◌, ℕ, ◌+◌, ◌-◌, Bool, true, false, nat_lt, ℤ, length, slice_get, Option, Some, None, List, [], ◌∷◌, ◌++◌, if◌then◌else◌, IsTrue, ◌↔◌}
+use Rattle.std.specs.Prelude.{◌≡◌, ℕ, ◌+◌, ◌-◌, Bool, true, false, nat_lt, ℤ, length, slice_get, Option, Some, None, [], ◌∷◌, ◌++◌, IsTrue, ◌↔◌}
 use Rattle.poets_value.specs.declared.value.Name.{Name}
 use Rattle.poets_value.specs.declared.event.Event.{Event}
 use Rattle.poets_expr.specs.Env.{Declared}
-use Rattle.poets_syntax.specs.Contract.{Contract, contract_of, Success, Failure, Transmit, Plus, Par, Seq, App}
+use Rattle.poets_syntax.specs.Contract.{Contract, contract_of, Failure}
 use Rattle.poets_syntax.specs.declared.term.Term.{Term}
 use Rattle.poets_syntax.specs.Plain.{plain, no_marks}
 use Rattle.poets_syntax.specs.Perf.{Perf}

@@ -1,58 +1,46 @@
 //! Each call once with memory, through its bound, and faults in mid-stream.
 
 use crate::{
-    Failed, ReadFault, Sink, Source, StdSink, StdSource, SureSink, SureSource, TextSink,
-    TextSource, read_up_to, write_all,
+    ReadFault, Sink, Source, StdSink, StdSource, SureSink, SureSource, TextSink, TextSource,
+    read_up_to, write_all,
 };
-use poets_value::{List, Memory};
+use poets_value::List;
 use std::alloc::Global;
 use std::io;
 use std::io::{ErrorKind, Read, Write};
 use std::process::Abort;
-use std::test::Fail;
 
 // A list of these items.
-fn list<T: Copy + Drop>(alloc: Global, items: &[T]) -> Result<List<T>, Memory> {
-    let mut all = List::new(alloc);
+fn list<T: Copy + Drop>(rt: &(impl Abort + AllocGlobal), items: &[T]) -> List<T> {
+    let mut all = List::new(rt.alloc());
     for item in items {
-        all.push(*item).map_err(|_| Memory)?;
+        assert!(rt; all.push(*item).is_ok());
     }
-    Ok(all)
+    all
+}
+
+// So many bytes.
+fn long(rt: &(impl Abort + AllocGlobal), length: usize) -> Vec<u8> {
+    let made = vec![in rt.alloc(); b'x'; length];
+    assert!(rt; made.is_ok());
+    made.unwrap()
 }
 
 // A source of these bytes by steps, with these failing calls.
 fn text_source(
-    alloc: Global,
+    rt: &(impl Abort + AllocGlobal),
     bytes: &[u8],
     step: usize,
     fails: &[u64],
-) -> Result<TextSource, Memory> {
-    let bytes = list(alloc, bytes)?;
-    let fails = list(alloc, fails)?;
-    Ok(TextSource::new(alloc, bytes, step.max(1), fails))
+) -> TextSource {
+    TextSource::new(rt.alloc(), list(rt, bytes), step.max(1), list(rt, fails))
 }
 
-// What one read into a buffer of eight bytes gives.
-fn read_once<S: Source>(alloc: Global, source: &mut S) -> Result<Result<Vec<u8>, Failed>, Fail> {
-    let mut buf = [b'.'; 8];
-    match source.read(&mut buf) {
-        Ok(count) => Ok(Ok(buf[..count].to_vec(alloc)?)),
-        Err(failed) => Ok(Err(failed)),
-    }
-}
-
-// The reads of a source, one after another, give these bytes, or fail.
-fn gives<S: Source>(
-    rt: &(impl Abort + AllocGlobal),
-    source: &mut S,
-    reads: &[Option<&[u8]>],
-) -> Result<(), Fail> {
-    for wanted in reads {
-        let given = read_once(rt.alloc(), source)?.ok();
-        let given = given.as_ref().map(|bytes| bytes.as_slice());
-        assert!(rt; given == *wanted, "{given:?} in place of {wanted:?}");
-    }
-    Ok(())
+// A sink in memory with these failing calls.
+fn text_sink(rt: &(impl Abort + AllocGlobal), fails: &[u64]) -> TextSink {
+    let made = TextSink::new(rt.alloc(), list(rt, fails));
+    assert!(rt; made.is_ok());
+    made.unwrap()
 }
 
 // A reader whose second call fails.
@@ -70,117 +58,6 @@ impl Read for Flaky<'_> {
         }
         self.bytes.read(buf)
     }
-}
-
-#[test]
-fn each_source_gives_its_bytes_in_order(rt: HostRuntime) -> Result<(), Fail> {
-    let mut by_steps = text_source(rt.alloc(), b"abcdefg", 3, &[])?;
-    gives(
-        &rt,
-        &mut by_steps,
-        &[Some(b"abc"), Some(b"def"), Some(b"g"), Some(b"")],
-    )?;
-    let mut sure = SureSource::new(rt.alloc(), list(rt.alloc(), b"abcdefghijk")?);
-    gives(
-        &rt,
-        &mut sure,
-        &[Some(b"abcdefgh"), Some(b"ijk"), Some(b"")],
-    )?;
-    let mut of_slice = StdSource::new(b"abcdefghijk".as_slice());
-    gives(
-        &rt,
-        &mut of_slice,
-        &[Some(b"abcdefgh"), Some(b"ijk"), Some(b"")],
-    )
-}
-
-#[test]
-fn a_source_fails_at_the_calls_named_and_then_goes_on(rt: HostRuntime) -> Result<(), Fail> {
-    let mut source = text_source(rt.alloc(), b"abcdefg", 3, &[2, 4])?;
-    gives(
-        &rt,
-        &mut source,
-        &[
-            Some(b"abc"),
-            None,
-            Some(b"def"),
-            None,
-            Some(b"g"),
-            Some(b""),
-        ],
-    )?;
-    let mut flaky = StdSource::new(Flaky {
-        bytes: b"abcdefghijk",
-        calls: 0,
-    });
-    gives(
-        &rt,
-        &mut flaky,
-        &[Some(b"abcdefgh"), None, Some(b"ijk"), Some(b"")],
-    )
-}
-
-#[test]
-fn a_source_is_read_whole_up_to_the_limit(rt: HostRuntime) -> Result<(), Fail> {
-    for step in [1, 2, 5, 99] {
-        for (limit, wanted) in [
-            (4, Err(ReadFault::TooLong)),
-            (5, Ok(b"abcde".as_slice())),
-            (6, Ok(b"abcde".as_slice())),
-        ] {
-            let mut source = text_source(rt.alloc(), b"abcde", step, &[])?;
-            let read = read_up_to(rt.alloc(), &mut source, limit);
-            let read = read
-                .as_ref()
-                .map(|text| text.as_slice())
-                .map_err(|fault| *fault);
-            assert!(rt; read == wanted, "steps of {step} up to {limit}");
-        }
-    }
-    let mut empty = SureSource::new(rt.alloc(), List::new(rt.alloc()));
-    assert_eq!(rt; read_up_to(rt.alloc(), &mut empty, 0)?.len(), 0);
-    let mut sure = SureSource::new(rt.alloc(), list(rt.alloc(), b"ab")?);
-    assert_eq!(rt;
-        read_up_to(rt.alloc(), &mut sure, 2)?.as_slice(),
-        b"ab".as_slice()
-    );
-    let mut of_slice = StdSource::new(b"abc".as_slice());
-    assert_eq!(rt;
-        read_up_to(rt.alloc(), &mut of_slice, 2).err(),
-        Some(ReadFault::TooLong)
-    );
-    Ok(())
-}
-
-#[test]
-fn a_text_longer_than_a_block_is_read_whole(rt: HostRuntime) -> Result<(), Fail> {
-    let long = vec![in rt.alloc(); b'x'; 70_001]?;
-    let mut source = StdSource::new(long.as_slice());
-    assert!(rt; read_up_to(rt.alloc(), &mut source, 70_001)?.as_slice() == long.as_slice());
-    let mut source = StdSource::new(long.as_slice());
-    assert_eq!(rt;
-        read_up_to(rt.alloc(), &mut source, 70_000).err(),
-        Some(ReadFault::TooLong)
-    );
-    Ok(())
-}
-
-#[test]
-fn no_read_follows_the_first_fault(rt: HostRuntime) -> Result<(), Fail> {
-    let mut source = text_source(rt.alloc(), b"abcdefg", 3, &[2])?;
-    assert_eq!(rt;
-        read_up_to(rt.alloc(), &mut source, 9).err(),
-        Some(ReadFault::Failed)
-    );
-    gives(&rt, &mut source, &[Some(b"def"), Some(b"g"), Some(b"")])
-}
-
-// Writes two lines, and says whether each was taken.
-fn write_lines<K: Sink>(sink: &mut K) -> (Result<(), Failed>, Result<(), Failed>) {
-    (
-        write_all(sink, b"first line\n"),
-        write_all(sink, b"second\n"),
-    )
 }
 
 // A writer that takes three bytes at a time.
@@ -203,66 +80,176 @@ impl Write for Narrow {
     }
 }
 
+// Whether the next read into a buffer of eight bytes gives these, or fails where there are none.
+fn reads_one<S: Source>(source: &mut S, wanted: Option<&str>) -> bool {
+    let mut buf = [b'.'; 8];
+    let Ok(count) = source.read(&mut buf) else {
+        return wanted.is_none();
+    };
+    match wanted {
+        Some(wanted) => &buf[..count] == wanted.as_bytes(),
+        None => false,
+    }
+}
+
+// Whether the next reads are these, in order.
+fn reads<S: Source>(source: &mut S, wanted: &[Option<&str>]) -> bool {
+    for piece in wanted {
+        if !reads_one(source, *piece) {
+            return false;
+        }
+    }
+    true
+}
+
+// Whether the source read up to the limit is these bytes.
+fn reads_whole<S: Source>(
+    alloc: Global,
+    source: &mut S,
+    limit: usize,
+    wanted: &[u8],
+) -> Result<bool, ReadFault> {
+    match read_up_to(alloc, source, limit) {
+        Ok(text) => Ok(text.as_slice() == wanted),
+        Err(fault) => Err(fault),
+    }
+}
+
+// Whether each of three pieces is taken.
+fn takes_pieces<K: Sink>(sink: &mut K) -> (bool, bool, bool) {
+    let first = write_all(sink, b"first line\n").is_ok();
+    let second = write_all(sink, b"second\n").is_ok();
+    (first, second, write_all(sink, b"!").is_ok())
+}
+
 #[test]
-fn each_sink_takes_whole_pieces(rt: HostRuntime) -> Result<(), Fail> {
-    let both = b"first line\nsecond\n".as_slice();
-    let mut text = TextSink::new(rt.alloc(), List::new(rt.alloc()))?;
-    assert_eq!(rt; write_lines(&mut text), (Ok(()), Ok(())));
-    assert_eq!(rt; text.bytes(), both);
-    let mut sure = SureSink::new();
-    assert_eq!(rt; write_lines(&mut sure), (Ok(()), Ok(())));
-    assert_eq!(rt; sure.taken(), 18);
+fn a_source_fills_the_buffer(rt: HostRuntime) {
+    let pieces = [Some("abcdefgh"), Some("ijk"), Some("")];
+    let mut sure = SureSource::new(rt.alloc(), list(&rt, b"abcdefghijk"));
+    assert!(rt; reads(&mut sure, &pieces));
+    let mut of_slice = StdSource::new(b"abcdefghijk".as_slice());
+    assert!(rt; reads(&mut of_slice, &pieces));
+}
+
+#[test]
+fn a_source_fails_at_the_calls_named_and_then_goes_on(rt: HostRuntime) {
+    let mut source = text_source(&rt, b"abcdefg", 3, &[2, 4]);
+    let pieces = [Some("abc"), None, Some("def"), None, Some("g"), Some("")];
+    assert!(rt; reads(&mut source, &pieces));
+}
+
+#[test]
+fn a_fault_of_the_reader_is_a_fault(rt: HostRuntime) {
+    let mut flaky = StdSource::new(Flaky {
+        bytes: b"abcdefghijk",
+        calls: 0,
+    });
+    assert!(rt; reads(&mut flaky, &[Some("abcdefgh"), None, Some("ijk"), Some("")]));
+}
+
+#[test]
+fn a_text_is_read_whole_up_to_the_limit(rt: HostRuntime) {
+    for step in [1, 2, 5, 99] {
+        for (limit, wanted) in [(4, Err(ReadFault::TooLong)), (5, Ok(true)), (6, Ok(true))] {
+            let mut source = text_source(&rt, b"abcde", step, &[]);
+            let read = reads_whole(rt.alloc(), &mut source, limit, b"abcde");
+            assert!(rt; read == wanted, "steps of {step} up to {limit}");
+        }
+    }
+}
+
+#[test]
+fn a_sure_source_is_read_whole(rt: HostRuntime) {
+    for (text, limit) in [("", 0), ("ab", 2)] {
+        let mut source = SureSource::new(rt.alloc(), list(&rt, text.as_bytes()));
+        let read = reads_whole(rt.alloc(), &mut source, limit, text.as_bytes());
+        assert!(rt; read == Ok(true));
+    }
+}
+
+#[test]
+fn a_text_longer_than_a_block_is_read_whole(rt: HostRuntime) {
+    let bytes = long(&rt, 70_001);
+    for (limit, wanted) in [
+        (2, Err(ReadFault::TooLong)),
+        (70_000, Err(ReadFault::TooLong)),
+        (70_001, Ok(true)),
+    ] {
+        let mut source = StdSource::new(bytes.as_slice());
+        let read = reads_whole(rt.alloc(), &mut source, limit, &bytes);
+        assert!(rt; read == wanted, "up to {limit}");
+    }
+}
+
+#[test]
+fn no_read_follows_the_first_fault(rt: HostRuntime) {
+    let mut source = text_source(&rt, b"abcdefg", 3, &[2]);
+    let read = reads_whole(rt.alloc(), &mut source, 9, b"abcdefg");
+    assert!(rt; read == Err(ReadFault::Failed));
+    assert!(rt; reads(&mut source, &[Some("def"), Some("g"), Some("")]));
+}
+
+#[test]
+fn a_sink_in_memory_is_called_once_for_each_piece(rt: HostRuntime) {
+    for (fails, wanted, held) in [
+        (1, (false, true, true), "second\n!"),
+        (2, (true, false, true), "first line\n!"),
+        (3, (true, true, false), "first line\nsecond\n"),
+        (4, (true, true, true), "first line\nsecond\n!"),
+    ] {
+        let mut sink = text_sink(&rt, &[fails]);
+        let taken = takes_pieces(&mut sink);
+        assert!(rt; taken == wanted, "failing at call {fails}");
+        assert!(rt; sink.bytes() == held.as_bytes());
+    }
+}
+
+// Writes so many bytes.
+fn fill<K: Sink>(rt: &(impl Abort + AllocGlobal), sink: &mut K, length: usize) {
+    assert!(rt; write_all(sink, &long(rt, length)).is_ok());
+}
+
+#[test]
+fn a_sink_in_memory_has_room_for_a_whole_text(rt: HostRuntime) {
+    let mut sink = text_sink(&rt, &[]);
+    fill(&rt, &mut sink, 8_388_608);
+    fill(&rt, &mut sink, 8_388_607);
+    for (piece, taken) in [("yz", false), ("z", true), ("z", false), ("", true)] {
+        assert!(rt; sink.write(piece.as_bytes()).is_ok() == taken);
+    }
+    assert!(rt; sink.bytes().len() == 16_777_216);
+}
+
+#[test]
+fn a_sure_sink_counts_what_it_takes(rt: HostRuntime) {
+    let mut sink = SureSink::new();
+    assert!(rt; takes_pieces(&mut sink) == (true, true, true));
+    assert!(rt; sink.taken() == 19);
+}
+
+#[test]
+fn a_writer_takes_whole_pieces(rt: HostRuntime) {
     let mut held = Vec::new(rt.alloc());
-    assert_eq!(rt; write_lines(&mut StdSink::new(&mut held)), (Ok(()), Ok(())));
-    assert_eq!(rt; held.as_slice(), both);
+    assert!(rt; takes_pieces(&mut StdSink::new(&mut held)) == (true, true, true));
+    assert!(rt; held.as_slice() == b"first line\nsecond\n!".as_slice());
+}
+
+#[test]
+fn a_piece_goes_on_where_the_writer_stopped(rt: HostRuntime) {
     let mut narrow = Narrow {
         held: Vec::new(rt.alloc()),
         calls: 0,
     };
-    assert_eq!(rt;
-        write_lines(&mut StdSink::new(&mut narrow)),
-        (Ok(()), Ok(()))
-    );
-    assert_eq!(rt; narrow.held.as_slice(), both);
-    assert_eq!(rt; narrow.calls, 7);
-    Ok(())
-}
-
-#[test]
-fn a_sink_of_whole_pieces_is_called_once_for_each(rt: HostRuntime) -> Result<(), Fail> {
-    for (fails, wanted, held) in [
-        (1, (Err(Failed), Ok(())), b"second\n".as_slice()),
-        (2, (Ok(()), Err(Failed)), b"first line\n".as_slice()),
-        (3, (Ok(()), Ok(())), b"first line\nsecond\n".as_slice()),
-    ] {
-        let mut sink = TextSink::new(rt.alloc(), list(rt.alloc(), &[fails])?)?;
-        assert_eq!(rt; write_lines(&mut sink), wanted, "failing at call {fails}");
-        assert_eq!(rt; sink.bytes(), held, "failing at call {fails}");
-        let last = write_all(&mut sink, b"!");
-        assert_eq!(rt; last.is_err(), fails == 3, "failing at call {fails}");
-    }
-    Ok(())
-}
-
-#[test]
-fn a_sink_in_memory_has_room_for_a_whole_text(rt: HostRuntime) -> Result<(), Fail> {
-    let mut sink = TextSink::new(rt.alloc(), List::new(rt.alloc()))?;
-    let half = vec![in rt.alloc(); b'x'; 8_388_608]?;
-    assert_eq!(rt; write_all(&mut sink, &half), Ok(()));
-    assert_eq!(rt; write_all(&mut sink, &half[1..]), Ok(()));
-    assert_eq!(rt; sink.write(b"yz"), Err(Failed));
-    assert_eq!(rt; sink.write(b"z"), Ok(1));
-    assert_eq!(rt; sink.write(b"z"), Err(Failed));
-    assert_eq!(rt; sink.write(b""), Ok(0));
-    assert_eq!(rt; sink.bytes().len(), 16_777_216);
-    Ok(())
+    assert!(rt; takes_pieces(&mut StdSink::new(&mut narrow)) == (true, true, true));
+    assert!(rt; narrow.held.as_slice() == b"first line\nsecond\n!".as_slice());
+    assert!(rt; narrow.calls == 8);
 }
 
 #[test]
 fn a_writer_that_takes_nothing_is_a_fault(rt: HostRuntime) {
     let mut room = [b'.'; 14];
     let mut sink = StdSink::new(room.as_mut_slice());
-    assert_eq!(rt; write_lines(&mut sink), (Ok(()), Err(Failed)));
-    assert_eq!(rt; sink.write(b""), Ok(0));
-    assert_eq!(rt; room.as_slice(), b"first line\nsec".as_slice());
+    assert!(rt; takes_pieces(&mut sink) == (true, false, false));
+    assert!(rt; sink.write(b"").is_ok());
+    assert!(rt; room.as_slice() == b"first line\nsec".as_slice());
 }

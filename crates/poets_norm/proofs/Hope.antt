@@ -1,5 +1,5 @@
 -- A normal form is `Failure`, or each part of it is hopeful.
-use Rattle.std.proofs.Common.{◌≡◌, ℕ, suc, ◌+◌, Bool, true, false, List, [], ◌∷◌, ◌++◌, map, length, refl, sym, ◌∙◌, subst, Option, Some, None, ◌⊎◌, inl, inr}
+use Rattle.std.proofs.Common.{◌≡◌, ℕ, suc, ◌+◌, true, List, [], ◌∷◌, ◌++◌, map, refl, sym, ◌∙◌, subst, inl, inr}
 use Rattle.std.specs.List.{All}
 use Rattle.std.proofs.lemmas.List.Elements.{All-nil, All-cons, All-append}
 use Rattle.poets_value.specs.declared.value.Name.{Name}
@@ -8,17 +8,15 @@ use Rattle.poets_expr.specs.Expression.{Expression}
 use Rattle.poets_expr.specs.Val.{val}
 use Rattle.poets_syntax.specs.declared.term.Binders.{Binders}
 use Rattle.poets_syntax.specs.Contract.{Contract, Success, Failure, Transmit, Plus, Par, Seq, App}
-use Rattle.poets_syntax.specs.Book.{Definitions, Definition, template_in, parameter_env, granted}
+use Rattle.poets_syntax.specs.Book.{Definitions, parameter_env, granted}
 use Rattle.poets_syntax.specs.Between.{Between}
 use Rattle.poets_syntax.specs.May.{May}
 use Rattle.poets_syntax.specs.Marks.{Marks, AreRight, Hopeful}
-use Rattle.poets_syntax.specs.Normal.{alternatives, distinct, choice, plus, par, seq, send, folded, params_in, normal}
-use Rattle.poets_syntax.specs.WellFormed.{IsWellFormed}
+use Rattle.poets_syntax.specs.Normal.{alternatives, distinct, plus, par, seq, send, folded, params_in, normal}
 use Rattle.poets_syntax.proofs.Granting.{May-anywhere}
 use Rattle.poets_syntax.proofs.Replacing.{truth}
 use Rattle.poets_norm.specs.Laws.{CountsFit}
 use Rattle.poets_norm.proofs.Counts.{length-folded}
-use Rattle.poets_norm.proofs.Meaning.{normal_in, normal_out}
 use Rattle.poets_norm.proofs.Parts.{All-distinct, All-choice, FailureOr, FailureOr-alternatives, FailureOr-par, FailureOr-seq, FailureOr-send, IsKeptOrFailure}
 
 -- each part is hopeful

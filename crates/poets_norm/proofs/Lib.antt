@@ -1,4 +1,4 @@
-pub mod Adjoining
+pub mod Alternatives
 pub mod Builders
 pub mod Meaning
 pub mod Parts

@@ -1,8 +1,8 @@
 -- The normal form says what the contract says.
-use Rattle.std.proofs.Common.{◌≡◌, ℕ, suc, ◌+◌, Bool, true, false, List, [], ◌∷◌, map, length, refl, sym, ◌∙◌, ap, ap₂, subst, Option, Some, None, ◌⊎◌, inl, inr, arith}
+use Rattle.std.proofs.Common.{◌≡◌, ℕ, ◌+◌, true, List, [], ◌∷◌, map, length, refl, ◌∙◌, ap₂, inl, inr}
 use Rattle.poets_value.specs.declared.value.Name.{Name}
 use Rattle.poets_value.specs.declared.event.Event.{Event}
-use Rattle.poets_expr.specs.Env.{Declared, Env, value_in}
+use Rattle.poets_expr.specs.Env.{Declared, Env}
 use Rattle.poets_expr.specs.Expression.{Expression}
 use Rattle.poets_expr.specs.Val.{val}
 use Rattle.poets_expr.specs.Fold.{KeepsDeclared}
@@ -10,14 +10,14 @@ use Rattle.poets_expr.proofs.FoldClosed.{fold-val}
 use Rattle.poets_syntax.specs.declared.term.Binders.{Binders}
 use Rattle.poets_syntax.specs.declared.term.Param.{Param}
 use Rattle.poets_syntax.specs.Contract.{Contract, Success, Failure, Transmit, Plus, Par, Seq, App}
-use Rattle.poets_syntax.specs.Book.{Definitions, BinderValues, values_of, undefined_values, bound, template_in, parameter_env}
+use Rattle.poets_syntax.specs.Book.{Definitions, BinderValues, values_of, undefined_values, bound}
 use Rattle.poets_syntax.specs.May.{May}
 use Rattle.poets_syntax.specs.Replace.{AreUndeclared}
 use Rattle.poets_syntax.proofs.Replacing.{truth, bound-free, declared_free}
 use Rattle.poets_syntax.proofs.Granting.{May-granted, May-anywhere}
 use Rattle.poets_syntax.proofs.Alike.{Alike, Alike-May, Alike-sym}
 use Rattle.poets_syntax.specs.Marks.{Marks, AreRight}
-use Rattle.poets_syntax.specs.Normal.{normal, folded, app, params_in, plus, par, seq, send}
+use Rattle.poets_syntax.specs.Normal.{normal, folded, app, params_in}
 use Rattle.poets_syntax.specs.WellFormed.{HaveDeclaredLiterals, IsWellFormed}
 use Rattle.poets_norm.proofs.Counts.{length-folded}
 use Rattle.poets_norm.proofs.Builders.{plus_in, plus_out, par_in, par_out, seq_in, seq_out, send_in, send_out}

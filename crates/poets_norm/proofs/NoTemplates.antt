@@ -1,11 +1,10 @@
 -- A book without templates: the marks that say no are right, and no application has a template.
-use Rattle.std.proofs.Common.{◌≡◌, Bool, true, false, List, [], ◌∷◌, length, Option, Some, None}
+use Rattle.std.proofs.Common.{◌≡◌, Some}
 use Rattle.poets_value.specs.declared.value.Name.{Name}
 use Rattle.poets_expr.specs.Env.{Declared}
-use Rattle.poets_expr.specs.Expression.{Expression}
 use Rattle.poets_syntax.specs.Contract.{Contract, Success, Failure, Transmit, Plus, Par, Seq, App}
-use Rattle.poets_syntax.specs.Book.{Definitions, Definition, template_in}
-use Rattle.poets_syntax.specs.Marks.{Marks, AreRight}
+use Rattle.poets_syntax.specs.Book.{Definition, template_in}
+use Rattle.poets_syntax.specs.Marks.{AreRight}
 use Rattle.poets_syntax.specs.WellFormed.{AreWellFormed}
 use Rattle.poets_syntax.specs.Plain.{plain, no_marks}
 use Rattle.poets_norm.specs.Laws.{CountsFit}

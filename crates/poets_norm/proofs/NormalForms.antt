@@ -1,8 +1,7 @@
 -- What normal forms are made of, so that the normal form of a normal form is itself.
-use Rattle.std.proofs.Common.{◌≡◌, Bool, true, false, not, ◌&&◌, List, [], ◌∷◌, ◌++◌, filter, fold, refl, sym, ◌∙◌, ap, ap₂, subst, Option, Some, None, ◌⊎◌, inl, inr, append-nil, append_assoc, is_some, if◌then◌else◌}
+use Rattle.std.proofs.Common.{◌≡◌, Bool, true, false, not, ◌&&◌, List, [], ◌∷◌, ◌++◌, refl, sym, ◌∙◌, ap, ap₂, subst, Option, Some, None, inl, inr, is_some}
 use Rattle.std.specs.List.{All}
-use Rattle.std.proofs.lemmas.List.Elements.{All-nil, All-cons, All-head, All-tail, All-append, All-filter, All-weaker, filter_passes}
-use Rattle.std.proofs.lemmas.List.Sums.{fold-append}
+use Rattle.std.proofs.lemmas.List.Elements.{All-nil, All-cons, All-head, All-tail, All-append}
 use Rattle.poets_value.specs.declared.value.Name.{Name}
 use Rattle.poets_value.specs.declared.value.Ty.{Ty}
 use Rattle.poets_value.specs.declared.value.Value.{Value}
@@ -16,16 +15,12 @@ use Rattle.poets_syntax.specs.declared.term.Binders.{Binders}
 use Rattle.poets_syntax.specs.declared.term.Param.{Param}
 use Rattle.poets_syntax.specs.Contract.{Contract, Success, Failure, Transmit, Plus, Par, Seq, App}
 use Rattle.poets_syntax.specs.Book.{Definitions}
-use Rattle.poets_syntax.specs.Same.{same_contract}
 use Rattle.poets_syntax.specs.Marks.{Marks}
-use Rattle.poets_syntax.specs.Normal.{alternatives, distinct, choice, plus, par, seq, send, folded, params_in, app, normal}
+use Rattle.poets_syntax.specs.Normal.{alternatives, plus, par, seq, send, folded, params_in, app, normal}
 use Rattle.poets_syntax.proofs.Replacing.{truth}
+use Rattle.poets_norm.specs.Choices.{IsDistinctChoice}
+use Rattle.poets_norm.proofs.Alternatives.{alternatives-one, alternatives-distinct_choice, IsGrouped, IsGrouped-distinct_choice, distinct_choice-grouped}
 use Rattle.poets_norm.proofs.Parts.{All-distinct, FailureOr, FailureOr-alternatives, FailureOr-par, FailureOr-seq, FailureOr-send, IsKeptOrFailure}
-
--- no contract of the list is equal to an earlier one
-abbrev NoRepeats : List Contract → Type 0
-NoRepeats [] = Unit {0}
-NoRepeats (c ∷ cs) = All (λ d. same_contract c d ≡ false) cs × NoRepeats cs
 
 -- what a normal form is, where it is not `Failure`: each part is as its builder would make it
 abbrev pub IsBuilt : Definitions → Marks → Contract → Type 0
@@ -37,97 +32,39 @@ IsBuilt book marks (Par c₁ c₂) = IsBuilt book marks c₁ × IsBuilt book mar
 IsBuilt book marks (Seq c₁ c₂) = IsBuilt book marks c₁ × IsBuilt book marks c₂ × (seq c₁ c₂ ≡ Seq c₁ c₂)
 IsBuilt book marks (App f args) = app book marks f args ≡ App f args
 
--- lists without repeats
-All-front : (P : Contract → Type 0) (xs ys : List Contract) → All P (xs ++ ys) → All P xs
-All-front P [] ys h = All-nil P
-All-front P (x ∷ xs) ys h = All-cons P x xs (All-head P x (xs ++ ys) h) (All-front P xs ys (All-tail P x (xs ++ ys) h))
-
-NoRepeats-front : (xs ys : List Contract) → NoRepeats (xs ++ ys) → NoRepeats xs
-NoRepeats-front [] ys h = tt
-NoRepeats-front (x ∷ xs) ys h = (All-front (λ d. same_contract x d ≡ false) xs ys h.0, NoRepeats-front xs ys h.1)
-
-NoRepeats-filter : (p : Contract → Bool) (xs : List Contract) → NoRepeats xs → NoRepeats (filter p xs)
-NoRepeats-filter p [] h = tt
-NoRepeats-filter p (x ∷ xs) h =
-    let rest = NoRepeats-filter p xs h.1 in
-    elim (truth (p x)) [ inl e ↦ rw e (All-filter p (λ d. same_contract x d ≡ false) xs h.0, rest) | inr e ↦ rw e rest ]
-
-false_of_not : (b : Bool) → not b ≡ true → b ≡ false
-false_of_not true e = absurd cc
-false_of_not false e = refl
-
-NoRepeats-distinct : (cs : List Contract) → NoRepeats (distinct cs)
-NoRepeats-distinct [] = tt
-NoRepeats-distinct (c ∷ cs) = (
-  All-weaker (λ d. not (same_contract c d) ≡ true) (λ d. same_contract c d ≡ false) (λ d e. false_of_not (same_contract c d) e)
-      (filter (λ d. not (same_contract c d)) (distinct cs)) (filter_passes (λ d. not (same_contract c d)) (distinct cs)),
-  NoRepeats-filter (λ d. not (same_contract c d)) (distinct cs) (NoRepeats-distinct cs),
-)
-
-filter-unlike : (c : Contract) (cs : List Contract) → All (λ d. same_contract c d ≡ false) cs → filter (λ d. not (same_contract c d)) cs ≡ cs
-filter-unlike c [] h = refl
-filter-unlike c (d ∷ cs) h =
-    let rest = filter-unlike c cs (All-tail (λ x. same_contract c x ≡ false) d cs h) in
-    rw (All-head (λ x. same_contract c x ≡ false) d cs h) (ap (λ xs. d ∷ xs) rest)
-
-distinct-none : (cs : List Contract) → NoRepeats cs → distinct cs ≡ cs
-distinct-none [] h = refl
-distinct-none (c ∷ cs) h = ap (λ xs. c ∷ filter (λ d. not (same_contract c d)) xs) (distinct-none cs h.1) ∙ ap (λ xs. c ∷ xs) (filter-unlike c cs h.0)
+All-parts : (P : Contract → Type 0) (xs ys : List Contract) → All P (xs ++ ys) → All P xs × All P ys
+All-parts P [] ys h = (All-nil P, h)
+All-parts P (x ∷ xs) ys h =
+    let rest = All-parts P xs ys (All-tail P x (xs ++ ys) h) in
+    (All-cons P x xs (All-head P x (xs ++ ys) h) rest.0, rest.1)
 
 module _ (book : Definitions) (marks : Marks) where
-  -- a part of a choice, which is its own one alternative
-  abbrev IsAlternative : Contract → Type 0
-  IsAlternative c = IsBuilt book marks c × (alternatives c ≡ c ∷ [])
+  only : (c : Contract) → IsBuilt book marks c → All (IsBuilt book marks) (c ∷ [])
+  only c h = All-cons (IsBuilt book marks) c [] h (All-nil (IsBuilt book marks))
 
-  only : (c : Contract) → IsBuilt book marks c → alternatives c ≡ c ∷ [] → All IsAlternative (c ∷ [])
-  only c h e = All-cons IsAlternative c [] (h, e) (All-nil IsAlternative)
-
-  All-alternatives : (c : Contract) → IsBuilt book marks c → All IsAlternative (alternatives c)
-  All-alternatives Success h = only Success h refl
+  All-alternatives : (c : Contract) → IsBuilt book marks c → All (IsBuilt book marks) (alternatives c)
   All-alternatives Failure h = absurd h
-  All-alternatives (Transmit b p c) h = only (Transmit b p c) h refl
-  All-alternatives (Plus a b) h = All-append IsAlternative (alternatives a) (alternatives b) (All-alternatives a h.0) (All-alternatives b h.1)
-  All-alternatives (Par a b) h = only (Par a b) h refl
-  All-alternatives (Seq a b) h = only (Seq a b) h refl
-  All-alternatives (App f args) h = only (App f args) h refl
+  All-alternatives (Plus a b) h = All-append (IsBuilt book marks) (alternatives a) (alternatives b) (All-alternatives a h.0) (All-alternatives b h.1)
+  All-alternatives c h = only c h
 
-  fold-last : (x d : Contract) (xs : List Contract) → fold Plus x (xs ++ d ∷ []) ≡ Plus (fold Plus x xs) d
-  fold-last x d xs = fold-append Plus x xs (d ∷ [])
-
-  -- one alternative more at the end of a choice
-  more : (x d : Contract) (xs : List Contract) → IsAlternative d → NoRepeats (x ∷ (xs ++ d ∷ [])) →
-      IsBuilt book marks (fold Plus x xs) → alternatives (fold Plus x xs) ≡ x ∷ xs → IsBuilt book marks (Plus (fold Plus x xs) d)
-  more x d xs h none built whole =
-      let all : alternatives (fold Plus x xs) ++ alternatives d ≡ x ∷ (xs ++ d ∷ []) = ap₂ (λ ys zs. ys ++ zs) whole h.1 in
-      (built, h.0, ap (λ ys. choice (distinct ys)) all ∙ ap choice (distinct-none (x ∷ (xs ++ d ∷ [])) none) ∙ fold-last x d xs)
-
-  built_to : (x : Contract) (xs cs : List Contract) → All IsAlternative cs → NoRepeats ((x ∷ xs) ++ cs) →
-      IsBuilt book marks (fold Plus x xs) → alternatives (fold Plus x xs) ≡ x ∷ xs → IsBuilt book marks (fold Plus x (xs ++ cs))
-  built_to x xs [] h none built whole = subst (λ ys. IsBuilt book marks (fold Plus x ys)) (sym (append-nil xs)) built
-  built_to x xs (d ∷ cs) h none built whole =
-      let here = All-head IsAlternative d cs h in
-      let none' : NoRepeats ((x ∷ (xs ++ d ∷ [])) ++ cs) = subst (λ ys. NoRepeats (x ∷ ys)) (sym (append_assoc xs (d ∷ []) cs)) none in
-      let one = more x d xs here (NoRepeats-front (x ∷ (xs ++ d ∷ [])) cs none') built whole in
-      let built' = subst (IsBuilt book marks) (sym (fold-last x d xs)) one in
-      let whole' : alternatives (fold Plus x (xs ++ d ∷ [])) ≡ x ∷ (xs ++ d ∷ []) =
-      ap alternatives (fold-last x d xs) ∙ ap₂ (λ ys zs. ys ++ zs) whole here.1 in
-      subst (λ ys. IsBuilt book marks (fold Plus x ys)) (append_assoc xs (d ∷ []) cs)
-      (built_to x (xs ++ d ∷ []) cs (All-tail IsAlternative d cs h) none' built' whole')
-
-  built_choice : (cs : List Contract) → All IsAlternative cs → NoRepeats cs → (choice cs ≡ Failure) ⊎ IsBuilt book marks (choice cs)
-  built_choice [] h none = inl refl
-  built_choice (c ∷ cs) h none =
-      let here = All-head IsAlternative c cs h in
-      inr (built_to c [] cs (All-tail IsAlternative c cs h) none here.0 here.1)
+  built_choice : (c : Contract) → IsGrouped c → All (IsBuilt book marks) (alternatives c) → FailureOr (IsBuilt book marks) c
+  built_choice Failure h each = inl refl
+  built_choice (Plus c d) h each =
+      let parts = All-parts (IsBuilt book marks) (alternatives c) (alternatives d) each in
+      let last = subst (All (IsBuilt book marks)) (alternatives-one d h.2) parts.1 in
+      elim (built_choice c h.0 parts.0) [
+        | inl e ↦ absurd (h.1 e)
+        | inr k ↦ inr (k, All-head (IsBuilt book marks) d [] last, distinct_choice-grouped (Plus c d) h)
+      ]
+  built_choice c h each = inr (All-head (IsBuilt book marks) c [] each)
 
   -- the builders
   built-plus : (a b : Contract) → FailureOr (IsBuilt book marks) a → FailureOr (IsBuilt book marks) b → FailureOr (IsBuilt book marks) (plus a b)
   built-plus a b h k =
-      let each = FailureOr-alternatives (IsBuilt book marks) IsAlternative All-alternatives in
-      built_choice (distinct (alternatives a ++ alternatives b))
-      (All-distinct IsAlternative (alternatives a ++ alternatives b)
-      (All-append IsAlternative (alternatives a) (alternatives b) (each a h) (each b k)))
-      (NoRepeats-distinct (alternatives a ++ alternatives b))
+      let each = FailureOr-alternatives (IsBuilt book marks) (IsBuilt book marks) All-alternatives in
+      built_choice (plus a b) (IsGrouped-distinct_choice (Plus a b))
+      (rw (alternatives-distinct_choice (Plus a b)) (All-distinct (IsBuilt book marks) (alternatives a ++ alternatives b)
+      (All-append (IsBuilt book marks) (alternatives a) (alternatives b) (each a h) (each b k))))
 
   both-par : (a b : Contract) → IsBuilt book marks a → IsBuilt book marks b → IsBuilt book marks (par a b)
   both-par Failure b h k = h
@@ -217,6 +154,17 @@ module _ (book : Definitions) (marks : Marks) where
   pub normal_of_built : (c : Contract) → FailureOr (IsBuilt book marks) c → normal book marks c ≡ c
   normal_of_built c (inl e) = ap (normal book marks) e ∙ sym e
   normal_of_built c (inr h) = normal-built c h
+
+  -- and a choice of distinct alternatives
+  distinct_choice-built : (c : Contract) → IsBuilt book marks c → IsDistinctChoice c
+  distinct_choice-built (Plus a b) h = h.2
+  distinct_choice-built _ h = refl
+
+  pub normal_is_distinct : (c : Contract) → IsDistinctChoice (normal book marks c)
+  normal_is_distinct c = elim (built-normal c) [
+    | inl e ↦ rw e refl
+    | inr h ↦ distinct_choice-built (normal book marks c) h
+  ]
 
   -- and a contract that is its normal form is so built
   pub built_of_normal : (c : Contract) → normal book marks c ≡ c → FailureOr (IsBuilt book marks) c

@@ -1,13 +1,10 @@
 -- Normal forms are well-formed.
-use Rattle.std.proofs.Common.{◌≡◌, Bool, true, false, not, ◌&&◌, List, [], ◌∷◌, Some, None, Option, ◌⊎◌, inl, inr}
+use Rattle.std.proofs.Common.{not, ◌&&◌, List, [], ◌∷◌, inl, inr}
 use Rattle.poets_value.specs.declared.value.Ty.{Ty}
-use Rattle.poets_value.specs.declared.value.Value.{Value}
-use Rattle.poets_value.specs.declared.value.Value.TheVariants as V
 use Rattle.poets_expr.specs.Env.{Declared}
 use Rattle.poets_expr.specs.Expression.{Expression}
 use Rattle.poets_expr.specs.Val.{val}
-use Rattle.poets_expr.specs.Subst.{literal_of}
-use Rattle.poets_expr.specs.Fold.{HasDeclaredNames, HasDeclaredLiterals, fold_closed, is_closed, is_literal}
+use Rattle.poets_expr.specs.Fold.{HasDeclaredLiterals, fold_closed, is_closed, is_literal}
 use Rattle.poets_expr.proofs.FoldClosed.{known-val}
 use Rattle.poets_syntax.specs.declared.term.Binders.{Binders}
 use Rattle.poets_syntax.specs.declared.term.Param.{Param}

@@ -1,5 +1,5 @@
 -- What normal forms mean.
-use Rattle.std.specs.Prelude.{◌≡◌, ℕ, List, [], ◌∷◌, length, Some, ◌↔◌}
+use Rattle.std.specs.Prelude.{◌≡◌, ℕ, List, length, Some, ◌↔◌}
 use Rattle.poets_value.specs.declared.event.Event.{Event}
 use Rattle.poets_expr.specs.Env.{Declared, Env}
 use Rattle.poets_expr.specs.Fold.{KeepsDeclared}

@@ -1,74 +1,75 @@
 //! Choices of distinct alternatives.
-ghost use Rattle.std.specs.Prelude.{◌≡◌, IfOk, map, fold, ◌∷◌, ◌++◌, [], ◌≢◌};
-ghost use Rattle.std.specs.List.{list_any};
-ghost use Rattle.poets_syntax.specs.Contract.{contract_of};
-ghost use Rattle.poets_syntax.specs.Same.{same_contract};
-ghost use Rattle.poets_syntax.specs.Normal.{alternatives, choice, plus as plus_lem};
-ghost use Rattle.poets_norm.specs.Choices.{adjoin, holds_equal};
+ghost use Rattle.std.specs.Prelude.{◌≡◌, IfOk, if◌then◌else◌};
+ghost use Rattle.poets_syntax.specs.Contract.{contract_of, Plus};
+ghost use Rattle.poets_syntax.specs.Normal.{alternatives, plus as plus_lem};
+ghost use Rattle.poets_norm.specs.Choices.{distinct_choice as distinct_choice_lem, holds_equal, IsDistinctChoice};
 
-use poets_syntax::build::push;
 use poets_syntax::{Term, build, same};
-use poets_value::{List, Memory};
+use poets_value::Memory;
 use std::alloc::Global;
 
-// Whether the list has an equal contract.
-fn has(terms: &[Term], term: &Term) -> bool
-    ensures { result ≡ holds_equal (map contract_of terms.now) (contract_of term.now) }
+// Whether an equal contract is an alternative of the choice.
+fn has(choice: &Term, term: &Term) -> bool
+    ensures { result ≡ holds_equal (alternatives (contract_of choice.now)) (contract_of term.now) }
 {
-    let mut found = false;
-    for other in terms {
-        found = found || same(other, term);
+    match choice {
+        Term::Failure => false,
+        Term::Plus(front, last) => has(last, term) || has(front, term),
+        other => same(other, term),
     }
-    found
 }
 
-// Adds a contract at the end, unless an equal one is there.
-fn add(terms: &mut List<Term>, term: Term) -> Result<(), Memory>
-    ensures { IfOk result (λ _. map contract_of terms.new.items ≡ adjoin (map contract_of terms.old.items) (contract_of term)) }
+// The choice with one more alternative at its end, unless that is known.
+fn add(alloc: Global, choice: Term, last: Term, is_known: bool) -> Result<Term, Memory>
+    ensures { IfOk result (λ r. contract_of r ≡ (if is_known then contract_of choice else Plus (contract_of choice) (contract_of last))) }
 {
-    if has(terms.as_slice(), &term) {
-        return Ok(());
+    if is_known {
+        return Ok(choice);
     }
-    push(terms, term)
+    build::plus(alloc, choice, last)
 }
 
-// Adds the alternatives of a contract.
-fn gather(terms: &mut List<Term>, term: Term) -> Result<(), Memory>
-    ensures { IfOk result (λ _. map contract_of terms.new.items ≡ fold adjoin (map contract_of terms.old.items) (alternatives (contract_of term))) }
+/// The choice of two choices of distinct alternatives, grouped to the left: the first as it stands,
+/// and behind it those alternatives of the second that it has not.
+pub fn merge(alloc: Global, a: Term, b: Term) -> Result<Term, Memory>
+    requires first { IsDistinctChoice (contract_of a) }
+    requires second { IsDistinctChoice (contract_of b) }
+    ensures { IfOk result (λ r. contract_of r ≡ plus_lem (contract_of a) (contract_of b)) }
+{
+    match (a, b) {
+        (Term::Failure, b) => Ok(b),
+        (a, Term::Failure) => Ok(a),
+        (a, Term::Plus(front, last)) => {
+            let is_known = has(&a, &last);
+            let choice = merge(alloc, a, Box::into_inner(front))?;
+            add(alloc, choice, Box::into_inner(last), is_known)
+        }
+        (a, last) => {
+            let is_known = has(&a, &last);
+            add(alloc, a, last, is_known)
+        }
+    }
+}
+
+/// The choice of the distinct alternatives of a contract.
+pub fn distinct_choice(alloc: Global, term: Term) -> Result<Term, Memory>
+    ensures choice { IfOk result (λ r. contract_of r ≡ distinct_choice_lem (contract_of term)) }
+    ensures distinct { IfOk result (λ r. IsDistinctChoice (contract_of r)) }
 {
     match term {
-        Term::Failure => Ok(()),
         Term::Plus(a, b) => {
-            gather(terms, Box::into_inner(a))?;
-            gather(terms, Box::into_inner(b))
+            let a = distinct_choice(alloc, Box::into_inner(a))?;
+            let b = distinct_choice(alloc, Box::into_inner(b))?;
+            merge(alloc, a, b)
         }
-        other => add(terms, other),
+        other => Ok(other),
     }
 }
 
 /// The choice of two contracts: the alternatives of both from the left, of equal ones the first.
-#[tactic(auto, using(crate::proofs::Adjoining::adjoined))]
 pub fn plus(alloc: Global, a: Term, b: Term) -> Result<Term, Memory>
     ensures { IfOk result (λ r. contract_of r ≡ plus_lem (contract_of a) (contract_of b)) }
 {
-    let mut terms = List::new(alloc);
-    gather(&mut terms, a)?;
-    gather(&mut terms, b)?;
-    join(alloc, terms)
-}
-
-// The contracts joined by choices to the left.
-fn join(alloc: Global, mut terms: List<Term>) -> Result<Term, Memory>
-    ensures { IfOk result (λ r. contract_of r ≡ choice (map contract_of terms.items)) }
-{
-    match terms.pop() {
-        None => Ok(Term::Failure),
-        Some(last) => {
-            if terms.is_empty() {
-                return Ok(last);
-            }
-            let front = join(alloc, terms)?;
-            build::plus(alloc, front, last)
-        }
-    }
+    let both = build::plus(alloc, a, b)?;
+    distinct_choice(alloc, both)
 }

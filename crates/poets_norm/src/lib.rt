@@ -8,6 +8,6 @@ mod normals;
 mod tests;
 mod widths;
 
-pub use choices::plus;
+pub use choices::{distinct_choice, merge, plus};
 pub use normals::{normal, par, send, seq};
 pub use widths::wide;

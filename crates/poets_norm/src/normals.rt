@@ -6,7 +6,7 @@ ghost use Rattle.poets_syntax.specs.Contract.{contract_of};
 ghost use Rattle.poets_syntax.specs.Normal.{par as par_lem, seq as seq_lem, send as send_lem, normal as normal_lem};
 ghost use Rattle.poets_syntax.specs.Plain.{plain, no_marks};
 
-use crate::choices::plus;
+use crate::choices::merge;
 use poets_expr::{Decls, Expr};
 use poets_syntax::{Binders, Term, build};
 use poets_value::Memory;
@@ -65,7 +65,7 @@ pub fn normal(alloc: Global, decls: &Decls, term: &Term) -> Result<Term, Memory>
         Term::Plus(a, b) => {
             let a = normal(alloc, decls, a)?;
             let b = normal(alloc, decls, b)?;
-            plus(alloc, a, b)
+            merge(alloc, a, b)
         }
         Term::Par(a, b) => {
             let a = normal(alloc, decls, a)?;

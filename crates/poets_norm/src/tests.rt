@@ -1,6 +1,6 @@
 //! Normal forms and widths worked out by hand, and each call once with memory.
 
-use crate::{normal, par, plus, send, seq, wide};
+use crate::{distinct_choice, merge, normal, par, plus, send, seq, wide};
 use poets_expr::{Decls, Expr, Op, build as make};
 use poets_syntax::{Binders, Term, build, copy, same};
 use poets_value::{List, Memory, Name};
@@ -92,6 +92,19 @@ fn a_choice_keeps_success_and_drops_failure(rt: HostRuntime) -> Result<(), Fail>
     assert!(rt; matches!(plus(alloc, failures, Term::Failure)?, Term::Failure));
     let chosen = plus(alloc, Term::Failure, oil(alloc, Term::Success)?)?;
     assert!(rt; same(&chosen, &oil(alloc, Term::Success)?));
+    Ok(())
+}
+
+#[test]
+fn choices_of_distinct_alternatives_are_merged(rt: HostRuntime) -> Result<(), Fail> {
+    let alloc = rt.alloc();
+    let twice = build::plus(alloc, Term::Success, Term::Success)?;
+    let first = distinct_choice(alloc, twice)?;
+    assert!(rt; matches!(&first, Term::Success));
+    let second = distinct_choice(alloc, oil(alloc, Term::Success)?)?;
+    let merged = merge(alloc, first, second)?;
+    let wanted = build::plus(alloc, Term::Success, oil(alloc, Term::Success)?)?;
+    assert!(rt; same(&merged, &wanted));
     Ok(())
 }
 

@@ -1,8 +1,7 @@
 -- What follows an event: one contract is performed by exactly the traces that may follow the event in another.
-use Rattle.std.proofs.Common.{◌≡◌, ℕ, ◌+◌, List, [], ◌∷◌, ◌++◌, map, length, refl, sym, ◌∙◌, ap, subst, Option, Some, None, append-nil, ◌↔◌}
+use Rattle.std.proofs.Common.{◌≡◌, ℕ, List, [], ◌∷◌, ◌++◌, map, length, refl, sym, ap, subst, Some, None, append-nil, ◌↔◌}
 use Rattle.poets_value.specs.declared.value.Name.{Name}
 use Rattle.poets_value.specs.declared.event.Event.{Event}
-use Rattle.poets_expr.specs.Env.{Env}
 use Rattle.poets_expr.specs.Expression.{Expression}
 use Rattle.poets_expr.specs.Val.{val}
 use Rattle.poets_expr.specs.Subst.{Givens}
@@ -12,7 +11,7 @@ use Rattle.poets_syntax.specs.Contract as C
 use Rattle.poets_syntax.specs.Book.{Definitions, Definition, template_in, taken, parameter_env}
 use Rattle.poets_syntax.specs.Between.{Between}
 use Rattle.poets_syntax.specs.Replace.{replace, env_of}
-use Rattle.poets_syntax.specs.Perf.{Perf, Holds}
+use Rattle.poets_syntax.specs.Perf.{Holds}
 use Rattle.poets_syntax.specs.May.{May}
 use Rattle.poets_syntax.specs.Marks.{Marks, AreRight, Nullable}
 use Rattle.poets_syntax.specs.Normal.{normal, plus, par, seq}

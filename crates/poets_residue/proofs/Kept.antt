@@ -1,5 +1,5 @@
 -- What the normal forms and the parts of a contract have, its residuals have.
-use Rattle.std.proofs.Common.{◌≡◌, ℕ, zero, suc, Bool, true, false, List, [], ◌∷◌, Option, Some, None, ◌⊎◌, inl, inr, if◌then◌else◌, length, map, refl, sym, ◌∙◌, subst}
+use Rattle.std.proofs.Common.{◌≡◌, ℕ, zero, suc, Bool, true, false, List, [], Option, Some, None, inl, inr, if◌then◌else◌, refl, sym, ◌∙◌, subst}
 use Rattle.poets_value.specs.declared.value.Name.{Name}
 use Rattle.poets_value.specs.declared.event.Event.{Event}
 use Rattle.poets_expr.specs.Expression.{Expression}
@@ -10,7 +10,7 @@ use Rattle.poets_syntax.specs.Contract.{Contract, Success, Failure, Transmit, Pl
 use Rattle.poets_syntax.specs.Book.{Definitions, Definition, template_in, taken}
 use Rattle.poets_syntax.specs.Replace.{without, replace}
 use Rattle.poets_syntax.specs.Marks.{Marks, AreRight, nullable}
-use Rattle.poets_syntax.specs.Normal.{normal, plus, par, seq}
+use Rattle.poets_syntax.specs.Normal.{normal, par, seq}
 use Rattle.poets_syntax.specs.WellFormed.{IsWellFormed, IsDeclaredEvent, AreWellFormed}
 use Rattle.poets_syntax.specs.Residual.{event_givens, argument_givens, is_true, after_by, after_at, body_of}
 use Rattle.poets_syntax.proofs.Replacing.{args_count}
@@ -76,12 +76,17 @@ IsWellFormed-body book marks t args h k =
     IsWellFormed-normal book marks (replace (argument_givens book.declared t.params args) t.body)
     (IsWellFormed-replace book.declared (argument_givens book.declared t.params args) (HaveDeclaredNames-arguments book.declared t.params args k) t.body h)
 
+pub IsWellFormed-taken : (book : Definitions) (marks : Marks) (e : Event) → IsDeclaredEvent book.declared e → (b : Binders) (c : Contract) →
+    IsWellFormed book.declared c → IsWellFormed book.declared (normal book marks (replace (event_givens b e) c))
+IsWellFormed-taken book marks e declared b c h =
+    IsWellFormed-normal book marks (replace (event_givens b e) c)
+    (IsWellFormed-replace book.declared (event_givens b e) (HaveDeclaredNames-event book.declared b e declared) c h)
+
 pub IsWellFormed-after_at : (book : Definitions) (marks : Marks) → AreWellFormed book → (e : Event) → IsDeclaredEvent book.declared e →
     (d : ℕ) (c : Contract) → IsWellFormed book.declared c → IsWellFormed book.declared (after_at d book marks e c)
 IsWellFormed-after_at book marks formed e declared =
     kept_by_after_at book marks e (IsWellFormed book.declared) (IsWellFormed-of_parts book.declared)
-    (λ b p c h. IsWellFormed-normal book marks (replace (event_givens b e) c)
-    (IsWellFormed-replace book.declared (event_givens b e) (HaveDeclaredNames-event book.declared b e declared) c h.1))
+    (λ b p c h. IsWellFormed-taken book marks e declared b c h.1)
     (λ f args h. of_body book marks (IsWellFormed book.declared) tt (template_in book.templates f) args
     (λ t q. IsWellFormed-body book marks t args (formed f t q) h))
 

@@ -1,17 +1,17 @@
 -- A book without templates: each contract unfolds at once.
-use Rattle.std.proofs.Common.{◌≡◌, ℕ, Bool, true, List, [], ◌∷◌, length, refl, sym, ◌∙◌, Option, Some, None, IsTrue, ◌↔◌}
+use Rattle.std.proofs.Common.{◌≡◌, Bool, List, [], refl, sym, ◌∙◌, None, IsTrue, ◌↔◌}
 use Rattle.poets_value.specs.declared.value.Name.{Name}
 use Rattle.poets_expr.specs.Env.{Declared}
 use Rattle.poets_expr.specs.Expression.{Expression}
 use Rattle.poets_syntax.specs.Contract.{Contract, Success, Failure, Transmit, Plus, Par, Seq, App}
-use Rattle.poets_syntax.specs.Book.{Definition, template_in}
+use Rattle.poets_syntax.specs.Book.{template_in}
 use Rattle.poets_syntax.specs.Perf.{Perf}
 use Rattle.poets_syntax.specs.Marks.{nullable}
 use Rattle.poets_syntax.specs.Plain.{plain, no_marks}
 use Rattle.poets_syntax.specs.Exposed.{EachExposed}
 use Rattle.poets_syntax.proofs.Nullability.{nullable_in}
 use Rattle.poets_norm.proofs.NoTemplates.{AreRight-plain, AreWellFormed-plain, CountsFit-plain}
-use Rattle.poets_residue.specs.Unfolding.{UnfoldsWithin, IsStudied}
+use Rattle.poets_residue.specs.Unfolding.{IsStudied}
 use Rattle.poets_residue.proofs.Nullables.{FitsTemplate, nullable_performed}
 
 each : (Is : Name → List Expression → Type 0) → ((f : Name) (args : List Expression) → Is f args) → (c : Contract) → EachExposed Is no_marks c

@@ -1,5 +1,5 @@
 -- Right marks tell which contracts the empty trace performs, where the exposed applications of templates fit them.
-use Rattle.std.proofs.Common.{◌≡◌, ℕ, Bool, true, false, ◌||◌, ◌&&◌, List, [], length, map, refl, Option, Some, ◌⊎◌, inl, inr}
+use Rattle.std.proofs.Common.{◌≡◌, Bool, true, false, ◌||◌, List, [], length, map, refl, Some, ◌⊎◌, inl, inr}
 use Rattle.poets_value.specs.declared.value.Name.{Name}
 use Rattle.poets_expr.specs.Env.{Env}
 use Rattle.poets_expr.specs.Expression.{Expression}

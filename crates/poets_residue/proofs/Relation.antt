@@ -1,14 +1,16 @@
 -- Residuals as a relation.
-use Rattle.std.proofs.Common.{◌≡◌, List, [], ◌∷◌, length, refl, ap, ap₂, subst, Some}
+use Rattle.std.proofs.Common.{◌≡◌, refl, ap, ap₂, subst}
 use Rattle.poets_value.specs.declared.event.Event.{Event}
 use Rattle.poets_syntax.specs.Contract.{Contract}
-use Rattle.poets_syntax.specs.Book.{Definitions, Definition, template_in}
+use Rattle.poets_syntax.specs.Book.{Definitions}
 use Rattle.poets_syntax.specs.Replace.{replace}
 use Rattle.poets_syntax.specs.Marks.{Marks, AreRight}
 use Rattle.poets_syntax.specs.Normal.{normal, plus, par, seq}
 use Rattle.poets_syntax.specs.WellFormed.{IsWellFormed, IsDeclaredEvent, AreWellFormed}
 use Rattle.poets_syntax.specs.Residual.{After, argument_givens}
-use Rattle.poets_residue.proofs.Kept.{IsWellFormed-body}
+use Rattle.poets_norm.proofs.Parts.{kept_by_plus, kept_by_par, kept_by_seq}
+use Rattle.poets_norm.proofs.WellFormedness.{IsWellFormed-of_parts}
+use Rattle.poets_residue.proofs.Kept.{IsWellFormed-body, IsWellFormed-taken}
 use Rattle.poets_residue.proofs.Following.{Follows, Follows-success, Follows-failure, Follows-taken, Follows-refused, Follows-plus, Follows-par, Follows-over, Follows-seq, Follows-body}
 
 module _ (book : Definitions) (marks : Marks) (right : AreRight book marks) (formed : AreWellFormed book)
@@ -24,6 +26,29 @@ module _ (book : Definitions) (marks : Marks) (right : AreRight book marks) (for
   After-follows (After.Seq o a) h = Follows-seq book e o (After-follows a h.0)
   After-follows (After.Body {f = f} {args = args} {t = t} q l a) h =
       Follows-body book marks right e f args t (formed f t q) h q l (After-follows a (IsWellFormed-body book marks t args (formed f t q) h))
+
+-- it is well-formed
+pub IsWellFormed-After : (book : Definitions) (marks : Marks) → AreWellFormed book → (e : Event) → IsDeclaredEvent book.declared e →
+    {c r : Contract} → After book marks e c r → IsWellFormed book.declared c → IsWellFormed book.declared r
+IsWellFormed-After book marks formed e declared After.Success h = tt
+IsWellFormed-After book marks formed e declared After.Failure h = tt
+IsWellFormed-After book marks formed e declared (After.Taken {b = b} {c = c} q) h = IsWellFormed-taken book marks e declared b c h.1
+IsWellFormed-After book marks formed e declared (After.Refused q) h = tt
+IsWellFormed-After book marks formed e declared (After.Plus {r₁ = r₁} {r₂ = r₂} a b) h =
+    kept_by_plus (IsWellFormed book.declared) (IsWellFormed-of_parts book.declared) r₁ r₂
+    (IsWellFormed-After book marks formed e declared a h.0) (IsWellFormed-After book marks formed e declared b h.1)
+IsWellFormed-After book marks formed e declared (After.Par {c₁ = c₁} {c₂ = c₂} {r₁ = r₁} {r₂ = r₂} a b) h =
+    kept_by_plus (IsWellFormed book.declared) (IsWellFormed-of_parts book.declared) (par r₁ c₂) (par c₁ r₂)
+    (kept_by_par (IsWellFormed book.declared) (IsWellFormed-of_parts book.declared) r₁ c₂ (IsWellFormed-After book marks formed e declared a h.0) h.1)
+    (kept_by_par (IsWellFormed book.declared) (IsWellFormed-of_parts book.declared) c₁ r₂ h.0 (IsWellFormed-After book marks formed e declared b h.1))
+IsWellFormed-After book marks formed e declared (After.Over {c₂ = c₂} {r₁ = r₁} {r₂ = r₂} o a b) h =
+    kept_by_plus (IsWellFormed book.declared) (IsWellFormed-of_parts book.declared) (seq r₁ c₂) r₂
+    (kept_by_seq (IsWellFormed book.declared) (IsWellFormed-of_parts book.declared) r₁ c₂ (IsWellFormed-After book marks formed e declared a h.0) h.1)
+    (IsWellFormed-After book marks formed e declared b h.1)
+IsWellFormed-After book marks formed e declared (After.Seq {c₂ = c₂} {r₁ = r₁} o a) h =
+    kept_by_seq (IsWellFormed book.declared) (IsWellFormed-of_parts book.declared) r₁ c₂ (IsWellFormed-After book marks formed e declared a h.0) h.1
+IsWellFormed-After book marks formed e declared (After.Body {f = f} {args = args} {t = t} q l a) h =
+    IsWellFormed-After book marks formed e declared a (IsWellFormed-body book marks t args (formed f t q) h)
 
 -- there is one residual at most
 pub After-one : {book : Definitions} {marks : Marks} {e : Event} {c r r' : Contract} → After book marks e c r → After book marks e c r' → r ≡ r'

@@ -1,5 +1,5 @@
 -- Residuals after whole traces.
-use Rattle.std.proofs.Common.{◌≡◌, ℕ, List, [], ◌∷◌, ◌++◌, fold, length, refl, sym, ◌∙◌, subst, append-nil, ◌⊎◌, inl, inr, ◌↔◌}
+use Rattle.std.proofs.Common.{◌≡◌, ℕ, List, [], ◌∷◌, ◌++◌, fold, length, refl, sym, subst, append-nil, ◌↔◌}
 use Rattle.std.specs.List.{All}
 use Rattle.std.proofs.lemmas.List.Elements.{All-head, All-tail}
 use Rattle.std.proofs.lemmas.List.Sums.{fold-append}

@@ -1,5 +1,5 @@
 -- Residuals with so many unfoldings in a row.
-use Rattle.std.proofs.Common.{◌≡◌, ℕ, zero, suc, Bool, true, false, List, [], ◌∷◌, length, refl, sym, ◌∙◌, ap, ap₂, subst, Option, Some, None, ◌⊎◌, inl, inr}
+use Rattle.std.proofs.Common.{◌≡◌, ℕ, zero, suc, Bool, true, false, List, [], length, refl, sym, ◌∙◌, ap, ap₂, Option, Some, None, ◌⊎◌, inl, inr}
 use Rattle.poets_value.specs.declared.value.Name.{Name}
 use Rattle.poets_value.specs.declared.event.Event.{Event}
 use Rattle.poets_expr.specs.Expression.{Expression}
@@ -7,12 +7,10 @@ use Rattle.poets_expr.specs.Val.{val}
 use Rattle.poets_syntax.specs.Contract.{Contract}
 use Rattle.poets_syntax.specs.Contract as C
 use Rattle.poets_syntax.specs.Book.{Definitions, Definition, template_in, taken}
-use Rattle.poets_syntax.specs.Perf.{Perf, Holds}
-use Rattle.poets_syntax.specs.Replace.{replace}
 use Rattle.poets_syntax.specs.Marks.{Marks, AreRight, Nullable, nullable}
-use Rattle.poets_syntax.specs.Normal.{normal, plus, par, seq}
+use Rattle.poets_syntax.specs.Normal.{plus, par, seq}
 use Rattle.poets_syntax.specs.WellFormed.{IsWellFormed, IsDeclaredEvent, AreWellFormed, HaveDeclaredLiterals}
-use Rattle.poets_syntax.specs.Residual.{After, event_givens, argument_givens, is_true, after_by, after_at, body_of}
+use Rattle.poets_syntax.specs.Residual.{After, is_true, after_by, after_at, body_of}
 use Rattle.poets_syntax.specs.Exposed.{EachExposed}
 use Rattle.poets_syntax.proofs.Replacing.{truth}
 use Rattle.poets_syntax.proofs.Nullability.{nullable_in, true_holds, false_fails, EachExposed-weaker}

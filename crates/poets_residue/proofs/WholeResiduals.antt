@@ -1,13 +1,12 @@
 -- Residuals of whole contracts by whole events are whole.
-use Rattle.std.proofs.Common.{◌≡◌, ℕ, Bool, true, false, List, [], ◌∷◌, fold, length, refl, subst, Option, Some, None, ◌⊎◌, inl, inr}
+use Rattle.std.proofs.Common.{◌≡◌, ℕ, List, [], ◌∷◌, fold, length, subst, Some, inl, inr}
 use Rattle.std.specs.List.{All}
-use Rattle.std.proofs.lemmas.List.Elements.{All-nil, All-cons, All-head, All-tail, All-push, All-from_recursion}
+use Rattle.std.proofs.lemmas.List.Elements.{All-nil, All-head, All-tail, All-push, All-from_recursion}
 use Rattle.poets_value.specs.declared.value.Name.{Name}
 use Rattle.poets_value.specs.declared.event.Event.{Event}
 use Rattle.poets_value.specs.Whole.{IsWholeEvent, IsWholeTrace}
 use Rattle.poets_expr.specs.Env.{Declared, same_name}
 use Rattle.poets_expr.specs.Expression.{Expression}
-use Rattle.poets_expr.specs.Val.{val}
 use Rattle.poets_expr.specs.Whole.{IsWholeExpression, IsWholeOption, AreWholeGivens}
 use Rattle.poets_expr.proofs.WholeResults.{IsWhole-val}
 use Rattle.poets_syntax.specs.declared.term.Binders.{Binders}
@@ -18,7 +17,7 @@ use Rattle.poets_syntax.specs.Replace.{replace}
 use Rattle.poets_syntax.specs.Whole.{IsWholeContract, AreWholeDefinitions}
 use Rattle.poets_syntax.specs.Marks.{Marks}
 use Rattle.poets_syntax.specs.Normal.{normal}
-use Rattle.poets_syntax.specs.Residual.{event_givens, argument_givens, after, after_at, body_of, residual_after}
+use Rattle.poets_syntax.specs.Residual.{event_givens, argument_givens, after, after_at, residual_after}
 use Rattle.poets_syntax.proofs.Replacing.{truth}
 use Rattle.poets_syntax.proofs.WholeContracts.{IsWhole-replace}
 use Rattle.poets_norm.proofs.WholeNormals.{IsWhole-of_parts, IsWhole-normal}

@@ -1,5 +1,5 @@
 -- What residuals mean.
-use Rattle.std.specs.Prelude.{◌≡◌, ℕ, List, [], ◌∷◌, ◌++◌, All, ◌↔◌}
+use Rattle.std.specs.Prelude.{◌≡◌, ◌≢◌, ℕ, List, [], ◌∷◌, ◌++◌, All, ◌↔◌}
 use Rattle.poets_value.specs.declared.event.Event.{Event}
 use Rattle.poets_value.specs.Whole.{IsWholeEvent, IsWholeTrace}
 use Rattle.poets_syntax.specs.Contract.{Contract, Failure}
@@ -29,26 +29,30 @@ abbrev pub ResidualIs : Type 0
 ResidualIs = (d : ℕ) (book : Definitions) (marks : Marks) (e : Event) (c r : Contract) →
     AreRight book marks → UnfoldsWithin d book marks c → After book marks e c r → after_at d book marks e c ≡ r
 
--- with enough unfoldings the function's contract is performed by what may follow the event
+-- and what it gives is performed by what may follow the event
 abbrev pub ResidualAt : Type 0
 ResidualAt = (d : ℕ) (book : Definitions) (marks : Marks) (e : Event) (c : Contract) (s : List Event) (n : ℕ) →
     AreRight book marks → AreWellFormed book → IsDeclaredEvent book.declared e → IsWellFormed book.declared c →
     UnfoldsWithin d book marks c → May book [] (after_at d book marks e c) s n ↔ May book [] c (e ∷ s) n
 
--- the residual is well-formed
+-- it is well-formed
 abbrev pub ResidualWellFormed : Type 0
-ResidualWellFormed = (d : ℕ) (book : Definitions) (marks : Marks) (e : Event) (c : Contract) →
+ResidualWellFormed = (book : Definitions) (marks : Marks) (e : Event) (c r : Contract) →
+    AreWellFormed book → IsDeclaredEvent book.declared e → IsWellFormed book.declared c → After book marks e c r → IsWellFormed book.declared r
+
+abbrev pub ResidualAtWellFormed : Type 0
+ResidualAtWellFormed = (d : ℕ) (book : Definitions) (marks : Marks) (e : Event) (c : Contract) →
     AreWellFormed book → IsDeclaredEvent book.declared e → IsWellFormed book.declared c → IsWellFormed book.declared (after_at d book marks e c)
 
--- the residual of a whole contract by a whole event is whole
-abbrev pub ResidualWhole : Type 0
-ResidualWhole = (d : ℕ) (book : Definitions) (marks : Marks) (e : Event) (c : Contract) →
-    AreWholeDefinitions book → IsWholeEvent e → IsWholeContract c → IsWholeContract (after_at d book marks e c)
-
--- the residual of a normal form is a normal form
-abbrev pub ResidualNormal : Type 0
-ResidualNormal = (d : ℕ) (book : Definitions) (marks : Marks) (e : Event) (c : Contract) →
+-- of a normal form it is a normal form
+abbrev pub ResidualAtNormal : Type 0
+ResidualAtNormal = (d : ℕ) (book : Definitions) (marks : Marks) (e : Event) (c : Contract) →
     normal book marks c ≡ c → normal book marks (after_at d book marks e c) ≡ after_at d book marks e c
+
+-- of a whole contract by a whole event it is whole
+abbrev pub ResidualAtWhole : Type 0
+ResidualAtWhole = (d : ℕ) (book : Definitions) (marks : Marks) (e : Event) (c : Contract) →
+    AreWholeDefinitions book → IsWholeEvent e → IsWholeContract c → IsWholeContract (after_at d book marks e c)
 
 -- after a trace the residual is performed by what may follow the trace
 abbrev pub TraceFollowed : Type 0
@@ -67,6 +71,12 @@ abbrev pub TraceHopeless : Type 0
 TraceHopeless = (book : Definitions) (marks : Marks) (o : Contract) (s : List Event) →
     IsStudied book marks → IsWellFormed book.declared o → CountsFit book o → All (IsDeclaredEvent book.declared) s →
     (residual_after book marks o s ≡ Failure) ↔ ¬ ((n : ℕ) × May book [] o s n)
+
+-- and where it is not `Failure`, some number of granted steps finishes
+abbrev pub TraceHopeful : Type 0
+TraceHopeful = (book : Definitions) (marks : Marks) (o : Contract) (s : List Event) →
+    IsStudied book marks → IsWellFormed book.declared o → CountsFit book o → All (IsDeclaredEvent book.declared) s →
+    residual_after book marks o s ≢ Failure → (n : ℕ) × May book [] o s n
 
 -- after a trace the residual is well-formed, and the numbers of arguments in it fit
 abbrev pub TraceWellFormed : Type 0

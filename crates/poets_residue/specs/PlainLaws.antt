@@ -1,5 +1,5 @@
 -- What residuals mean in a book without templates, where each contract unfolds at once.
-use Rattle.std.specs.Prelude.{◌≡◌, ℕ, List, [], ◌∷◌, ◌++◌, All, ◌↔◌}
+use Rattle.std.specs.Prelude.{◌≡◌, ◌≢◌, ℕ, List, [], ◌∷◌, ◌++◌, All, ◌↔◌}
 use Rattle.poets_value.specs.declared.event.Event.{Event}
 use Rattle.poets_expr.specs.Env.{Declared}
 use Rattle.poets_syntax.specs.Contract.{Contract, Failure}
@@ -36,3 +36,9 @@ abbrev pub PlainTraceHopeless : Type 0
 PlainTraceHopeless = (declared : Declared) (o : Contract) (s : List Event) →
     IsWellFormed declared o → All (IsDeclaredEvent declared) s →
     (residual_after (plain declared) no_marks o s ≡ Failure) ↔ ¬ ((n : ℕ) × May (plain declared) [] o s n)
+
+-- and where it is not `Failure`, some number of granted steps finishes
+abbrev pub PlainTraceHopeful : Type 0
+PlainTraceHopeful = (declared : Declared) (o : Contract) (s : List Event) →
+    IsWellFormed declared o → All (IsDeclaredEvent declared) s →
+    residual_after (plain declared) no_marks o s ≢ Failure → (n : ℕ) × May (plain declared) [] o s n

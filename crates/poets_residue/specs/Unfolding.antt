@@ -1,7 +1,6 @@
 -- How often the templates of a contract are unfolded before an event is met.
-use Rattle.std.specs.Prelude.{◌≡◌, ℕ, zero, suc, List, length, Option, Some, None}
+use Rattle.std.specs.Prelude.{◌≡◌, ℕ, zero, suc, length, Some, None}
 use Rattle.poets_value.specs.declared.value.Name.{Name}
-use Rattle.poets_expr.specs.Expression.{Expression}
 use Rattle.poets_syntax.specs.Contract.{Contract}
 use Rattle.poets_syntax.specs.Book.{Definitions, Definition, template_in}
 use Rattle.poets_syntax.specs.Marks.{Marks, AreRight}

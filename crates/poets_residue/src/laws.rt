@@ -1,6 +1,6 @@
 //! The laws of residuals, each carried by a function that does nothing.
-ghost use Rattle.poets_residue.specs.Laws.{ResidualFollows, ResidualOne, ResidualIs, ResidualAt, ResidualWellFormed, ResidualNormal, ResidualWhole, TraceFollowed, TracePerformed, TraceHopeless, TraceWellFormed, TraceNormal, TraceWhole};
-ghost use Rattle.poets_residue.specs.PlainLaws.{PlainStudied, PlainResidual, PlainTraceFollowed, PlainTracePerformed, PlainTraceHopeless};
+ghost use Rattle.poets_residue.specs.Laws.{ResidualFollows, ResidualOne, ResidualIs, ResidualAt, ResidualWellFormed, ResidualAtWellFormed, ResidualAtNormal, ResidualAtWhole, TraceFollowed, TracePerformed, TraceHopeless, TraceHopeful, TraceWellFormed, TraceNormal, TraceWhole};
+ghost use Rattle.poets_residue.specs.PlainLaws.{PlainStudied, PlainResidual, PlainTraceFollowed, PlainTracePerformed, PlainTraceHopeless, PlainTraceHopeful};
 
 /// The residual is performed by what may follow the event.
 pub fn residual_follows()
@@ -17,24 +17,17 @@ pub fn residual_is()
     ensures { ResidualIs }
 {}
 
-/// With enough unfoldings the function's contract is performed by what may follow the event.
+/// With enough unfoldings what the function gives is performed by what may follow the event.
 pub fn residual_at()
     ensures { ResidualAt }
 {}
 
-/// The residual of a well-formed contract is well-formed.
+/// The residual of a well-formed contract is well-formed, that of a normal form a normal form, and that of a whole contract whole.
 pub fn residual_well_formed()
-    ensures { ResidualWellFormed }
-{}
-
-/// The residual of a normal form is a normal form.
-pub fn residual_normal()
-    ensures { ResidualNormal }
-{}
-
-/// The residual of a whole contract by a whole event is whole.
-pub fn residual_whole()
-    ensures { ResidualWhole }
+    ensures formed { ResidualWellFormed }
+    ensures formed_at { ResidualAtWellFormed }
+    ensures normal_at { ResidualAtNormal }
+    ensures whole_at { ResidualAtWhole }
 {}
 
 /// After a trace the residual is performed by what may follow the trace.
@@ -43,12 +36,13 @@ pub fn trace_followed()
     ensures performed { TracePerformed }
 {}
 
-/// After a trace the residual is `Failure` exactly where nothing can finish.
+/// After a trace the residual is `Failure` exactly where nothing can finish; where it is not, something can.
 pub fn trace_hopeless()
-    ensures { TraceHopeless }
+    ensures hopeless { TraceHopeless }
+    ensures hopeful { TraceHopeful }
 {}
 
-/// After a trace the residual is a well-formed normal form.
+/// After a trace the residual is a normal form, well-formed and whole.
 pub fn trace_well_formed()
     ensures formed { TraceWellFormed }
     ensures normal { TraceNormal }
@@ -70,4 +64,5 @@ pub fn plain_traces()
     ensures may { PlainTraceFollowed }
     ensures performed { PlainTracePerformed }
     ensures hopeless { PlainTraceHopeless }
+    ensures hopeful { PlainTraceHopeful }
 {}

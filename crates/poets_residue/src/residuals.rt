@@ -1,6 +1,6 @@
 //! Residuals.
-ghost use Rattle.std.specs.Prelude.{◌≡◌, ◌+◌, ◌≤◌, IfOk, reverse, []};
-ghost use Rattle.poets_expr.specs.Env.{declared_of};
+ghost use Rattle.std.specs.Prelude.{◌≡◌, ◌+◌, ◌≤◌, IfOk, IsTrue, reverse, []};
+ghost use Rattle.poets_expr.specs.Env.{Declared, declared_of};
 ghost use Rattle.poets_expr.specs.Expression.{expression_of};
 ghost use Rattle.poets_expr.specs.Val.{val};
 ghost use Rattle.poets_syntax.specs.Book.{taken};
@@ -10,10 +10,12 @@ ghost use Rattle.poets_syntax.specs.Plain.{plain, no_marks};
 ghost use Rattle.poets_syntax.specs.Replace.{replace};
 ghost use Rattle.poets_syntax.specs.Residual.{event_givens as event_givens_lem, after, is_true};
 ghost use Rattle.poets_syntax.specs.Width.{width};
+ghost use Rattle.poets_value.specs.declared.event.Event.{Event as TheEvent};
+ghost use Rattle.poets_norm.specs.Choices.{distinct_choice as distinct_choice_lem, IsDistinctChoice};
 
 use crate::endings::nullable;
 use poets_expr::{Asks, Decls, Env, Expr, Given, eval};
-use poets_norm::{normal, par, plus, seq};
+use poets_norm::{distinct_choice, merge, normal, par, plus, seq};
 use poets_syntax::{Binders, Term, copy, subst};
 use poets_value::{Event, Memory, Name, Ty, Value};
 use std::alloc::Global;
@@ -74,6 +76,46 @@ fn holds<L>(
         Some(Value::Bool(answer)) => answer,
         _ => false,
     }
+}
+
+// Whether the residuals of the contract are choices of those of its parts, and so of distinct alternatives.
+fn is_joined(term: &Term) -> bool
+    ensures { IsTrue result → (declared : Declared) (e : TheEvent) → IsDistinctChoice (after (plain declared) no_marks e (contract_of term.now)) }
+{
+    match term {
+        Term::Plus(..) => true,
+        Term::Par(..) => true,
+        Term::Seq(a, _) => nullable(a),
+        _ => false,
+    }
+}
+
+// The choice of the distinct alternatives of a contract, which may be known to be one.
+fn as_choice(alloc: Global, term: Term, is_known: bool) -> Result<Term, Memory>
+    requires { IsTrue is_known → IsDistinctChoice (contract_of term) }
+    ensures { IfOk result (λ r. contract_of r ≡ distinct_choice_lem (contract_of term)) }
+{
+    if is_known {
+        return Ok(term);
+    }
+    distinct_choice(alloc, term)
+}
+
+// The choice of two contracts, which may be known to be choices of distinct alternatives.
+fn either(
+    alloc: Global,
+    a: Term,
+    is_a_known: bool,
+    b: Term,
+    is_b_known: bool,
+) -> Result<Term, Memory>
+    requires first { IsTrue is_a_known → IsDistinctChoice (contract_of a) }
+    requires second { IsTrue is_b_known → IsDistinctChoice (contract_of b) }
+    ensures { IfOk result (λ r. contract_of r ≡ plus_lem (contract_of a) (contract_of b)) }
+{
+    let a = as_choice(alloc, a, is_a_known)?;
+    let b = as_choice(alloc, b, is_b_known)?;
+    merge(alloc, a, b)
 }
 
 // The event went to the first part, or to the second.
@@ -139,9 +181,9 @@ pub fn residual<L>(
             taken_on(alloc, decls, binders, then, event)
         }
         Term::Plus(a, b) => {
-            let a = residual(alloc, decls, a, event, asks)?;
-            let b = residual(alloc, decls, b, event, asks)?;
-            plus(alloc, a, b)
+            let after_a = residual(alloc, decls, a, event, asks)?;
+            let after_b = residual(alloc, decls, b, event, asks)?;
+            either(alloc, after_a, is_joined(a), after_b, is_joined(b))
         }
         Term::Par(a, b) => {
             let after_a = residual(alloc, decls, a, event, asks)?;
@@ -155,7 +197,7 @@ pub fn residual<L>(
                 return Ok(first);
             }
             let after_b = residual(alloc, decls, b, event, asks)?;
-            plus(alloc, first, after_b)
+            either(alloc, first, false, after_b, is_joined(b))
         }
         Term::App { .. } => Ok(Term::Failure),
     }

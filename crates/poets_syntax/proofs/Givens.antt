@@ -1,13 +1,11 @@
 -- What names are replaced by: the parts of an event, and the values of arguments.
-use Rattle.std.proofs.Common.{◌≡◌, List, [], ◌∷◌, ◌++◌, map, refl, ◌∙◌, ap, Option, Some, None, inl, inr}
+use Rattle.std.proofs.Common.{◌≡◌, List, [], ◌∷◌, ◌++◌, map, refl, ◌∙◌, ap, inl, inr}
 use Rattle.std.proofs.lemmas.List.{map-append}
 use Rattle.poets_value.specs.declared.event.Event.{Event}
-use Rattle.poets_value.specs.declared.value.Value.{Value}
-use Rattle.poets_value.specs.declared.value.Value.TheVariants as V
 use Rattle.poets_expr.specs.Expression.{Expression}
 use Rattle.poets_expr.specs.Env.{Declared}
 use Rattle.poets_expr.specs.Val.{val}
-use Rattle.poets_expr.specs.Subst.{Givens, IsDeclared}
+use Rattle.poets_expr.specs.Subst.{Givens}
 use Rattle.poets_expr.specs.Fold.{HasDeclaredNames}
 use Rattle.poets_expr.proofs.FoldClosed.{known-val, IsDeclared-names}
 use Rattle.poets_syntax.specs.declared.term.Binders.{Binders}

@@ -10,3 +10,4 @@ pub mod Nullability
 pub mod Copying
 pub mod Inversions
 pub mod WholeContracts
+pub mod Typedness

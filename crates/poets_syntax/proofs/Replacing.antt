@@ -1,5 +1,5 @@
 -- A contract whose names were replaced says what it says under their values.
-use Rattle.std.proofs.Common.{◌≡◌, suc, Bool, true, false, ◌||◌, List, [], ◌∷◌, ◌++◌, length, map, refl, sym, ◌∙◌, ap, ap₂, Option, Some, None, ◌⊎◌, inl, inr, if◌then◌else◌}
+use Rattle.std.proofs.Common.{◌≡◌, suc, Bool, true, false, ◌||◌, List, [], ◌∷◌, length, map, refl, sym, ◌∙◌, ap, ap₂, Option, Some, None, inl, inr, if◌then◌else◌}
 use Rattle.poets_value.specs.declared.value.Name.{Name}
 use Rattle.poets_value.specs.declared.value.Value.TheVariants as V
 use Rattle.poets_value.specs.declared.value.Ty.{Ty}
@@ -14,8 +14,7 @@ use Rattle.poets_expr.proofs.SameTrees.{name_one}
 use Rattle.poets_syntax.specs.declared.term.Binders.{Binders}
 use Rattle.poets_syntax.specs.Contract.{Contract}
 use Rattle.poets_syntax.specs.Book.{BinderValues, bound}
-use Rattle.poets_syntax.specs.Replace.{binds, without, replace, AreUndeclared, BindersAreUndeclared, AreDeclared, env_of}
-use Rattle.poets_expr.specs.Fold.{KeepsDeclared}
+use Rattle.poets_syntax.specs.Replace.{binds, without, replace, AreUndeclared, BindersAreUndeclared, AreDeclared}
 use Rattle.poets_syntax.proofs.Alike.{Alike}
 
 -- one of four tests, or what comes after

@@ -1,5 +1,5 @@
 -- The test for equal contracts is right.
-use Rattle.std.proofs.Common.{◌≡◌, ◌↔◌, ℕ, Bool, true, false, ◌&&◌, nat_eq, IsTrue, List, [], ◌∷◌, refl, sym, ◌∙◌, ap, ap₂, eq-eqb}
+use Rattle.std.proofs.Common.{◌≡◌, ◌↔◌, ℕ, true, ◌&&◌, nat_eq, IsTrue, List, [], ◌∷◌, refl, sym, ◌∙◌, ap, ap₂, eq-eqb}
 use Rattle.poets_expr.specs.Expression.{Expression}
 use Rattle.poets_expr.specs.Env.{same_name}
 use Rattle.poets_expr.specs.Same.{same}

@@ -1,5 +1,5 @@
 -- Replacing names by whole values keeps contracts whole.
-use Rattle.std.proofs.Common.{List, map, not}
+use Rattle.std.proofs.Common.{not}
 use Rattle.std.proofs.lemmas.List.Elements.{All-map, All-filter, All-weaker}
 use Rattle.poets_expr.specs.Subst.{Givens, subst}
 use Rattle.poets_expr.specs.Whole.{IsWholeExpression, IsWholeOption, AreWholeGivens}

@@ -1,5 +1,6 @@
 -- The laws of performing, of granted steps, and of replacing names, as statements.
 use Rattle.std.specs.Prelude.{◌≡◌, ℕ, ◌+◌, true, List, [], ◌++◌, length, ◌↔◌}
+use Rattle.poets_value.specs.declared.value.Name.{Name}
 use Rattle.poets_value.specs.declared.event.Event.{Event}
 use Rattle.poets_expr.specs.Env.{Env}
 use Rattle.poets_expr.specs.Subst.{Givens}
@@ -14,6 +15,9 @@ use Rattle.poets_syntax.specs.Whole.{IsWholeContract}
 use Rattle.poets_syntax.specs.Applied.{ApplicationsFit}
 use Rattle.poets_syntax.specs.Replace.{replace, env_of, AreDeclared, BindersAreUndeclared}
 use Rattle.poets_syntax.specs.Marks.{Marks, AreRight, Nullable, Hopeful, nullable}
+use Rattle.poets_syntax.specs.TypeOf.{Scope}
+use Rattle.poets_syntax.specs.Typed.{IsTyped}
+use Rattle.poets_syntax.specs.WellFormed.{IsWellFormed}
 
 -- with no granted step, to be performed perhaps is to be performed
 abbrev pub NothingGranted : Type 0
@@ -65,3 +69,8 @@ ReplacedPerformed = (book : Definitions) (given : Givens) (env : Env) (c : Contr
 -- a whole contract stays whole where names are replaced by whole values
 abbrev pub ReplacedIsWhole : Type 0
 ReplacedIsWhole = (given : Givens) (c : Contract) → AreWholeGivens given → IsWholeContract c → IsWholeContract (replace given c)
+
+-- a typed contract binds no declared name, and its literals are of declared kinds
+abbrev pub TypedIsWellFormed : Type 0
+TypedIsWellFormed = (book : Definitions) (reports : List Name) (scope : Scope) (c : Contract) →
+    IsTyped book reports scope c → IsWellFormed book.declared c

@@ -16,4 +16,6 @@ pub mod Residual
 pub mod Exposed
 pub mod Width
 pub mod Plain
+pub mod TypeOf
+pub mod Typed
 pub mod Examples

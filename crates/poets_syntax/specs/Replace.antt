@@ -1,5 +1,5 @@
 -- Names in contracts that are replaced by literals.
-use Rattle.std.specs.Prelude.{◌≡◌, Bool, not, ◌||◌, [], ◌∷◌, map, filter, None}
+use Rattle.std.specs.Prelude.{◌≡◌, Bool, not, ◌||◌, map, filter, None}
 use Rattle.poets_value.specs.declared.value.Name.{Name}
 use Rattle.poets_expr.specs.Env.{Declared, same_name}
 use Rattle.poets_expr.specs.Subst.{Givens, subst}

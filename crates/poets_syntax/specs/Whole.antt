@@ -1,6 +1,5 @@
 -- What is whole: each number in it is a whole number of the language, and each day one of its days.
-use Rattle.std.specs.Prelude.{◌≡◌, List, All, Option, Some}
-use Rattle.poets_value.specs.declared.value.Name.{Name}
+use Rattle.std.specs.Prelude.{All}
 use Rattle.poets_expr.specs.Whole.{IsWholeExpression}
 use Rattle.poets_syntax.specs.Contract.{Contract, Success, Failure, Transmit, Plus, Par, Seq, App}
 use Rattle.poets_syntax.specs.Book.{Definitions}

@@ -1,5 +1,5 @@
 //! The laws of `Perf` and `May`, each carried by a function that does nothing.
-ghost use Rattle.poets_syntax.specs.Laws.{NothingGranted, RestGranted, AllGranted, GrantedAnywhere, GrantedByShape, NullableByShape, HopefulByShape, NullableByMarks, ReplacedAlike, ReplacedPerformed, ReplacedIsWhole};
+ghost use Rattle.poets_syntax.specs.Laws.{NothingGranted, RestGranted, AllGranted, GrantedAnywhere, GrantedByShape, NullableByShape, HopefulByShape, NullableByMarks, ReplacedAlike, ReplacedPerformed, ReplacedIsWhole, TypedIsWellFormed};
 
 /// With no granted step, what may be performed is what is performed.
 pub fn nothing_granted()
@@ -50,4 +50,9 @@ pub fn replaced_performed()
 /// Whole contracts stay whole.
 pub fn replaced_whole()
     ensures { ReplacedIsWhole }
+{}
+
+/// A typed contract is well-formed, which the other laws ask for.
+pub fn typed_well_formed()
+    ensures { TypedIsWellFormed }
 {}

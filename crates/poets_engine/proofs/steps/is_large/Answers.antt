@@ -1,4 +1,3 @@
-use Rattle.std.proofs.Common.{rules, ◌≡◌}
 use Rattle.poets_expr.specs.Env.{declared_of}
 use Rattle.poets_engine.proofs.Owed.{nat_lt-cut}
 use Rattle.poets_engine.proofs.steps.is_large.Goals as goal

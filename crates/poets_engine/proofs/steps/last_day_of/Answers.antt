@@ -1,4 +1,4 @@
-use Rattle.std.proofs.Common.{rules, ◌≡◌, Some, None}
+use Rattle.std.proofs.Common.{Some, None}
 use Rattle.poets_engine.proofs.Days.{last_day_is}
 use Rattle.poets_engine.proofs.steps.last_day_of.Goals as goal
 

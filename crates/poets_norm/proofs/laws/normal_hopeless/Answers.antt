@@ -1,4 +1,4 @@
-use Rattle.std.proofs.Common.{◌≡◌, List, [], refl}
+use Rattle.std.proofs.Common.{[], refl}
 use Rattle.poets_syntax.specs.Normal.{normal}
 use Rattle.poets_norm.proofs.Hope.{IsFailureOrHopeful-normal, failure_is_hopeless, hopeless_is_failure}
 use Rattle.poets_norm.proofs.Meaning.{normal_in, normal_out}

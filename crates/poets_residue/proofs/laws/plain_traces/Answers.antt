@@ -1,7 +1,7 @@
 use Rattle.poets_syntax.specs.Plain.{plain, no_marks}
 use Rattle.poets_norm.proofs.NoTemplates.{CountsFit-plain}
 use Rattle.poets_residue.proofs.NoTemplates.{IsStudied-plain}
-use Rattle.poets_residue.proofs.Traces.{trace_followed, trace_performed, trace_hopeless}
+use Rattle.poets_residue.proofs.Traces.{trace_followed, trace_performed, trace_hopeless, trace_hopeful}
 use Rattle.poets_residue.proofs.laws.plain_traces.Goals as goal
 
 pub returns-clause-may : goal.returns-clause-may
@@ -15,3 +15,7 @@ returns-clause-performed c = λ declared o s s' formed events.
 pub returns-clause-hopeless : goal.returns-clause-hopeless
 returns-clause-hopeless c = λ declared o s formed events.
     trace_hopeless (plain declared) no_marks (IsStudied-plain declared) o formed (CountsFit-plain declared o) s events
+
+pub returns-clause-hopeful : goal.returns-clause-hopeful
+returns-clause-hopeful c = λ declared o s formed events.
+    trace_hopeful (plain declared) no_marks (IsStudied-plain declared) o formed (CountsFit-plain declared o) s events

@@ -1,4 +1,4 @@
-use Rattle.std.proofs.Common.{rules, ◌≡◌, ap}
+use Rattle.std.proofs.Common.{ap}
 use Rattle.poets_engine.specs.State.{frame_by, plain_calls, commands_of}
 use Rattle.poets_engine.proofs.Histories.{empty_stands}
 use Rattle.poets_engine.proofs.engine.Engine.new.Goals as goal

@@ -1,0 +1,13 @@
+pub mod Joining
+pub mod Steps
+pub mod TestLists
+pub mod Chains
+pub mod Choices
+pub mod NameLists
+pub mod Statements
+pub mod Transmissions
+pub mod NoEnds
+pub mod Texts
+pub mod Typings
+pub mod Declaring
+pub mod Forms

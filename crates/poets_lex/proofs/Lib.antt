@@ -1,0 +1,10 @@
+pub mod Decimal
+pub mod Found
+pub mod Fronts
+pub mod FirstBytes
+pub mod Lexemes
+pub mod OnePiece
+pub mod OneWay
+pub mod Readings
+pub mod Standing
+pub mod TextsApart

@@ -1,0 +1,30 @@
+//! Texts cut into tokens.
+ghost use Rattle.std.specs.Prelude.{◌≡◌, ◌≢◌, ◌+◌, ◌<◌, ◌^◌, ◌≤◌, length, IfOk, IfErr};
+ghost use Rattle.poets_lex.specs.Table.{Extends};
+ghost use Rattle.poets_lex.specs.Lexes.{Lexes, FirstFault};
+
+use crate::piece::take_piece;
+use crate::{LexFault, Names, Token};
+use poets_value::List;
+use std::alloc::Global;
+
+/// The tokens of the text, whose names are numbered on from those of the table.
+///
+/// After a fault the names that were read before it may stand in the table, behind those that were there.
+pub fn tokens(alloc: Global, text: &[u8], names: &mut Names) -> Result<List<Token>, LexFault>
+    requires { length text.now + length names.old < 2 ^ 32 }
+    ensures ok { IfOk result (λ tokens. Lexes names.old text.now 0 tokens.items names.new) }
+    ensures fault { IfErr result (λ fault. fault ≢ LexFault.Memory → FirstFault names.old text.now fault) }
+    ensures names { Extends names.old names.new }
+    ensures few { length names.new ≤ length names.old + length text.now }
+{
+    let mut tokens = List::new(alloc);
+    let mut rest = text;
+    let mut place = 0;
+    while !rest.is_empty() {
+        let size = take_piece(rest, place, names, &mut tokens)?;
+        rest = &rest[size..];
+        place += size as u32;
+    }
+    Ok(tokens)
+}

@@ -1,0 +1,7 @@
+use Rattle.std.proofs.Common.{◌≡◌, ◌++◌, string_bytes, take}
+use Rattle.poets_print.specs.Texts.{behind_commas}
+use Rattle.poets_print.specs.Lines.{row_text}
+use Rattle.poets_print.proofs.replies.put_rest.Given as goal
+
+abbrev pub invariant-loop-row : goal.invariant-loop-row
+invariant-loop-row l = string_bytes l.out ≡ string_bytes l.initial.out ++ behind_commas (row_text l.names) (take l.row-index l.rows)

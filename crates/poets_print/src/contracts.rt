@@ -1,0 +1,120 @@
+//! The texts of contracts.
+ghost use Rattle.std.specs.Prelude.{◌≡◌, ◌++◌, [], OnOk, IfOk, string_bytes, map, codes, nat_lt, nat_le};
+ghost use Rattle.poets_expr.specs.Expression.{expression_of};
+ghost use Rattle.poets_syntax.specs.Contract.{contract_of};
+ghost use Rattle.poets_print.specs.Levels.{contract_level as contract_level_lem};
+ghost use Rattle.poets_print.specs.Texts.{expression_text, contract_text, bracketed, call_text, behind_commas, listed, binders_text};
+
+use crate::expressions::put_expression;
+use crate::levels::contract_level;
+use crate::pieces::{put, put_name};
+use poets_expr::Expr;
+use poets_lex::Names;
+use poets_syntax::{Binders, Term};
+use poets_value::{List, Memory, Name};
+use std::alloc::Global;
+
+// Puts the four names that a transmit binds.
+fn put_binders(out: &mut String, names: &Names, binders: &Binders) -> Result<(), Memory>
+    ensures { OnOk result (string_bytes out.new ≡ string_bytes out.old ++ binders_text names.now binders.now) }
+{
+    put_name(out, names, binders.sender)?;
+    put(out, ", ")?;
+    put_name(out, names, binders.receiver)?;
+    put(out, ", ")?;
+    put_name(out, names, binders.what)?;
+    put(out, ", ")?;
+    put_name(out, names, binders.day)
+}
+
+// Puts each argument behind a comma.
+fn put_rest(out: &mut String, names: &Names, args: &[Expr]) -> Result<(), Memory>
+    ensures { OnOk result (string_bytes out.new ≡ string_bytes out.old ++ behind_commas (expression_text names.now) (map expression_of args.now)) }
+{
+    for arg in args {
+        put(out, ", ")?;
+        put_expression(out, names, arg)?;
+    }
+    Ok(())
+}
+
+/// Puts a name with its arguments, as `f(x, y)`.
+pub(crate) fn put_call(
+    out: &mut String,
+    names: &Names,
+    name: Name,
+    args: &List<Expr>,
+) -> Result<(), Memory>
+    ensures { OnOk result (string_bytes out.new ≡ string_bytes out.old ++ call_text names.now name (map expression_of args.now.items)) }
+{
+    put_name(out, names, name)?;
+    put(out, "(")?;
+    if let [first, rest @ ..] = args.as_slice() {
+        put_expression(out, names, first)?;
+        put_rest(out, names, rest)?;
+    }
+    put(out, ")")
+}
+
+/// Puts a contract.
+#[cycle(contract)]
+pub(crate) fn put_contract(out: &mut String, names: &Names, term: &Term) -> Result<(), Memory>
+    ensures { OnOk result (string_bytes out.new ≡ string_bytes out.old ++ contract_text names.now (contract_of term.now)) }
+{
+    match term {
+        Term::Success => put(out, "Success"),
+        Term::Failure => put(out, "Failure"),
+        Term::Transmit {
+            binders,
+            when,
+            then,
+        } => {
+            put(out, "transmit(")?;
+            put_binders(out, names, binders)?;
+            put(out, " | ")?;
+            put_expression(out, names, when)?;
+            put(out, "). ")?;
+            put_part(out, names, contract_level(then) < 4, then)
+        }
+        Term::Plus(left, right) => {
+            put_part(out, names, contract_level(left) < 1, left)?;
+            put(out, " + ")?;
+            put_part(out, names, contract_level(right) <= 1, right)
+        }
+        Term::Par(left, right) => {
+            put_part(out, names, contract_level(left) < 2, left)?;
+            put(out, " || ")?;
+            put_part(out, names, contract_level(right) <= 2, right)
+        }
+        Term::Seq(left, right) => {
+            put_part(out, names, contract_level(left) < 3, left)?;
+            put(out, " ; ")?;
+            put_part(out, names, contract_level(right) <= 3, right)
+        }
+        Term::App { name, args } => put_call(out, names, *name, args),
+    }
+}
+
+// Puts a part of a contract, in brackets or not.
+#[cycle(contract)]
+fn put_part(out: &mut String, names: &Names, in_brackets: bool, part: &Term) -> Result<(), Memory>
+    ensures { OnOk result (string_bytes out.new ≡ string_bytes out.old ++ bracketed in_brackets (contract_text names.now (contract_of part.now))) }
+{
+    if !in_brackets {
+        return put_contract(out, names, part);
+    }
+    put(out, "(")?;
+    put_contract(out, names, part)?;
+    put(out, ")")
+}
+
+/// The text of a contract.
+///
+/// A name that the table does not have prints as nothing.
+pub fn term_text(alloc: Global, names: &Names, term: &Term) -> Result<String, Memory>
+    ensures { IfOk result (λ text. string_bytes text ≡ contract_text names.now (contract_of term.now)) }
+{
+    let mut text = String::new(alloc);
+    put_contract(&mut text, names, term)?;
+    Ok(text)
+}

@@ -1,0 +1,19 @@
+//! The printed texts of contracts, commands, replies and lines, by `docs/LANGUAGE.md`, "What is printed".
+//!
+//! A text is written from front to back at the end of one string, so the time is linear in its length.
+#![tactic(auto)]
+
+mod contracts;
+mod expressions;
+mod levels;
+mod lines;
+mod pieces;
+mod replies;
+mod requests;
+#[cfg(test)]
+mod tests;
+
+pub use contracts::term_text;
+pub use lines::line_text;
+pub use replies::reply_text;
+pub use requests::command_text;

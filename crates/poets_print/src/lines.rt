@@ -1,0 +1,30 @@
+//! The lines of a history.
+ghost use Rattle.std.specs.Prelude.{◌≡◌, ◌++◌, OnOk, IfOk, string_bytes};
+ghost use Rattle.poets_call.specs.Calls.{entry_of};
+ghost use Rattle.poets_print.specs.Lines.{line_text as line_text_lem};
+
+use crate::pieces::{put, put_count};
+use crate::replies::put_reply;
+use crate::requests::put_command;
+use poets_call::Entry;
+use poets_lex::Names;
+use poets_value::Memory;
+use std::alloc::Global;
+
+/// The line of the entry with that number in a history, with its line feed.
+///
+/// A name that the table does not have prints as nothing.
+pub fn line_text(alloc: Global, names: &Names, number: u64, entry: &Entry) -> Result<String, Memory>
+    ensures { IfOk result (λ text. string_bytes text ≡ line_text_lem names.now number (entry_of entry.now)) }
+{
+    let mut text = String::new(alloc);
+    put_count(&mut text, number)?;
+    put(&mut text, " ")?;
+    put_count(&mut text, entry.clerk as u64)?;
+    put(&mut text, ": ")?;
+    put_command(&mut text, names, &*entry.command)?;
+    put(&mut text, " => ")?;
+    put_reply(&mut text, names, &entry.reply)?;
+    put(&mut text, "\n")?;
+    Ok(text)
+}

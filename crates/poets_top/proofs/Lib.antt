@@ -1,0 +1,5 @@
+pub mod OneWord
+pub mod Noting
+pub mod Lines
+pub mod Sessions
+pub mod Endings

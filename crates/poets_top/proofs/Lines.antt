@@ -1,0 +1,87 @@
+-- The lines of a history, as they are written one by one.
+use Rattle.std.proofs.Common.{◌≡◌, ℕ, suc, ◌+◌, ◌<◌, List, [], ◌∷◌, ◌++◌, length, take, drop, get_or, Option, Result, Ok, Err, OnErr, refl, sym, ◌∙◌, ap, subst, arith, append_assoc, append-nil, length-append}
+use Rattle.std.proofs.Math.Seq.{take-append-add}
+use Rattle.std.proofs.lemmas.List.{take_more, take-append-drop, take-append-le, map-append, length-map, length-take-le}
+use Rattle.std.specs.Io.KnownBytes.{Appends}
+use Rattle.std.proofs.KnownBytes.{Appends-trans, Appends-nil}
+use Rattle.poets_io.specs.Streams.{AppendsPart}
+use Rattle.poets_lex.specs.Table.{Table}
+use Rattle.poets_call.specs.declared.call.Entry.{Entry}
+use Rattle.poets_call.specs.Calls.{HistoryEntry, entry_of, history_of}
+use Rattle.poets_print.specs.Lines.{line_text, lines_from, history_text}
+
+lines_from-append : (names : Table) (n : ℕ) (a b : List HistoryEntry) → lines_from names n (a ++ b) ≡ lines_from names n a ++ lines_from names (n + length a) b
+lines_from-append names n [] b = ap (λ m. lines_from names m b) (let e : n ≡ n + 0 = omega arith in e)
+lines_from-append names n (x ∷ a) b =
+    let e : n + 1 + length a ≡ n + suc (length a) = omega arith in
+    ap (λ l. line_text names n x ++ l) (lines_from-append names (n + 1) a b ∙ ap (λ m. lines_from names (n + 1) a ++ lines_from names m b) e)
+    ∙ sym (append_assoc (line_text names n x) (lines_from names (n + 1) a) (lines_from names (n + suc (length a)) b))
+
+last_some : (xs : List ℕ) (x : ℕ) → 0 < length (xs ++ x ∷ [])
+last_some xs x = omega (arith, length-append xs (x ∷ []))
+
+-- a line ends with LF
+line_text-some : (names : Table) (n : ℕ) (e : HistoryEntry) → 0 < length (line_text names n e)
+line_text-some names n e = last_some _ 10
+
+-- the text of the first entries
+abbrev pub front_text : Table → ℕ → List Entry → List ℕ
+front_text names i entries = history_text names (history_of (take i entries))
+
+-- one line more
+front_text-more : (names : Table) (i : ℕ) (entries : List Entry) (e : Entry) → i < length entries → e ≡ get_or entries i e →
+    front_text names (i + 1) entries ≡ front_text names i entries ++ line_text names (i + 1) (entry_of e)
+front_text-more names i entries e lt at =
+    let front = history_of (take i entries) in
+    let many : length front ≡ i = length-map (take i entries) entry_of ∙ length-take-le i entries (omega (arith, lt)) in
+    let place : 1 + length front ≡ i + 1 = omega (arith, many) in
+    ap (λ es. history_text names (history_of es)) (take_more entries i e lt ∙ ap (λ x. take i entries ++ x ∷ []) (sym at))
+    ∙ ap (history_text names) (map-append entry_of (take i entries) (e ∷ []))
+    ∙ lines_from-append names 1 front (entry_of e ∷ [])
+    ∙ ap (λ l. history_text names front ++ l) (append-nil (line_text names (1 + length front) (entry_of e)) ∙ ap (λ n. line_text names n (entry_of e)) place)
+
+-- the first lines, and those behind them
+front_text-rest : (names : Table) (i : ℕ) (entries : List Entry) →
+    history_text names (history_of entries) ≡ front_text names i entries ++ lines_from names (1 + length (history_of (take i entries))) (history_of (drop i entries))
+front_text-rest names i entries =
+    ap (λ es. history_text names (history_of es)) (sym (take-append-drop i entries))
+    ∙ ap (history_text names) (map-append entry_of (take i entries) (drop i entries))
+    ∙ lines_from-append names 1 (history_of (take i entries)) (history_of (drop i entries))
+
+-- a front was written, and then a part of what stands behind it
+AppendsPart-behind : (a b c : Option (List ℕ)) (front line rest whole : List ℕ) → whole ≡ (front ++ line) ++ rest → Appends a b front → AppendsPart b c line → AppendsPart a c whole
+AppendsPart-behind a b c front line rest whole e p q = record {
+  taken = length front + q.taken;
+  short = let n = ap length e ∙ length-append (front ++ line) rest in omega (arith, n, length-append front line, q.short);
+  bytes =
+      let within : take q.taken (line ++ rest) ≡ take q.taken line = take-append-le q.taken line rest (omega (arith, q.short)) in
+      let split : take (length front + q.taken) whole ≡ front ++ take q.taken line =
+      ap (take (length front + q.taken)) (e ∙ append_assoc front line rest) ∙ take-append-add front (line ++ rest) q.taken ∙ ap (λ l. front ++ l) within in
+      subst (Appends a c) (sym split) (Appends-trans a b c front (take q.taken line) p q.bytes);
+}
+
+-- the next line was written
+pub Appends-line : (names : Table) (i : ℕ) (entries : List Entry) (e : Entry) (a b c : Option (List ℕ)) (line : List ℕ) → i < length entries → e ≡ get_or entries i e →
+    line ≡ line_text names (i + 1) (entry_of e) → Appends a b (front_text names i entries) → Appends b c line → Appends a c (front_text names (i + 1) entries)
+Appends-line names i entries e a b c line lt at is p q =
+    subst (Appends a c) (ap (λ l. front_text names i entries ++ l) is ∙ sym (front_text-more names i entries e lt at)) (Appends-trans a b c (front_text names i entries) line p q)
+
+-- a part of the next line was written
+pub AppendsPart-line : (names : Table) (i : ℕ) (entries : List Entry) (e : Entry) (a b c : Option (List ℕ)) (line : List ℕ) → i < length entries → e ≡ get_or entries i e →
+    line ≡ line_text names (i + 1) (entry_of e) → Appends a b (front_text names i entries) → AppendsPart b c line → AppendsPart a c (history_text names (history_of entries))
+AppendsPart-line names i entries e a b c line lt at is p q =
+    let rest = lines_from names (1 + length (history_of (take (i + 1) entries))) (history_of (drop (i + 1) entries)) in
+    AppendsPart-behind a b c (front_text names i entries) line rest (history_text names (history_of entries))
+    (front_text-rest names (i + 1) entries ∙ ap (λ l. l ++ rest) (front_text-more names i entries e lt at ∙ ap (λ l. front_text names i entries ++ l) (sym is))) p q
+
+-- nothing of it was
+pub AppendsPart-lines : (names : Table) (i : ℕ) (entries : List Entry) (e : Entry) (a b : Option (List ℕ)) → i < length entries → e ≡ get_or entries i e →
+    Appends a b (front_text names i entries) → AppendsPart a b (history_text names (history_of entries))
+AppendsPart-lines names i entries e a b lt at p =
+    AppendsPart-line names i entries e a b b (line_text names (i + 1) (entry_of e)) lt at refl p
+    (record { taken = 0; short = line_text-some names (i + 1) (entry_of e); bytes = Appends-nil b })
+
+-- what holds anyway
+pub OnErr-anyway : {T E : Type 0} (r : Result T E) (P : Type 0) → P → OnErr r P
+OnErr-anyway (Ok x) P p = tt
+OnErr-anyway (Err e) P p = p

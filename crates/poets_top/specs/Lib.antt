@@ -1,0 +1,5 @@
+pub mod Words
+pub mod Refusals
+pub mod Sessions
+pub mod Runs
+pub mod Scripts

@@ -1,0 +1,12 @@
+//! The program's one call: it reads a session, makes its calls, and writes its history.
+#![tactic(auto)]
+
+mod outcome;
+mod program;
+mod refusals;
+mod words;
+mod work;
+mod writing;
+
+pub use outcome::{DONE, NO_MEMORY, NO_SESSION, Outcome, READ_FAULT, TOO_LONG, USAGE, WRITE_FAULT};
+pub use program::run;
