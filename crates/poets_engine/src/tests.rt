@@ -4,14 +4,13 @@ use crate::{Engine, finish};
 use poets_call::{Command, Reply};
 use poets_expr::{Asks, Decls};
 use poets_syntax::Term;
-use poets_value::{List, Name};
+use poets_value::{List, Memory, Name};
+use std::alloc::Global;
 use std::collections::BTreeMap;
 use std::sync::Arc;
-use std::test::Fail;
 
-#[test]
-fn registration_is_answered(rt: HostRuntime) -> Result<(), Fail> {
-    let alloc = rt.alloc();
+// The place of the first call, which registers `Success`, and its reply.
+fn registered(alloc: Global) -> Result<(u64, Reply), Memory> {
     let decls = Decls {
         names: BTreeMap::new(alloc),
     };
@@ -22,8 +21,13 @@ fn registration_is_answered(rt: HostRuntime) -> Result<(), Fail> {
     };
     let sale = Arc::new(alloc, command)?;
     let kept = engine.apply(alloc, 1, &sale, &mut Asks::new(()))?;
-    assert_eq!(rt; kept.place, 0);
-    let reply = finish(kept)?;
-    assert!(rt; matches!(&reply, Reply::Registered(1)));
+    Ok((kept.place, finish(kept)?))
+}
+
+#[test]
+fn a_registration_is_answered(rt: HostRuntime) -> Result<(), Memory> {
+    let (place, reply) = registered(rt.alloc())?;
+    assert_eq!(rt; place, 0);
+    assert!(rt; matches!(reply, Reply::Registered(1)));
     Ok(())
 }

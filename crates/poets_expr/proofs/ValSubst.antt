@@ -75,3 +75,13 @@ val-subst_alone declared given e h =
 pub val-literal_undeclared : (declared : Declared) (env : Env) (o : Option Value) (t : Ty) → PairsAreUndeclared declared env → IsDeclared declared o →
     val declared env (literal_of o t) ≡ o
 val-literal_undeclared declared env o t h i = val-literal_of declared env (KeepsDeclared-undeclared declared env h) o t i
+
+-- nothing is replaced
+pub subst_nil : (e : Expression) → subst [] e ≡ e
+subst_nil (Literal v) = refl
+subst_nil (Undefined t) = refl
+subst_nil (Named x) = refl
+subst_nil (Unary o a) = ap (Unary o) (subst_nil a)
+subst_nil (Make a b) = ap₂ Make (subst_nil a) (subst_nil b)
+subst_nil (Binary o a b) = ap₂ (Binary o) (subst_nil a) (subst_nil b)
+subst_nil (If a b c) = rw (subst_nil a, subst_nil b, subst_nil c) refl

@@ -3,7 +3,7 @@ ghost use Rattle.std.specs.Prelude.{◌≡◌, IfOk, reverse};
 ghost use Rattle.poets_expr.specs.Expression.{expression_of};
 ghost use Rattle.poets_expr.specs.Subst.{subst as subst_lem, literal as literal_lem, replaced as replaced_lem};
 
-use crate::copies::boxed;
+use crate::build::boxed;
 use crate::expr::{Expr, Given};
 use poets_value::{Memory, Name, Value};
 use std::alloc::Global;
@@ -37,6 +37,7 @@ fn replaced(pairs: &[(Name, Given)], name: Name) -> Expr
 }
 
 /// The expression with its names replaced by literals. A later pair hides an earlier one, and a name without a pair stays.
+#[cycle(subst)]
 pub fn subst(alloc: Global, e: &Expr, pairs: &[(Name, Given)]) -> Result<Expr, Memory>
     ensures { IfOk result (λ r. expression_of r ≡ subst_lem (reverse pairs.now) (expression_of e.now)) }
 {
@@ -47,25 +48,33 @@ pub fn subst(alloc: Global, e: &Expr, pairs: &[(Name, Given)]) -> Result<Expr, M
         Expr::Res(resource) => Ok(Expr::Res(*resource)),
         Expr::Undefined(ty) => Ok(Expr::Undefined(*ty)),
         Expr::Name(name) => Ok(replaced(pairs, *name)),
-        Expr::Neg(a) => Ok(Expr::Neg(boxed(alloc, subst(alloc, a, pairs)?)?)),
-        Expr::Not(a) => Ok(Expr::Not(boxed(alloc, subst(alloc, a, pairs)?)?)),
-        Expr::Amount(a) => Ok(Expr::Amount(boxed(alloc, subst(alloc, a, pairs)?)?)),
-        Expr::KindOf(a) => Ok(Expr::KindOf(boxed(alloc, subst(alloc, a, pairs)?)?)),
+        Expr::Neg(a) => Ok(Expr::Neg(boxed_subst(alloc, a, pairs)?)),
+        Expr::Not(a) => Ok(Expr::Not(boxed_subst(alloc, a, pairs)?)),
+        Expr::Amount(a) => Ok(Expr::Amount(boxed_subst(alloc, a, pairs)?)),
+        Expr::KindOf(a) => Ok(Expr::KindOf(boxed_subst(alloc, a, pairs)?)),
         Expr::Make(a, b) => {
-            let a = boxed(alloc, subst(alloc, a, pairs)?)?;
-            let b = boxed(alloc, subst(alloc, b, pairs)?)?;
+            let a = boxed_subst(alloc, a, pairs)?;
+            let b = boxed_subst(alloc, b, pairs)?;
             Ok(Expr::Make(a, b))
         }
         Expr::Op(op, a, b) => {
-            let a = boxed(alloc, subst(alloc, a, pairs)?)?;
-            let b = boxed(alloc, subst(alloc, b, pairs)?)?;
+            let a = boxed_subst(alloc, a, pairs)?;
+            let b = boxed_subst(alloc, b, pairs)?;
             Ok(Expr::Op(*op, a, b))
         }
         Expr::If(a, b, c) => {
-            let a = boxed(alloc, subst(alloc, a, pairs)?)?;
-            let b = boxed(alloc, subst(alloc, b, pairs)?)?;
-            let c = boxed(alloc, subst(alloc, c, pairs)?)?;
+            let a = boxed_subst(alloc, a, pairs)?;
+            let b = boxed_subst(alloc, b, pairs)?;
+            let c = boxed_subst(alloc, c, pairs)?;
             Ok(Expr::If(a, b, c))
         }
     }
+}
+
+// Such an expression in a box of its own.
+#[cycle(subst)]
+fn boxed_subst(alloc: Global, e: &Expr, pairs: &[(Name, Given)]) -> Result<Box<Expr>, Memory>
+    ensures { IfOk result (λ r. expression_of r.value ≡ subst_lem (reverse pairs.now) (expression_of e.now)) }
+{
+    boxed(alloc, subst(alloc, e, pairs)?)
 }

@@ -1,3 +1,4 @@
+pub mod CutTexts
 pub mod Decimal
 pub mod Found
 pub mod Fronts

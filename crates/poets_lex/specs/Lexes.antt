@@ -70,7 +70,7 @@ pub data Reads : Table → List ℕ → ℕ → List Token → Table → List �
 abbrev pub Lexes : Table → List ℕ → ℕ → List Token → Table → Type 0
 Lexes before text place tokens after = Reads before text place tokens after []
 
--- no blank, comment or token begins the text
+-- the first byte begins no blank, comment, name, number, day or sign, be it too long or not
 pub record IsBadByte (text : List ℕ) : Type 0 where
   pub byte : ℕ
   pub bytes : List ℕ

@@ -9,14 +9,9 @@ use Rattle.poets_syntax.specs.Book.{Definitions}
 use Rattle.poets_syntax.specs.Marks.{Marks}
 use Rattle.poets_syntax.specs.Normal.{send, folded, params_in, normal}
 use Rattle.poets_syntax.proofs.Replacing.{truth}
+pub use Rattle.poets_syntax.proofs.Exposures.{length-folded}
 use Rattle.poets_norm.specs.Laws.{CountsFit}
 use Rattle.poets_norm.proofs.Parts.{IsOfParts, kept_by_plus, kept_by_par, kept_by_seq}
-
-pub length-folded : (declared : Declared) (params : List Param) (args : List Expression) → length (folded declared params args) ≡ length args
-length-folded declared [] [] = refl
-length-folded declared [] (a ∷ args) = refl
-length-folded declared (p ∷ params) [] = refl
-length-folded declared (p ∷ params) (a ∷ args) = ap suc (length-folded declared params args)
 
 module _ (book : Definitions) where
   pub CountsFit-of_parts : IsOfParts (CountsFit book)

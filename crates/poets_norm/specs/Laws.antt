@@ -6,21 +6,12 @@ use Rattle.poets_expr.specs.Fold.{KeepsDeclared}
 use Rattle.poets_syntax.specs.Contract.{Contract, Success, Failure, Transmit, Plus, Par, Seq, App}
 use Rattle.poets_syntax.specs.Book.{Definitions, Definition, template_in}
 use Rattle.poets_syntax.specs.Whole.{IsWholeContract}
+pub use Rattle.poets_syntax.specs.Applied.{CountsFit}
 use Rattle.poets_syntax.specs.May.{May}
 use Rattle.poets_syntax.specs.Marks.{Marks, AreRight, Hopeful}
 use Rattle.poets_syntax.specs.Normal.{normal}
 use Rattle.poets_syntax.specs.WellFormed.{IsWellFormed, AreWellFormed}
 use Rattle.poets_syntax.specs.Plain.{plain, no_marks}
-
--- where a template is applied, it is to as many arguments as it has parameters
-abbrev pub CountsFit : Definitions → Contract → Type 0
-CountsFit book Success = Unit {0}
-CountsFit book Failure = Unit {0}
-CountsFit book (Transmit b p c) = CountsFit book c
-CountsFit book (Plus c₁ c₂) = CountsFit book c₁ × CountsFit book c₂
-CountsFit book (Par c₁ c₂) = CountsFit book c₁ × CountsFit book c₂
-CountsFit book (Seq c₁ c₂) = CountsFit book c₁ × CountsFit book c₂
-CountsFit book (App f args) = (t : Definition) → template_in book.templates f ≡ Some t → length t.params ≡ length args
 
 -- the normal form is performed as the contract is, where declared names stand for themselves
 abbrev pub NormalAlike : Type 0

@@ -6,7 +6,6 @@ use poets_syntax::{Binders, Term, build, copy, same};
 use poets_value::{List, Memory, Name};
 use std::alloc::Global;
 use std::collections::BTreeMap;
-use std::test::Fail;
 
 const OIL: Name = Name { id: 0 };
 
@@ -21,12 +20,6 @@ const BINDERS: Binders = Binders {
     what: R,
     day: Name { id: 5 },
 };
-
-fn no_names(alloc: Global) -> Decls {
-    Decls {
-        names: BTreeMap::new(alloc),
-    }
-}
 
 fn equation(alloc: Global, left: Expr, right: Expr) -> Result<Expr, Memory> {
     let left = make::boxed(alloc, left)?;
@@ -66,107 +59,146 @@ fn amounts(alloc: Global, end: i64) -> Result<Term, Memory> {
     Ok(choice)
 }
 
+// O + U
+fn oil_or_usd(alloc: Global) -> Result<Term, Memory> {
+    let left = oil(alloc, Term::Success)?;
+    build::plus(alloc, left, usd(alloc, Term::Success)?)
+}
+
+// U + O. U
+fn usd_or_both(alloc: Global) -> Result<Term, Memory> {
+    let left = usd(alloc, Term::Success)?;
+    let then = usd(alloc, Term::Success)?;
+    build::plus(alloc, left, oil(alloc, then)?)
+}
+
+// (O + U) + O. U
+fn each_once(alloc: Global) -> Result<Term, Memory> {
+    let left = oil_or_usd(alloc)?;
+    let then = usd(alloc, Term::Success)?;
+    build::plus(alloc, left, oil(alloc, then)?)
+}
+
 #[test]
-fn of_equal_alternatives_the_first_is_kept(rt: HostRuntime) -> Result<(), Fail> {
-    let alloc = rt.alloc();
-    let one = oil(alloc, Term::Success)?;
-    let two = usd(alloc, Term::Success)?;
-    let three = oil(alloc, usd(alloc, Term::Success)?)?;
-    // (O + U) and (U + (O. U + O)): O + U + O. U
-    let left = build::plus(alloc, copy(alloc, &one)?, copy(alloc, &two)?)?;
-    let right = build::plus(alloc, copy(alloc, &three)?, copy(alloc, &one)?)?;
-    let right = build::plus(alloc, copy(alloc, &two)?, right)?;
-    let chosen = plus(alloc, left, right)?;
-    let wanted = build::plus(alloc, build::plus(alloc, one, two)?, three)?;
+fn of_equal_alternatives_the_first_is_kept(rt: HostRuntime) -> Result<(), Memory> {
+    let left = oil_or_usd(rt.alloc())?;
+    let right = usd_or_both(rt.alloc())?;
+    let chosen = plus(rt.alloc(), left, right)?;
+    let wanted = each_once(rt.alloc())?;
     assert!(rt; same(&chosen, &wanted));
     Ok(())
 }
 
 #[test]
-fn a_choice_keeps_success_and_drops_failure(rt: HostRuntime) -> Result<(), Fail> {
-    let alloc = rt.alloc();
-    let chosen = plus(alloc, Term::Success, oil(alloc, Term::Success)?)?;
-    let wanted = build::plus(alloc, Term::Success, oil(alloc, Term::Success)?)?;
+fn a_choice_drops_failure(rt: HostRuntime) -> Result<(), Memory> {
+    let wanted = oil(rt.alloc(), Term::Success)?;
+    let alternative = copy(rt.alloc(), &wanted)?;
+    let chosen = plus(rt.alloc(), Term::Failure, alternative)?;
     assert!(rt; same(&chosen, &wanted));
-    let failures = build::plus(alloc, Term::Failure, Term::Failure)?;
-    assert!(rt; matches!(plus(alloc, failures, Term::Failure)?, Term::Failure));
-    let chosen = plus(alloc, Term::Failure, oil(alloc, Term::Success)?)?;
-    assert!(rt; same(&chosen, &oil(alloc, Term::Success)?));
     Ok(())
 }
 
-#[test]
-fn choices_of_distinct_alternatives_are_merged(rt: HostRuntime) -> Result<(), Fail> {
-    let alloc = rt.alloc();
+// Success + Success, and then O: Success + O
+fn is_merged(alloc: Global) -> Result<bool, Memory> {
     let twice = build::plus(alloc, Term::Success, Term::Success)?;
     let first = distinct_choice(alloc, twice)?;
-    assert!(rt; matches!(&first, Term::Success));
     let second = distinct_choice(alloc, oil(alloc, Term::Success)?)?;
     let merged = merge(alloc, first, second)?;
     let wanted = build::plus(alloc, Term::Success, oil(alloc, Term::Success)?)?;
-    assert!(rt; same(&merged, &wanted));
+    Ok(same(&merged, &wanted))
+}
+
+#[test]
+fn choices_of_distinct_alternatives_are_merged(rt: HostRuntime) -> Result<(), Memory> {
+    assert!(rt; is_merged(rt.alloc())?);
+    Ok(())
+}
+
+fn is_par(alloc: Global, left: Term, right: Term, wanted: &Term) -> Result<bool, Memory> {
+    let made = par(alloc, left, right)?;
+    Ok(same(&made, wanted))
+}
+
+fn is_seq(alloc: Global, left: Term, right: Term, wanted: &Term) -> Result<bool, Memory> {
+    let made = seq(alloc, left, right)?;
+    Ok(same(&made, wanted))
+}
+
+#[test]
+fn parts_that_are_over_are_left_out(rt: HostRuntime) -> Result<(), Memory> {
+    let one = oil(rt.alloc(), Term::Success)?;
+    let twin = copy(rt.alloc(), &one)?;
+    assert!(rt; is_par(rt.alloc(), Term::Success, twin, &one)?);
+    let twin = copy(rt.alloc(), &one)?;
+    assert!(rt; is_seq(rt.alloc(), twin, Term::Success, &one)?);
     Ok(())
 }
 
 #[test]
-fn parts_that_are_over_or_fail_are_left_out(rt: HostRuntime) -> Result<(), Fail> {
-    let alloc = rt.alloc();
-    let one = oil(alloc, Term::Success)?;
-    let side = par(alloc, Term::Success, copy(alloc, &one)?)?;
-    assert!(rt; same(&side, &one));
-    let side = par(alloc, copy(alloc, &one)?, Term::Failure)?;
-    assert!(rt; matches!(side, Term::Failure));
-    let side = par(alloc, copy(alloc, &one)?, usd(alloc, Term::Success)?)?;
-    assert!(rt;
-        same(
-            &side,
-            &build::par(alloc, copy(alloc, &one)?, usd(alloc, Term::Success)?)?
-        )
-    );
-    let row = seq(alloc, copy(alloc, &one)?, Term::Success)?;
-    assert!(rt; same(&row, &one));
-    let row = seq(alloc, Term::Failure, copy(alloc, &one)?)?;
-    assert!(rt; matches!(row, Term::Failure));
-    let row = seq(alloc, copy(alloc, &one)?, usd(alloc, Term::Success)?)?;
-    assert!(rt; same(&row, &build::seq(alloc, one, usd(alloc, Term::Success)?)?));
+fn a_part_that_fails_fails_the_whole(rt: HostRuntime) -> Result<(), Memory> {
+    let one = oil(rt.alloc(), Term::Success)?;
+    assert!(rt; is_par(rt.alloc(), one, Term::Failure, &Term::Failure)?);
+    let one = oil(rt.alloc(), Term::Success)?;
+    assert!(rt; is_seq(rt.alloc(), Term::Failure, one, &Term::Failure)?);
+    Ok(())
+}
+
+fn is_sent(alloc: Global, then: Term, wanted: &Term) -> Result<bool, Memory> {
+    let sent = send(alloc, BINDERS, of_kind(alloc, OIL)?, then)?;
+    Ok(same(&sent, wanted))
+}
+
+#[test]
+fn a_dead_continuation_fails(rt: HostRuntime) -> Result<(), Memory> {
+    assert!(rt; is_sent(rt.alloc(), Term::Failure, &Term::Failure)?);
+    let one = oil(rt.alloc(), Term::Success)?;
+    assert!(rt; is_sent(rt.alloc(), Term::Success, &one)?);
+    Ok(())
+}
+
+// O. (U. Failure || Success) + U
+fn half_dead(alloc: Global) -> Result<Term, Memory> {
+    let never = usd(alloc, Term::Failure)?;
+    let dead = build::par(alloc, never, Term::Success)?;
+    let left = oil(alloc, dead)?;
+    build::plus(alloc, left, usd(alloc, Term::Success)?)
+}
+
+fn is_normal(alloc: Global, term: &Term, wanted: &Term) -> Result<bool, Memory> {
+    let decls = Decls {
+        names: BTreeMap::new(alloc),
+    };
+    let made = normal(alloc, &decls, term)?;
+    Ok(same(&made, wanted))
+}
+
+#[test]
+fn dead_alternatives_are_left_out(rt: HostRuntime) -> Result<(), Memory> {
+    let term = half_dead(rt.alloc())?;
+    let wanted = usd(rt.alloc(), Term::Success)?;
+    assert!(rt; is_normal(rt.alloc(), &term, &wanted)?);
     Ok(())
 }
 
 #[test]
-fn a_dead_continuation_fails(rt: HostRuntime) -> Result<(), Fail> {
-    let alloc = rt.alloc();
-    let decls = no_names(alloc);
-    let sent = send(alloc, BINDERS, of_kind(alloc, OIL)?, Term::Failure)?;
-    assert!(rt; matches!(sent, Term::Failure));
-    let sent = send(alloc, BINDERS, of_kind(alloc, OIL)?, Term::Success)?;
-    assert!(rt; same(&sent, &oil(alloc, Term::Success)?));
-    // O. (U. Failure || Success) + U. Success
-    let dead = build::par(alloc, usd(alloc, Term::Failure)?, Term::Success)?;
-    let choice = build::plus(alloc, oil(alloc, dead)?, usd(alloc, Term::Success)?)?;
-    let made = normal(alloc, &decls, &choice)?;
-    assert!(rt; same(&made, &usd(alloc, Term::Success)?));
-    Ok(())
-}
-
-#[test]
-fn without_templates_an_application_fails(rt: HostRuntime) -> Result<(), Fail> {
-    let alloc = rt.alloc();
-    let decls = no_names(alloc);
+fn without_templates_an_application_fails(rt: HostRuntime) -> Result<(), Memory> {
     let applied = Term::App {
         name: OIL,
-        args: List::new(alloc),
+        args: List::new(rt.alloc()),
     };
-    let choice = build::plus(alloc, Term::Success, oil(alloc, applied)?)?;
-    assert!(rt; matches!(normal(alloc, &decls, &choice)?, Term::Success));
+    let term = oil(rt.alloc(), applied)?;
+    assert!(rt; is_normal(rt.alloc(), &term, &Term::Failure)?);
     Ok(())
 }
 
+fn width(alloc: Global, end: i64) -> Result<u64, Memory> {
+    Ok(wide(&amounts(alloc, end)?))
+}
+
 #[test]
-fn the_width_is_cut_at_1001(rt: HostRuntime) -> Result<(), Fail> {
-    let alloc = rt.alloc();
+fn the_width_is_cut_at_1001(rt: HostRuntime) -> Result<(), Memory> {
     assert_eq!(rt; wide(&Term::Success), 1);
-    assert_eq!(rt; wide(&amounts(alloc, 4)?), 20);
-    assert_eq!(rt; wide(&amounts(alloc, 144)?), 1000);
-    assert_eq!(rt; wide(&amounts(alloc, 145)?), 1001);
+    assert_eq!(rt; width(rt.alloc(), 144)?, 1000);
+    assert_eq!(rt; width(rt.alloc(), 145)?, 1001);
     Ok(())
 }

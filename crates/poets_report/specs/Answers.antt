@@ -18,7 +18,7 @@ pub data Finding : Type 0 where
   Single : Option Value → Finding
   Rows : List Row → Finding
 
--- the plain data of an `Answer`
+-- `Answer` as plain data, its rows as a list
 abbrev pub finding_of : Answer → Finding
 finding_of (A.Single v) = Single v
 finding_of (A.Rows rows) = Rows rows.items

@@ -24,7 +24,7 @@ pub record Query : Type 0 where
   pub step : Expression
   pub key : Option Expression
 
--- the plain data of a `Report`
+-- `Report` as plain data, without boxes
 abbrev pub query_of : Report → Query
 query_of r = record {
   name = r.name;

@@ -4,7 +4,7 @@ ghost use Rattle.poets_expr.specs.Expression.{expression_of};
 ghost use Rattle.poets_report.specs.Query.{query_of};
 
 use poets_expr::{Expr, build};
-use poets_syntax::build::push;
+use poets_syntax::build::copy_params;
 use poets_syntax::{Binders, Param};
 use poets_value::{List, Memory, Name, Ty, Value};
 use std::alloc::Global;
@@ -52,17 +52,6 @@ pub fn copy(alloc: Global, report: &Report) -> Result<Report, Memory>
         step,
         key,
     })
-}
-
-// The same parameters, in a list of their own.
-fn copy_params(alloc: Global, params: &List<Param>) -> Result<List<Param>, Memory>
-    ensures { IfOk result (λ r. r.items ≡ params.now.items) }
-{
-    let mut copies = List::new(alloc);
-    for param in params.as_slice() {
-        push(&mut copies, *param)?;
-    }
-    Ok(copies)
 }
 
 // The same key, if there is one.

@@ -1,8 +1,7 @@
 //! A table filled by hand, each call once with memory.
 
 use crate::Table;
-use poets_value::{Day, Event, Name, Resource};
-use std::test::Fail;
+use poets_value::{Day, Event, Memory, Name, Resource};
 
 const SALE: Name = Name { id: 7 };
 
@@ -24,35 +23,68 @@ fn event(amount: i64) -> Event {
     }
 }
 
+// The number of a new row with that name, or none where one has the name.
+fn added(table: &mut Table<u64>, name: Name, original: u64) -> Result<Option<u64>, Memory> {
+    if table.find(name).is_some() {
+        return Ok(None);
+    }
+    Ok(Some(table.add(name, original, original)?))
+}
+
+// Whether there is a row with that name, which takes an event of that amount.
+fn entered(table: &mut Table<u64>, name: Name, amount: i64, current: u64) -> Result<bool, Memory> {
+    let Some(number) = table.find(name) else {
+        return Ok(false);
+    };
+    table.room(number)?;
+    table.enter(number, event(amount), current);
+    Ok(true)
+}
+
+// Whether there is a row with that name, which is ended.
+fn ended(table: &mut Table<u64>, name: Name) -> bool {
+    let Some(number) = table.find(name) else {
+        return false;
+    };
+    table.finish(number);
+    true
+}
+
+// The first contract, the current one and the number of events of the row with that name, and whether it ended.
+fn row(table: &Table<u64>, name: Name) -> Option<(u64, u64, usize, bool)> {
+    let row = table.row(table.find(name)?);
+    Some((row.original, row.current, row.events.len(), row.ended))
+}
+
+// The row and the amount of an event of the log.
+fn logged(table: &Table<u64>, place: usize) -> Option<(u64, i64)> {
+    let (number, event) = table.log().as_slice().get(place)?;
+    Some((*number, event.what.amount))
+}
+
 #[test]
-fn rows_and_log_are_lists(rt: HostRuntime) -> Result<(), Fail> {
+fn names_are_numbered_as_they_are_added(rt: HostRuntime) -> Result<(), Memory> {
     let mut table: Table<u64> = Table::new(rt.alloc());
-    assert!(rt; table.find(SALE).is_none());
-    assert_eq!(rt; table.add(SALE, 10, 11)?, 1);
-    assert!(rt; table.find(LEASE).is_none());
-    assert_eq!(rt; table.add(LEASE, 20, 21)?, 2);
-    assert_eq!(rt; table.find(SALE), Some(1));
-    assert_eq!(rt; table.find(LEASE), Some(2));
-    table.room(2)?;
-    table.enter(2, event(5), 22);
-    table.room(1)?;
-    table.enter(1, event(6), 12);
-    table.room(2)?;
-    table.finish(1);
-    table.enter(2, event(7), 23);
-    let sale = table.row(1);
-    assert_eq!(rt; (sale.original, sale.current, sale.ended), (10, 12, true));
-    assert_eq!(rt; sale.events.len(), 1);
-    let lease = table.row(2);
-    assert_eq!(rt;
-        (lease.original, lease.current, lease.ended),
-        (20, 23, false)
-    );
-    assert_eq!(rt; lease.events.len(), 2);
-    let log = table.log().as_slice();
-    assert_eq!(rt; log.len(), 3);
-    assert_eq!(rt; (log[0].0, log[0].1.what.amount), (2, 5));
-    assert_eq!(rt; (log[1].0, log[1].1.what.amount), (1, 6));
-    assert_eq!(rt; (log[2].0, log[2].1.what.amount), (2, 7));
+    assert_eq!(rt; added(&mut table, SALE, 10)?, Some(1));
+    assert_eq!(rt; added(&mut table, LEASE, 20)?, Some(2));
+    assert_eq!(rt; added(&mut table, SALE, 30)?, None);
+    assert_eq!(rt; row(&table, SALE), Some((10, 10, 0, false)));
+    Ok(())
+}
+
+#[test]
+fn events_stand_in_their_rows_and_in_the_log(rt: HostRuntime) -> Result<(), Memory> {
+    let mut table: Table<u64> = Table::new(rt.alloc());
+    added(&mut table, SALE, 10)?;
+    added(&mut table, LEASE, 20)?;
+    assert!(rt; entered(&mut table, LEASE, 5, 21)?);
+    assert!(rt; entered(&mut table, SALE, 6, 11)?);
+    assert!(rt; ended(&mut table, SALE));
+    assert!(rt; entered(&mut table, LEASE, 7, 22)?);
+    assert_eq!(rt; row(&table, SALE), Some((10, 11, 1, true)));
+    assert_eq!(rt; row(&table, LEASE), Some((20, 22, 2, false)));
+    assert_eq!(rt; logged(&table, 1), Some((1, 6)));
+    assert_eq!(rt; logged(&table, 2), Some((2, 7)));
+    assert_eq!(rt; logged(&table, 3), None);
     Ok(())
 }

@@ -1,3 +1,4 @@
 pub mod Days
+pub mod EachDay
 pub mod Orders
 pub mod DayTexts

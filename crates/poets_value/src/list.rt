@@ -81,6 +81,13 @@ impl<T> List<T> {
         self.vec.as_slice()
     }
 
+    /// The items as a vector.
+    pub fn into_vec(self) -> Vec<T>
+        ensures { result.items ≡ self.items }
+    {
+        self.vec
+    }
+
     /// Takes the last item.
     pub fn pop(&mut self) -> Option<T>
         ensures some { IfSome result (λ x. self.old.items ≡ self.new.items ++ x ∷ []) }
