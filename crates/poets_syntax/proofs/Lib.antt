@@ -1,4 +1,5 @@
 pub mod Lists
+pub mod Counting
 pub mod Granting
 pub mod Alike
 pub mod Replacing
@@ -11,3 +12,9 @@ pub mod Copying
 pub mod Inversions
 pub mod WholeContracts
 pub mod Typedness
+pub mod Guarding
+pub mod Ahead
+pub mod Choosing
+pub mod Exposures
+pub mod Unfolded
+pub mod StudiedMarks

@@ -9,27 +9,27 @@ use Rattle.poets_expr.specs.Expression.{Expression}
 use Rattle.poets_expr.specs.Val.{val}
 use Rattle.poets_expr.proofs.SameTrees.{both_true}
 use Rattle.poets_syntax.specs.Contract.{Contract}
-use Rattle.poets_syntax.specs.Book.{Definitions, parameter_env}
+use Rattle.poets_syntax.specs.Book.{Definitions, Definition, parameter_env}
 use Rattle.poets_syntax.specs.Between.{Between}
 use Rattle.poets_syntax.specs.Perf.{Perf}
 use Rattle.poets_syntax.specs.Marks.{Marks, AreRight, nullable}
-use Rattle.poets_syntax.specs.Applied.{Takes, ApplicationsFit}
+use Rattle.poets_syntax.specs.Applied.{ApplicationsFit, FitsTemplate, CountsFit}
 use Rattle.poets_syntax.specs.Exposed.{EachExposed}
 use Rattle.poets_syntax.specs.Residual.{is_true}
 use Rattle.poets_syntax.proofs.Granting.{May-Perf, Perf-May, May-anywhere}
 use Rattle.poets_syntax.proofs.Lists.{Between-nil, parts_of_nil}
 
-or_first : (a b : Bool) → a ≡ true → (a || b) ≡ true
+pub or_first : (a b : Bool) → a ≡ true → (a || b) ≡ true
 or_first a b e = rw e refl
 
-or_second : (a b : Bool) → b ≡ true → (a || b) ≡ true
+pub or_second : (a b : Bool) → b ≡ true → (a || b) ≡ true
 or_second true b e = refl
 or_second false b e = e
 
-and_both : (a b : Bool) → a ≡ true → b ≡ true → (a && b) ≡ true
+pub and_both : (a b : Bool) → a ≡ true → b ≡ true → (a && b) ≡ true
 and_both a b e k = rw e k
 
-either_true : (a b : Bool) → (a || b) ≡ true → (a ≡ true) ⊎ (b ≡ true)
+pub either_true : (a b : Bool) → (a || b) ≡ true → (a ≡ true) ⊎ (b ≡ true)
 either_true true b e = inl refl
 either_true false b e = inr e
 
@@ -49,15 +49,26 @@ EachExposed-weaker Is Is' marks h (Contract.Seq c d) e = (EachExposed-weaker Is 
 EachExposed-weaker Is Is' marks h (Contract.App f args) e = h f args e
 
 -- what fits is exposed fitting
-pub EachExposed-fit : (book : Definitions) (marks : Marks) (c : Contract) → ApplicationsFit book c →
-    EachExposed (λ f args. Takes book f (length args)) marks c
-EachExposed-fit book marks Contract.Success h = tt
-EachExposed-fit book marks Contract.Failure h = tt
-EachExposed-fit book marks (Contract.Transmit b p c) h = tt
-EachExposed-fit book marks (Contract.Plus c d) h = (EachExposed-fit book marks c h.0, EachExposed-fit book marks d h.1)
-EachExposed-fit book marks (Contract.Par c d) h = (EachExposed-fit book marks c h.0, EachExposed-fit book marks d h.1)
-EachExposed-fit book marks (Contract.Seq c d) h = (EachExposed-fit book marks c h.0, λ _. EachExposed-fit book marks d h.1)
-EachExposed-fit book marks (Contract.App f args) h = h
+pub EachExposed-fits : (book : Definitions) (marks : Marks) (c : Contract) → CountsFit book c → EachExposed (FitsTemplate book) marks c
+EachExposed-fits book marks Contract.Success h = tt
+EachExposed-fits book marks Contract.Failure h = tt
+EachExposed-fits book marks (Contract.Transmit b p c) h = tt
+EachExposed-fits book marks (Contract.Plus c d) h = (EachExposed-fits book marks c h.0, EachExposed-fits book marks d h.1)
+EachExposed-fits book marks (Contract.Par c d) h = (EachExposed-fits book marks c h.0, EachExposed-fits book marks d h.1)
+EachExposed-fits book marks (Contract.Seq c d) h = (EachExposed-fits book marks c h.0, λ _. EachExposed-fits book marks d h.1)
+EachExposed-fits book marks (Contract.App f args) h = h
+
+one_template : {o : Option Definition} {t u : Definition} → o ≡ Some t → o ≡ Some u → t ≡ u
+one_template i j = cc
+
+pub CountsFit-fit : (book : Definitions) (c : Contract) → ApplicationsFit book c → CountsFit book c
+CountsFit-fit book Contract.Success h = tt
+CountsFit-fit book Contract.Failure h = tt
+CountsFit-fit book (Contract.Transmit b p c) h = CountsFit-fit book c h
+CountsFit-fit book (Contract.Plus c d) h = (CountsFit-fit book c h.0, CountsFit-fit book d h.1)
+CountsFit-fit book (Contract.Par c d) h = (CountsFit-fit book c h.0, CountsFit-fit book d h.1)
+CountsFit-fit book (Contract.Seq c d) h = (CountsFit-fit book c h.0, CountsFit-fit book d h.1)
+CountsFit-fit book (Contract.App f args) h = λ t i. subst (λ u. length u.params ≡ length args) (one_template h.1 i) h.2
 
 module _ (book : Definitions) (marks : Marks) (right : AreRight book marks) where
   -- what the empty trace performs is nullable by the marks
@@ -75,26 +86,24 @@ module _ (book : Definitions) (marks : Marks) (right : AreRight book marks) wher
   nullable_in (Perf.Body {env = env} {f = f} {args = args} {t = t} i l p) e =
       (right.nullable f).1 (t, i, Perf-anywhere [] (subst (λ u. Perf book (parameter_env t.params (map (val book.declared env) args)) t.body u) e p))
 
-  -- what is nullable by the marks the empty trace performs, where the exposed applications fit
-  pub nullable_out : (env : Env) (c : Contract) → EachExposed (λ f args. Takes book f (length args)) marks c → nullable marks c ≡ true → Perf book env c []
-  nullable_out env Contract.Success h e = Perf.Done
-  nullable_out env Contract.Failure h e = absurd cc
-  nullable_out env (Contract.Transmit b p c) h e = absurd cc
-  nullable_out env (Contract.Plus a b) h e = elim (either_true (nullable marks a) (nullable marks b) e) [
-    | inl k ↦ Perf.Left (nullable_out env a h.0 k)
-    | inr k ↦ Perf.Right (nullable_out env b h.1 k)
+  -- what is nullable by the marks the empty trace performs, where the exposed applications of templates fit them
+  pub nullable_performed : (env : Env) (c : Contract) → EachExposed (FitsTemplate book) marks c → nullable marks c ≡ true → Perf book env c []
+  nullable_performed env Contract.Success h e = Perf.Done
+  nullable_performed env Contract.Failure h e = absurd cc
+  nullable_performed env (Contract.Transmit b p c) h e = absurd cc
+  nullable_performed env (Contract.Plus a b) h e = elim (either_true (nullable marks a) (nullable marks b) e) [
+    | inl k ↦ Perf.Left (nullable_performed env a h.0 k)
+    | inr k ↦ Perf.Right (nullable_performed env b h.1 k)
   ]
-  nullable_out env (Contract.Par a b) h e =
+  nullable_performed env (Contract.Par a b) h e =
       let k = both_true (nullable marks a) (nullable marks b) e in
-      Perf.Beside Between.Empty (nullable_out env a h.0 k.0) (nullable_out env b h.1 k.1)
-  nullable_out env (Contract.Seq a b) h e =
+      Perf.Beside Between.Empty (nullable_performed env a h.0 k.0) (nullable_performed env b h.1 k.1)
+  nullable_performed env (Contract.Seq a b) h e =
       let k = both_true (nullable marks a) (nullable marks b) e in
-      Perf.Then refl (nullable_out env a h.0 k.0) (nullable_out env b (h.1 k.0) k.1)
-  nullable_out env (Contract.App f args) h e =
+      Perf.Then refl (nullable_performed env a h.0 k.0) (nullable_performed env b (h.1 k.0) k.1)
+  nullable_performed env (Contract.App f args) h e =
       let body = (right.nullable f).0 e in
-      let same : h.0 ≡ body.0 = cc in
-      Perf.Body body.1 (subst (λ t. length t.params ≡ length args) same h.2)
-      (Perf-anywhere (parameter_env body.0.params (map (val book.declared env) args)) body.2)
+      Perf.Body body.1 (h body.0 body.1) (Perf-anywhere (parameter_env body.0.params (map (val book.declared env) args)) body.2)
 
 -- a predicate's test
 pub true_holds : (o : Option Value) → is_true o ≡ true → o ≡ Some (V.Bool true)

@@ -1,4 +1,4 @@
--- What typing gives: declared names are bound nowhere, and literals are of declared kinds.
+-- What typing gives: declared names are bound nowhere, literals are of declared kinds, and applications fit.
 use Rattle.std.proofs.Common.{◌≡◌, ℕ, nat_eq, Bool, true, false, List, [], ◌∷◌, ◌++◌, length, Option, Some, None, refl}
 use Rattle.std.proofs.lemmas.Bool.{eqb-true}
 use Rattle.std.specs.Prelude.{◌||◌, is_some, if◌then◌else◌}
@@ -15,12 +15,13 @@ use Rattle.poets_syntax.specs.declared.term.Param.{Param}
 use Rattle.poets_syntax.specs.Contract.{Contract, Success, Failure, Transmit, Plus, Par, Seq, App}
 use Rattle.poets_syntax.specs.Book.{Definitions, Definition, template_in}
 use Rattle.poets_syntax.specs.Replace.{AreUndeclared}
+use Rattle.poets_syntax.specs.Applied.{Takes, ApplicationsFit, BodiesFit}
 use Rattle.poets_syntax.specs.WellFormed.{HaveDeclaredLiterals, IsWellFormed}
 use Rattle.poets_syntax.specs.TypeOf.{Fault, Twice, WrongCount, Checked, Passes, Fails, ◌>>=◌, Scope, must_be, unary_type, binary_type, make_type, if_type, resource_type, literal_type, type_of}
-use Rattle.poets_syntax.specs.Typed.{is_among, in_use, check_new, check_type, check_args, check_application, check_contract, names_bound, types_bound, IsTyped}
+use Rattle.poets_syntax.specs.Typed.{is_among, in_use, check_new, check_type, check_args, check_application, check_contract, names_bound, types_bound, scope_of, IsTyped, IsTypedBook}
 
 -- what passes two checks passes each
-passed : {A B : Type 0} (x : Checked A) (next : A → Checked B) (b : B) → (x >>= next) ≡ Passes b → (a : A) × (x ≡ Passes a) × (next a ≡ Passes b)
+pub passed : {A B : Type 0} (x : Checked A) (next : A → Checked B) (b : B) → (x >>= next) ≡ Passes b → (a : A) × (x ≡ Passes a) × (next a ≡ Passes b)
 passed (Passes a) next b h = (a, refl, h)
 passed (Fails f) next b h = absurd cc
 
@@ -131,3 +132,34 @@ IsWellFormed-typed book reports scope (Seq c₁ c₂) h =
     let p = passed (check_contract book reports scope c₁) (λ _. check_contract book reports scope c₂) tt h in
     (IsWellFormed-typed book reports scope c₁ p.1, IsWellFormed-typed book reports scope c₂ p.2)
 IsWellFormed-typed book reports scope (App f args) h = applied_literals book.declared scope f (template_in book.templates f) args h
+
+-- ---- applications of templates
+
+fitting : (book : Definitions) (scope : Scope) (f : Name) (args : List Expression) (o : Option Definition) → template_in book.templates f ≡ o →
+    check_application book.declared scope f o args ≡ Passes tt → Takes book f (length args)
+fitting book scope f args None e h = absurd cc
+fitting book scope f args (Some t) e h =
+    let p = as_many (length t.params) (length args) (WrongCount f (length t.params) (length args)) (check_args book.declared scope t.params args) h in
+    (t, e, p.0)
+
+pub ApplicationsFit-typed : (book : Definitions) (reports : List Name) (scope : Scope) (c : Contract) → IsTyped book reports scope c → ApplicationsFit book c
+ApplicationsFit-typed book reports scope Success h = tt
+ApplicationsFit-typed book reports scope Failure h = tt
+ApplicationsFit-typed book reports scope (Transmit b p c) h =
+    let binders = passed (check_new (in_use book reports) [] (names_bound b))
+    (λ _. check_type book.declared (types_bound b ++ scope) T.Bool p >>= λ _. check_contract book reports (types_bound b ++ scope) c) tt h in
+    let predicate = passed (check_type book.declared (types_bound b ++ scope) T.Bool p) (λ _. check_contract book reports (types_bound b ++ scope) c) tt binders.2 in
+    ApplicationsFit-typed book reports (types_bound b ++ scope) c predicate.2
+ApplicationsFit-typed book reports scope (Plus c₁ c₂) h =
+    let p = passed (check_contract book reports scope c₁) (λ _. check_contract book reports scope c₂) tt h in
+    (ApplicationsFit-typed book reports scope c₁ p.1, ApplicationsFit-typed book reports scope c₂ p.2)
+ApplicationsFit-typed book reports scope (Par c₁ c₂) h =
+    let p = passed (check_contract book reports scope c₁) (λ _. check_contract book reports scope c₂) tt h in
+    (ApplicationsFit-typed book reports scope c₁ p.1, ApplicationsFit-typed book reports scope c₂ p.2)
+ApplicationsFit-typed book reports scope (Seq c₁ c₂) h =
+    let p = passed (check_contract book reports scope c₁) (λ _. check_contract book reports scope c₂) tt h in
+    (ApplicationsFit-typed book reports scope c₁ p.1, ApplicationsFit-typed book reports scope c₂ p.2)
+ApplicationsFit-typed book reports scope (App f args) h = fitting book scope f args (template_in book.templates f) refl h
+
+pub BodiesFit-typed : (book : Definitions) (reports : List Name) → IsTypedBook book reports → BodiesFit book
+BodiesFit-typed book reports typed f t i = ApplicationsFit-typed book reports (scope_of t.params) t.body (typed f t i).1

@@ -1,6 +1,7 @@
 -- Applications of templates with as many arguments as they have parameters.
-use Rattle.std.specs.Prelude.{◌≡◌, ℕ, length, Some}
+use Rattle.std.specs.Prelude.{◌≡◌, ℕ, List, length, Some}
 use Rattle.poets_value.specs.declared.value.Name.{Name}
+use Rattle.poets_expr.specs.Expression.{Expression}
 use Rattle.poets_syntax.specs.Contract.{Contract, Success, Failure, Transmit, Plus, Par, Seq, App}
 use Rattle.poets_syntax.specs.Book.{Definitions, Definition, template_in}
 
@@ -21,3 +22,21 @@ ApplicationsFit book (App f args) = Takes book f (length args)
 -- so it is in the bodies of the templates
 abbrev pub BodiesFit : Definitions → Type 0
 BodiesFit book = (f : Name) (t : Definition) → template_in book.templates f ≡ Some t → ApplicationsFit book t.body
+
+-- where there is a template of that name, it has as many parameters as there are arguments
+abbrev pub FitsTemplate : Definitions → Name → List Expression → Type 0
+FitsTemplate book f args = (t : Definition) → template_in book.templates f ≡ Some t → length t.params ≡ length args
+
+-- where a template is applied, it is to as many arguments as it has parameters
+abbrev pub CountsFit : Definitions → Contract → Type 0
+CountsFit book Success = Unit {0}
+CountsFit book Failure = Unit {0}
+CountsFit book (Transmit b p c) = CountsFit book c
+CountsFit book (Plus c₁ c₂) = CountsFit book c₁ × CountsFit book c₂
+CountsFit book (Par c₁ c₂) = CountsFit book c₁ × CountsFit book c₂
+CountsFit book (Seq c₁ c₂) = CountsFit book c₁ × CountsFit book c₂
+CountsFit book (App f args) = FitsTemplate book f args
+
+-- so it is in the bodies of the templates
+abbrev pub BodiesCountsFit : Definitions → Type 0
+BodiesCountsFit book = (f : Name) (t : Definition) → template_in book.templates f ≡ Some t → CountsFit book t.body

@@ -1,5 +1,5 @@
 -- Exposed applications: those outside every transmit, and not behind a part that is not nullable.
-use Rattle.std.specs.Prelude.{◌≡◌, ℕ, zero, suc, true, List, length, Some}
+use Rattle.std.specs.Prelude.{◌≡◌, ℕ, zero, suc, true, List, length, Some, None}
 use Rattle.poets_value.specs.declared.value.Name.{Name}
 use Rattle.poets_expr.specs.Expression.{Expression}
 use Rattle.poets_syntax.specs.Contract.{Contract, Success, Failure, Transmit, Plus, Par, Seq, App}
@@ -17,9 +17,9 @@ EachExposed Is marks (Par c₁ c₂) = EachExposed Is marks c₁ × EachExposed 
 EachExposed Is marks (Seq c₁ c₂) = EachExposed Is marks c₁ × (nullable marks c₁ ≡ true → EachExposed Is marks c₂)
 EachExposed Is marks (App f args) = Is f args
 
--- each exposed application fits its template, and so many unfoldings in a row leave none
-abbrev pub Unfolds : ℕ → Definitions → Marks → Contract → Type 0
-Unfolds zero book marks c = EachExposed (λ _ _. ⊥) marks c
-Unfolds (suc d) book marks c =
-    EachExposed (λ f args. (t : Definition) × (template_in book.templates f ≡ Some t) × (length t.params ≡ length args)
-    × Unfolds d book marks (body_of book marks (Some t) args)) marks c
+-- so many unfoldings in a row are enough: the exposed applications of templates fit them, and after so many there is none
+abbrev pub UnfoldsWithin : ℕ → Definitions → Marks → Contract → Type 0
+UnfoldsWithin zero book marks c = EachExposed (λ f args. template_in book.templates f ≡ None) marks c
+UnfoldsWithin (suc d) book marks c =
+    EachExposed (λ f args. (t : Definition) → template_in book.templates f ≡ Some t →
+    (length t.params ≡ length args) × UnfoldsWithin d book marks (body_of book marks (Some t) args)) marks c

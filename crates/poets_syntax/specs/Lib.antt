@@ -18,4 +18,8 @@ pub mod Width
 pub mod Plain
 pub mod TypeOf
 pub mod Typed
+pub mod Checked
+pub mod Guarded
+pub mod Studied
+pub mod StudiedLaws
 pub mod Examples

@@ -47,11 +47,15 @@ check_args declared scope (p ∷ params) (a ∷ args) = do
   check_args declared scope params args
 check_args declared scope _ _ = Passes tt
 
+-- as many arguments as parameters, each with the type of its parameter
+abbrev pub check_arguments : Declared → Scope → Name → List Param → List Expression → Checked (Unit {0})
+check_arguments declared scope x params args =
+    if nat_eq (length params) (length args) then check_args declared scope params args
+    else Fails (WrongCount x (length params) (length args))
+
 abbrev pub check_application : Declared → Scope → Name → Option Definition → List Expression → Checked (Unit {0})
 check_application declared scope f None args = Fails (Unknown f)
-check_application declared scope f (Some t) args =
-    if nat_eq (length t.params) (length args) then check_args declared scope t.params args
-    else Fails (WrongCount f (length t.params) (length args))
+check_application declared scope f (Some t) args = check_arguments declared scope f t.params args
 
 -- the first fault of a contract in the scope
 abbrev pub check_contract : Definitions → (reports : List Name) → Scope → Contract → Checked (Unit {0})

@@ -1,11 +1,11 @@
-//! Contracts made of their parts.
+//! Contracts made of their parts, and copies of parameters.
 ghost use Rattle.std.specs.Prelude.{◌≡◌, IfOk, ◌∷◌, [], ◌++◌};
 ghost use Rattle.poets_expr.specs.Expression.{expression_of};
 ghost use Rattle.poets_syntax.specs.Contract.{contract_of, Transmit, Plus, Par, Seq};
 
 pub use crate::equality::same;
 pub use crate::substitution::{copy, subst};
-use crate::term::{Binders, Term};
+use crate::term::{Binders, Param, Term};
 use poets_expr::Expr;
 use poets_value::{List, Memory};
 use std::alloc::Global;
@@ -25,6 +25,17 @@ pub fn push<T: Drop>(list: &mut List<T>, item: T) -> Result<(), Memory>
         Ok(()) => Ok(()),
         Err(_) => Err(Memory),
     }
+}
+
+/// The same parameters, in a list of their own.
+pub fn copy_params(alloc: Global, params: &List<Param>) -> Result<List<Param>, Memory>
+    ensures { IfOk result (λ r. r.items ≡ params.now.items) }
+{
+    let mut copies = List::new(alloc);
+    for param in params.as_slice() {
+        push(&mut copies, *param)?;
+    }
+    Ok(copies)
 }
 
 /// A transmit and what follows it.

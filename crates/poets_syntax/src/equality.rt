@@ -16,11 +16,16 @@ fn same_binders(a: &Binders, b: &Binders) -> bool
 fn same_args(a: &[Expr], b: &[Expr]) -> bool
     ensures { result ≡ same_args_lem (map expression_of a.now) (map expression_of b.now) }
 {
-    match (a.split_first(), b.split_first()) {
-        (Some((x, xs)), Some((y, ys))) => poets_expr::same(x, y) && same_args(xs, ys),
-        (None, None) => true,
-        _ => false,
+    let mut left = a;
+    let mut right = b;
+    while let (Some((x, xs)), Some((y, ys))) = (left.split_first(), right.split_first()) {
+        if !poets_expr::same(x, y) {
+            return false;
+        }
+        left = xs;
+        right = ys;
     }
+    left.is_empty() && right.is_empty()
 }
 
 fn same_trees(a: &Term, b: &Term) -> bool

@@ -1,5 +1,6 @@
-//! The laws of `Perf` and `May`, each carried by a function that does nothing.
+//! The laws of `Perf` and `May`, and of checked, guarded and studied books, each carried by a function that does nothing.
 ghost use Rattle.poets_syntax.specs.Laws.{NothingGranted, RestGranted, AllGranted, GrantedAnywhere, GrantedByShape, NullableByShape, HopefulByShape, NullableByMarks, ReplacedAlike, ReplacedPerformed, ReplacedIsWhole, TypedIsWellFormed};
+ghost use Rattle.poets_syntax.specs.StudiedLaws.{TypedApplicationsFit, TypedBodiesFit, StudiedMarksAreRight, CountsFitWhereKnown, WidthUnfolds, EnoughDepth};
 
 /// With no granted step, what may be performed is what is performed.
 pub fn nothing_granted()
@@ -55,4 +56,26 @@ pub fn replaced_whole()
 /// A typed contract is well-formed, which the other laws ask for.
 pub fn typed_well_formed()
     ensures { TypedIsWellFormed }
+{}
+
+/// In a typed contract and a typed book applications have as many arguments as their templates have parameters.
+pub fn typed_applications_fit()
+    ensures contract { TypedApplicationsFit }
+    ensures bodies { TypedBodiesFit }
+    ensures counts { CountsFitWhereKnown }
+{}
+
+/// The marks of a studied book are right.
+pub fn studied_marks()
+    ensures { StudiedMarksAreRight }
+{}
+
+/// In a guarded book the width counts an application with the width of its template's body.
+pub fn width_unfolds()
+    ensures { WidthUnfolds }
+{}
+
+/// In a guarded book no more unfoldings stand in a row than there are templates.
+pub fn enough_depth()
+    ensures { EnoughDepth }
 {}

@@ -6,6 +6,7 @@ mod equality;
 mod examples;
 pub mod laws;
 mod sizes;
+mod studied;
 mod substitution;
 mod term;
 #[cfg(test)]
@@ -13,5 +14,6 @@ mod tests;
 
 pub use equality::same;
 pub use sizes::size;
+pub use studied::{Mark, Studied};
 pub use substitution::{copy, subst};
 pub use term::{Binders, Book, Param, Template, Term};

@@ -18,10 +18,11 @@ fn node(a: u64, b: u64) -> u64
 fn nodes_of_args(args: &[Expr]) -> u64
     ensures { result ≡ min (nodes_of_all (map expression_of args.now)) (2 ^ 64 - 1) }
 {
-    match args.split_first() {
-        Some((arg, args)) => poets_expr::size(arg).saturating_add(nodes_of_args(args)),
-        None => 0,
+    let mut sum = 0u64;
+    for arg in args {
+        sum = sum.saturating_add(poets_expr::size(arg));
     }
+    sum
 }
 
 /// The number of nodes of the contract and of its expressions, cut at the greatest `u64`.

@@ -1,0 +1,9 @@
+pub mod Places
+pub mod Marking
+pub mod Graphs
+pub mod Walking
+pub mod Searching
+pub mod Finding
+pub mod Exposing
+pub mod Studying
+pub mod Checking

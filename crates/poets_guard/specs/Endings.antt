@@ -1,0 +1,29 @@
+-- Which templates may end: by no step, or by granted steps.
+use Rattle.std.specs.Prelude.{◌≡◌, ℕ, Bool, true, false, ◌&&◌, ◌||◌, [], IsTrue, ◌↔◌}
+use Rattle.poets_value.specs.declared.value.Name.{Name}
+use Rattle.poets_syntax.specs.Contract.{Contract, Success, Failure, Transmit, Plus, Par, Seq, App}
+use Rattle.poets_syntax.specs.Book.{Definitions}
+use Rattle.poets_syntax.specs.May.{May}
+use Rattle.poets_syntax.specs.Marks.{BodyIs}
+
+-- whether a contract may end, where `says` tells it of templates; where steps are granted, behind transmits too
+abbrev pub ends : (granted : Bool) → (says : Name → Bool) → Contract → Bool
+ends granted says Success = true
+ends granted says Failure = false
+ends granted says (Transmit b p c) = granted && ends granted says c
+ends granted says (Plus a b) = ends granted says a || ends granted says b
+ends granted says (Par a b) = ends granted says a && ends granted says b
+ends granted says (Seq a b) = ends granted says a && ends granted says b
+ends granted says (App f args) = says f
+
+-- granted steps alone perform the contract, and no step does where none is granted
+abbrev pub MayEnd : Definitions → (granted : Bool) → Contract → Type 0
+MayEnd book granted c = (n : ℕ) × May book [] c [] n × (granted ≡ false → n ≡ 0)
+
+-- each template that is said to may end
+abbrev pub IsSound : Definitions → (granted : Bool) → (says : Name → Bool) → Type 0
+IsSound book granted says = (f : Name) → says f ≡ true → BodyIs book (MayEnd book granted) f
+
+-- exactly the templates that may end are said to
+abbrev pub IsExact : Definitions → (granted : Bool) → (says : Name → Bool) → Type 0
+IsExact book granted says = (f : Name) → IsTrue (says f) ↔ BodyIs book (MayEnd book granted) f

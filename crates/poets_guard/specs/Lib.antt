@@ -1,0 +1,9 @@
+pub mod Endings
+pub mod Sweeps
+pub mod Graph
+pub mod Walks
+pub mod Marked
+pub mod FirstCycle
+pub mod Searched
+pub mod Fault
+pub mod Examples

@@ -1,0 +1,60 @@
+//! The first cycle of the graph.
+ghost use Rattle.std.specs.Prelude.{◌≡◌, IfOk, Ok, true, false, map};
+ghost use Rattle.std.specs.BTreeSet.{contains};
+ghost use Rattle.poets_value.specs.Names.{name_cmp};
+ghost use Rattle.poets_guard.specs.Graph.{HasEdge};
+ghost use Rattle.poets_guard.specs.Walks.{HasCycle};
+ghost use Rattle.poets_guard.specs.FirstCycle.{IsFirstOf};
+ghost use Rattle.poets_guard.specs.Searched.{HaveNodes, IsSearched, LeadsOn, HasNodesOf};
+
+use crate::graph::Graph;
+use poets_syntax::Book;
+use poets_syntax::build::push;
+use poets_value::{List, Memory, Name};
+use std::alloc::Global;
+use std::collections::BTreeSet;
+
+// Leads the path on from a name to the goal. Says whether there is a way over names that were not seen.
+fn lead(
+    graph: &Graph,
+    goal: Name,
+    from: Name,
+    seen: &mut BTreeSet<Name>,
+    path: &mut List<Name>,
+) -> Result<bool, Memory>
+    requires { HaveNodes graph.now seen.old }
+    ensures led { result ≡ Ok true → LeadsOn graph.now goal from path.old.items path.new.items }
+    ensures back { result ≡ Ok false → path.new.items ≡ path.old.items }
+    ensures searched { result ≡ Ok false → IsSearched graph.now goal from seen.old seen.new }
+{
+    let Some(node) = graph.get(&from) else {
+        return Ok(false);
+    };
+    if !seen.insert(from)? {
+        return Ok(false);
+    }
+    push(path, from)?;
+    for next in node.exposed.as_slice() {
+        if *next == goal || lead(graph, goal, *next, seen, path)? {
+            return Ok(true);
+        }
+    }
+    path.pop();
+    Ok(false)
+}
+
+/// The cycle that begins with the first template that lies on one.
+pub(crate) fn first_cycle(alloc: Global, book: &Book, graph: &Graph) -> Result<List<Name>, Memory>
+    requires cycle { HasCycle graph.now }
+    requires names { HasNodesOf graph.now book.now.templates.items }
+    ensures { IfOk result (λ cycle. IsFirstOf (HasEdge graph.now) (map (λ t. t.name) book.now.templates.items) cycle.items) }
+{
+    for template in book.templates.as_slice() {
+        let mut seen = BTreeSet::new(alloc);
+        let mut path = List::new(alloc);
+        if lead(graph, template.name, template.name, &mut seen, &mut path)? {
+            return Ok(path);
+        }
+    }
+    unreachable!()
+}

@@ -1,0 +1,12 @@
+//! Guarded books, and what is known of their templates.
+#![tactic(auto)]
+
+mod cycles;
+mod endings;
+mod graph;
+mod guard;
+#[cfg(test)]
+mod tests;
+mod widths;
+
+pub use guard::{GuardFault, study};

@@ -1,0 +1,41 @@
+-- What is known of checked, guarded and studied books, as statements.
+use Rattle.std.specs.Prelude.{◌≡◌, List, length}
+use Rattle.poets_value.specs.declared.value.Name.{Name}
+use Rattle.poets_syntax.specs.declared.studied.Mark.{Mark}
+use Rattle.poets_syntax.specs.Contract.{Contract}
+use Rattle.poets_syntax.specs.Book.{Definitions, template_in}
+use Rattle.poets_syntax.specs.Applied.{ApplicationsFit, BodiesFit, CountsFit, BodiesCountsFit}
+use Rattle.poets_syntax.specs.Marks.{Marks, AreRight}
+use Rattle.poets_syntax.specs.TypeOf.{Scope}
+use Rattle.poets_syntax.specs.Typed.{IsTyped, IsTypedBook}
+use Rattle.poets_syntax.specs.Guarded.{IsGuarded}
+use Rattle.poets_syntax.specs.Exposed.{UnfoldsWithin}
+use Rattle.poets_syntax.specs.Width.{body_in, wide_by, width}
+use Rattle.poets_syntax.specs.Studied.{marks_in, IsStudiedBook}
+
+-- the applications in a typed contract, and in the bodies of a typed book, have as many arguments as their templates have parameters
+abbrev pub TypedApplicationsFit : Type 0
+TypedApplicationsFit = (book : Definitions) (reports : List Name) (scope : Scope) (c : Contract) →
+    IsTyped book reports scope c → ApplicationsFit book c
+
+abbrev pub TypedBodiesFit : Type 0
+TypedBodiesFit = (book : Definitions) (reports : List Name) → IsTypedBook book reports → BodiesFit book
+
+-- the marks of a studied book are right
+abbrev pub StudiedMarksAreRight : Type 0
+StudiedMarksAreRight = (book : Definitions) (marks : List Mark) → IsStudiedBook book marks → AreRight book (marks_in book.templates marks)
+
+-- where each application is known, the numbers of arguments fit
+abbrev pub CountsFitWhereKnown : Type 0
+CountsFitWhereKnown = (book : Definitions) (c : Contract) → ApplicationsFit book c → CountsFit book c
+
+-- in a guarded book an application counts with the width of its template's body
+abbrev pub WidthUnfolds : Type 0
+WidthUnfolds = (book : Definitions) (marks : Marks) (c : Contract) →
+    AreRight book marks → IsGuarded book → BodiesCountsFit book → CountsFit book c →
+    width book marks c ≡ wide_by (λ f. body_in (template_in book.templates f) (width book marks)) marks c
+
+-- and as many unfoldings in a row as there are templates are enough
+abbrev pub EnoughDepth : Type 0
+EnoughDepth = (book : Definitions) (marks : Marks) (c : Contract) →
+    AreRight book marks → IsGuarded book → BodiesCountsFit book → CountsFit book c → UnfoldsWithin (length book.templates) book marks c
