@@ -45,7 +45,7 @@ pub data Response : Type 0 where
   Watching : ℕ → Response
   NoWatch : ℕ → Response
 
--- the plain data of a `Command`
+-- `Command` as plain data, without boxes
 abbrev pub request_of : Command → Request
 request_of (C.Register x term) = Register x (contract_of term)
 request_of (C.Transmit x e) = Transmit x e
@@ -59,7 +59,7 @@ request_of (C.Read n) = Read n
 abbrev pub folio_row_of : Name × Answer → Name × Finding
 folio_row_of row = (row.0, finding_of row.1)
 
--- the plain data of a `Reply`
+-- `Reply` as plain data, without boxes
 abbrev pub response_of : Reply → Response
 response_of (R.Registered n) = Registered n
 response_of (R.NameTaken n) = NameTaken n
@@ -85,7 +85,7 @@ pub record HistoryEntry : Type 0 where
   pub request : Request
   pub response : Response
 
--- the plain data of an `Entry`
+-- `Entry` as plain data, without boxes
 abbrev pub entry_of : Entry → HistoryEntry
 entry_of e = record {
   clerk = e.clerk;

@@ -4,3 +4,6 @@ pub mod Frame
 pub mod Plain
 pub mod Replies
 pub mod Laws
+pub mod Sentences
+pub mod Declarations
+pub mod TypedSentences

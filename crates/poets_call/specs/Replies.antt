@@ -82,8 +82,8 @@ abbrev pub AreFolioRows : Frame → Ledger → Query → List Expression → Lis
 AreFolioRows f ledger q args over rows =
     AllZip (λ x row. (row.0 ≡ x) × IsFinding f q args (trace ledger (number_of ledger x)) row.1) over rows
 
--- The replies to each command: of the rows the first that applies.
--- `named` is the number and the original of the contract with the command's name, if there is one.
+-- the replies to each command: the cases in order; the first that applies
+-- `named` is the number and the original of the contract with the command's name, if there is one
 
 abbrev pub Registers : Frame → Ledger → Contract → (named : Option (ℕ × Contract)) → Response → Type 0
 Registers f ledger c (Some named) r = r ≡ Response.NameTaken named.0

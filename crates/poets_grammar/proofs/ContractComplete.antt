@@ -1,0 +1,146 @@
+-- What is a contract is read.
+use Rattle.std.proofs.Common.{◌≡◌, ℕ, zero, suc, ◌<◌, ◌≤◌, List, [], ◌∷◌, length, Some, None, refl, sym, ◌∙◌, arith}
+use Rattle.std.specs.Prelude.{IfSome}
+use Rattle.poets_expr.specs.Expression.{Expression}
+use Rattle.poets_syntax.specs.declared.term.Binders.{Binders}
+use Rattle.poets_syntax.specs.Contract.{Contract}
+use Rattle.poets_lex.specs.declared.token.Sign.{Sign}
+use Rattle.poets_lex.specs.declared.token.Sign.TheVariants as S
+use Rattle.poets_lex.specs.declared.token.Tok.{Tok}
+use Rattle.poets_lex.specs.declared.token.Tok.TheVariants as K
+use Rattle.poets_grammar.specs.Expressions.{ReadsArguments}
+use Rattle.poets_grammar.specs.ContractGrammar.{ReadsBinders, ContractRule, Choice, Parallel, Sequence, Simple, ReadsContract, IsContract}
+use Rattle.poets_grammar.specs.Reading.{Reading, arguments}
+use Rattle.poets_grammar.specs.ContractReading.{ContractReader, mark, either, beside, followed, binders, transmit, application, sequence, parallel, choice, closed_contract, simple_step, simple_at, simple, contract, whole_contract}
+use Rattle.poets_grammar.proofs.Steps.{steps, at_some, ended}
+use Rattle.poets_grammar.proofs.Joined.{Goes, begins, goes_on, ends}
+use Rattle.poets_grammar.proofs.Listed.{bracketed_complete, bracketed_shorter}
+use Rattle.poets_grammar.proofs.Complete.{shorter, expression_complete}
+use Rattle.poets_grammar.proofs.Items.{expressions}
+use Rattle.poets_grammar.proofs.ContractSound.{grip, grip_bound, IsFrontContract, simple_step_sound, simple_sound, contract_sound}
+
+binders_shorter : {ts rest : List Tok} {b : Binders} → ReadsBinders ts b rest → length rest < length ts
+binders_shorter ReadsBinders.Four = omega arith
+
+pub contract_shorter : {F : ContractRule} {ts rest : List Tok} {c : Contract} → ReadsContract F ts c rest → length rest < length ts
+contract_shorter (ReadsContract.OneParallel r) = contract_shorter r
+contract_shorter (ReadsContract.MoreParallels r q) = omega (arith, contract_shorter r, contract_shorter q)
+contract_shorter (ReadsContract.OneSequence r) = contract_shorter r
+contract_shorter (ReadsContract.MoreSequences r q) = omega (arith, contract_shorter r, contract_shorter q)
+contract_shorter (ReadsContract.OneSimple r) = contract_shorter r
+contract_shorter (ReadsContract.MoreSimples r q) = omega (arith, contract_shorter r, contract_shorter q)
+contract_shorter (ReadsContract.Transmit b r q) = omega (arith, binders_shorter b, shorter r, contract_shorter q)
+contract_shorter ReadsContract.Success = omega arith
+contract_shorter ReadsContract.Failure = omega arith
+contract_shorter (ReadsContract.Application a) = omega (arith, bracketed_shorter expressions a)
+contract_shorter (ReadsContract.Brackets r) = omega (arith, contract_shorter r)
+
+-- ---- simple contracts, with a reader of them
+
+-- the reader finds each simple contract of fewer tokens
+abbrev FindsBelow : ContractReader → ℕ → Type 0
+FindsBelow f n = (ts : List Tok) (c : Contract) (rest : List Tok) → length ts < n → ReadsContract Simple ts c rest → f ts ≡ Some (c, rest)
+
+plus_none : (ts : List Tok) → grip ts < 1 → mark S.Plus ts ≡ None
+plus_none (K.Sign S.Plus ∷ ts) lt = absurd (omega arith)
+plus_none _ lt = refl
+
+bars_none : (ts : List Tok) → grip ts < 2 → mark S.DoubleBar ts ≡ None
+bars_none (K.Sign S.DoubleBar ∷ ts) lt = absurd (omega arith)
+bars_none _ lt = refl
+
+semicolon_none : (ts : List Tok) → grip ts < 3 → mark S.Semicolon ts ≡ None
+semicolon_none (K.Sign S.Semicolon ∷ ts) lt = absurd (omega arith)
+semicolon_none _ lt = refl
+
+-- what the rule's reader finds, with f for simple contracts: that reading is to go on behind c
+Claim : ContractReader → ContractRule → List Tok → Contract → List Tok → Type 0
+Claim f Choice ts c rest = Goes (mark S.Plus) either (parallel f) (choice f) ts c rest
+Claim f Parallel ts c rest = Goes (mark S.DoubleBar) beside (sequence f) (parallel f) ts c rest
+Claim f Sequence ts c rest = Goes (mark S.Semicolon) followed f (sequence f) ts c rest
+Claim f Simple ts c rest = f ts ≡ Some (c, rest)
+
+stop : (sign : Sign) {join : Unit {0} → Contract → Contract → Contract} {operand f : ContractReader} {ts rest : List Tok} {c : Contract} →
+    Goes (mark sign) join operand f ts c rest → mark sign rest ≡ None → f ts ≡ Some (c, rest)
+stop sign {join} {operand} g e = ends (mark sign) join operand g e
+
+step : {sign : Sign} {join : Unit {0} → Contract → Contract → Contract} {operand f : ContractReader} {ts mid rest : List Tok} {a b : Contract} →
+    Goes (mark sign) join operand f ts a (K.Sign sign ∷ mid) → mark sign (K.Sign sign ∷ mid) ≡ Some (tt, mid) → operand mid ≡ Some (b, rest) → length rest < length mid →
+    Goes (mark sign) join operand f ts (join tt a b) rest
+step {sign} {join} {operand} g e q l = goes_on (mark sign) join operand g e q (omega (arith, l))
+
+full : (f : ContractReader) (n : ℕ) → FindsBelow f n → {F : ContractRule} {ts rest : List Tok} {c : Contract} → ReadsContract F ts c rest → grip rest < suc (grip_bound F) → length ts < n →
+    Claim f F ts c rest
+unfolding Claim choice parallel sequence
+full f n h (ReadsContract.OneParallel {rest = rest} r) s l = begins (mark S.Plus) either (parallel f) _ _ _ (stop S.DoubleBar (full f n h r (omega arith) l) (bars_none rest s))
+full f n h (ReadsContract.MoreParallels {rest = rest} r q) s l =
+    step (full f n h r (omega arith) l) refl (stop S.DoubleBar (full f n h q (omega arith) (omega (arith, contract_shorter r))) (bars_none rest s)) (contract_shorter q)
+full f n h (ReadsContract.OneSequence {rest = rest} r) s l = begins (mark S.DoubleBar) beside (sequence f) _ _ _ (stop S.Semicolon (full f n h r (omega arith) l) (semicolon_none rest s))
+full f n h (ReadsContract.MoreSequences {rest = rest} r q) s l =
+    step (full f n h r (omega arith) l) refl (stop S.Semicolon (full f n h q (omega arith) (omega (arith, contract_shorter r))) (semicolon_none rest s)) (contract_shorter q)
+full f n h (ReadsContract.OneSimple r) s l = begins (mark S.Semicolon) followed f _ _ _ (h _ _ _ l r)
+full f n h (ReadsContract.MoreSimples r q) s l = step (full f n h r (omega arith) l) refl (h _ _ _ (omega (arith, contract_shorter r)) q) (contract_shorter q)
+full f n h (ReadsContract.Transmit b r q) s l = h _ _ _ l (ReadsContract.Transmit b r q)
+full f n h ReadsContract.Success s l = h _ _ _ l ReadsContract.Success
+full f n h ReadsContract.Failure s l = h _ _ _ l ReadsContract.Failure
+full f n h (ReadsContract.Application a) s l = h _ _ _ l (ReadsContract.Application a)
+full f n h (ReadsContract.Brackets r) s l = h _ _ _ l (ReadsContract.Brackets r)
+
+choice_finds : (f : ContractReader) (n : ℕ) → FindsBelow f n → (ts : List Tok) (c : Contract) (rest : List Tok) → ReadsContract Choice ts c rest → grip rest < 1 → length ts < n →
+    choice f ts ≡ Some (c, rest)
+unfolding Claim
+choice_finds f n h ts c rest r s l = stop S.Plus (full f n h r (omega arith) l) (plus_none rest s)
+
+pub binders_complete : {ts rest : List Tok} {b : Binders} → ReadsBinders ts b rest → binders ts ≡ Some (b, rest)
+unfolding binders
+binders_complete ReadsBinders.Four = refl
+
+pub arguments_complete : {ts rest : List Tok} {args : List Expression} → ReadsArguments ts args rest → arguments ts ≡ Some (args, rest)
+unfolding arguments
+arguments_complete a = bracketed_complete expressions a
+
+step_finds : (f : ContractReader) (n : ℕ) → FindsBelow f n → {ts rest : List Tok} {c : Contract} → ReadsContract Simple ts c rest → length ts ≤ n → simple_step f ts ≡ Some (c, rest)
+unfolding simple_step transmit application closed_contract
+step_finds f n h (ReadsContract.Transmit b r q) l =
+    rw (binders_complete b, expression_complete _ _ _ r (omega arith), h _ _ _ (omega (arith, binders_shorter b, shorter r)) q) refl
+step_finds f n h ReadsContract.Success l = refl
+step_finds f n h ReadsContract.Failure l = refl
+step_finds f n h (ReadsContract.Application a) l = rw (arguments_complete a) refl
+step_finds f n h (ReadsContract.Brackets r) l = rw (choice_finds f n h _ _ _ r (omega arith) (omega arith)) refl
+
+-- ---- whole contracts
+
+simple_at_finds : (n : ℕ) → FindsBelow (simple_at n) (suc n)
+unfolding simple_at
+simple_at_finds zero ts c rest l r = absurd (omega (arith, contract_shorter r))
+simple_at_finds (suc n) ts c rest l r = step_finds (simple_at n) (suc n) (simple_at_finds n) r (omega arith)
+
+pub simple_complete : (ts : List Tok) (c : Contract) (rest : List Tok) → ReadsContract Simple ts c rest → simple ts ≡ Some (c, rest)
+unfolding simple
+simple_complete ts c rest r = simple_at_finds (length ts) ts c rest (omega arith) r
+
+pub contract_complete : (ts : List Tok) (c : Contract) (rest : List Tok) → ReadsContract Choice ts c rest → grip rest < 1 → contract ts ≡ Some (c, rest)
+unfolding contract
+contract_complete ts c rest r s = choice_finds simple (suc (length ts)) (λ us d more l q. simple_complete us d more q) ts c rest r s (omega arith)
+
+agree : (ts : List Tok) (r q : Reading Contract) → simple ts ≡ r → simple_step simple ts ≡ q → IfSome r (IsFrontContract Simple ts) → IfSome q (IsFrontContract Simple ts) → r ≡ q
+agree ts None None e d p o = refl
+agree ts (Some x) q e d p o = sym (step_finds simple (suc (length ts)) (λ us c more l r. simple_complete us c more r) p.0 (omega arith)) ∙ d
+agree ts None (Some y) e d p o = sym e ∙ simple_complete ts y.0 y.1 o.0
+
+-- reading is by the rules, with itself for the parts
+pub simple_again : (ts : List Tok) → simple ts ≡ simple_step simple ts
+simple_again ts = agree ts (simple ts) (simple_step simple ts) refl refl (simple_sound ts) (simple_step_sound simple simple_sound ts)
+
+-- ---- the laws
+
+pub whole_contract_sound : (ts : List Tok) → IfSome (whole_contract ts) (IsContract ts)
+unfolding whole_contract
+whole_contract_sound ts = steps _ _ (contract ts) _ (contract_sound ts) (λ c front. ended (λ c rest. ReadsContract Choice ts c rest) c.0 c.1 front.0)
+
+pub whole_contract_complete : (ts : List Tok) (c : Contract) → IsContract ts c → whole_contract ts ≡ Some c
+unfolding whole_contract
+whole_contract_complete ts c r = rw (contract_complete ts c [] r (omega arith)) refl
+
+pub contract_found : (ts : List Tok) (c : Contract) → whole_contract ts ≡ Some c → IsContract ts c
+contract_found ts c q = at_some (IsContract ts) (whole_contract ts) c (whole_contract_sound ts) q

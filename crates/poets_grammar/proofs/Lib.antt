@@ -1,0 +1,11 @@
+pub mod Steps
+pub mod Joined
+pub mod Listed
+pub mod Levels
+pub mod Sound
+pub mod Complete
+pub mod Items
+pub mod ContractSound
+pub mod ContractComplete
+pub mod Statements
+pub mod Depths

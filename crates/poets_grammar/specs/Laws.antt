@@ -1,0 +1,33 @@
+-- The laws of the grammar, as statements.
+use Rattle.std.specs.Prelude.{◌≡◌, ◌↔◌, List, Some}
+use Rattle.poets_expr.specs.Expression.{Expression}
+use Rattle.poets_syntax.specs.Contract.{Contract}
+use Rattle.poets_call.specs.Sentences.{Sentence}
+use Rattle.poets_lex.specs.declared.token.Tok.{Tok}
+use Rattle.poets_grammar.specs.Expressions.{IsExpression}
+use Rattle.poets_grammar.specs.ContractGrammar.{IsContract}
+use Rattle.poets_grammar.specs.Statements.{IsSentence}
+use Rattle.poets_grammar.specs.Reading.{whole_expression}
+use Rattle.poets_grammar.specs.ContractReading.{whole_contract}
+use Rattle.poets_grammar.specs.StatementReading.{sentence}
+
+-- no tokens have two trees
+abbrev pub OneExpression : Type 0
+OneExpression = (ts : List Tok) (a b : Expression) → IsExpression ts a → IsExpression ts b → a ≡ b
+
+abbrev pub OneContract : Type 0
+OneContract = (ts : List Tok) (a b : Contract) → IsContract ts a → IsContract ts b → a ≡ b
+
+-- no statement says two things
+abbrev pub OneSentence : Type 0
+OneSentence = (ts : List Tok) (a b : Sentence) → IsSentence ts a → IsSentence ts b → a ≡ b
+
+-- what is read is what the tokens are
+abbrev pub ExpressionRead : Type 0
+ExpressionRead = (ts : List Tok) (e : Expression) → IsExpression ts e ↔ whole_expression ts ≡ Some e
+
+abbrev pub ContractRead : Type 0
+ContractRead = (ts : List Tok) (c : Contract) → IsContract ts c ↔ whole_contract ts ≡ Some c
+
+abbrev pub SentenceRead : Type 0
+SentenceRead = (ts : List Tok) (s : Sentence) → IsSentence ts s ↔ sentence ts ≡ Some s

@@ -1,0 +1,11 @@
+pub mod Tokens
+pub mod Lists
+pub mod Expressions
+pub mod ContractGrammar
+pub mod Statements
+pub mod TooDeep
+pub mod Reading
+pub mod ContractReading
+pub mod StatementReading
+pub mod Laws
+pub mod Examples

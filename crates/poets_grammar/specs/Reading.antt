@@ -1,0 +1,284 @@
+-- Reading of expressions as functions on lists: what stands at the front of the tokens, as long as possible, and what stands behind it.
+-- What is an expression Expressions.antt says; that both agree is proved.
+use Rattle.std.specs.Prelude.{ℕ, zero, suc, ◌+◌, nat_eq, Bool, true, false, if◌then◌else◌, List, [], ◌∷◌, length, Option, Some, None, ℤ, pos, neg_ℤ}
+use Rattle.poets_value.specs.declared.value.Name.{Name}
+use Rattle.poets_value.specs.declared.value.Ty.{Ty}
+use Rattle.poets_value.specs.declared.value.Resource.{Resource}
+use Rattle.poets_value.specs.declared.value.Value.TheVariants as V
+use Rattle.poets_expr.specs.declared.expr.Op.{Op}
+use Rattle.poets_expr.specs.Expression.{UnaryOp, Minus, Not, AmountOf, KindOf, Expression, Literal, Undefined, Named, Unary, Make, Binary, If}
+use Rattle.poets_lex.specs.declared.token.Word.{Word}
+use Rattle.poets_lex.specs.declared.token.Word.TheVariants as W
+use Rattle.poets_lex.specs.declared.token.Sign.{Sign}
+use Rattle.poets_lex.specs.declared.token.Sign.TheVariants as S
+use Rattle.poets_lex.specs.declared.token.Tok.{Tok}
+use Rattle.poets_lex.specs.declared.token.Tok.TheVariants as K
+use Rattle.poets_lex.specs.contracts.token.SignPartialEq.TheImpl as sign_eq
+use Rattle.poets_lex.specs.contracts.token.WordPartialEq.TheImpl as word_eq
+use Rattle.poets_grammar.specs.Tokens.{joins, type_of}
+
+-- what is read from the front of the tokens, and what stands behind it
+abbrev pub Reading : Type 0 → Type 0
+Reading A = Option (A × List Tok)
+
+abbrev pub Reader : Type 0
+Reader = List Tok → Reading Expression
+
+infixl 10 ◌>>=◌
+abbrev pub ◌>>=◌ : {A B : Type 0} → Option A → (A → Option B) → Option B
+(Some x) >>= f = f x
+None >>= f = None
+
+-- ---- single tokens
+
+abbrev pub same_sign : Sign → Sign → Bool
+same_sign a b = (sign_eq.ghosts).eq a b
+
+abbrev pub same_word : Word → Word → Bool
+same_word a b = (word_eq.ghosts).eq a b
+
+-- what stands behind the sign
+abbrev pub behind_sign : Sign → List Tok → Option (List Tok)
+behind_sign wanted (K.Sign found ∷ ts) = if same_sign found wanted then Some ts else None
+behind_sign wanted _ = None
+
+abbrev pub behind_word : Word → List Tok → Option (List Tok)
+behind_word wanted (K.Word found ∷ ts) = if same_word found wanted then Some ts else None
+behind_word wanted _ = None
+
+abbrev pub name : List Tok → Reading Name
+name (K.Name x ∷ ts) = Some (x, ts)
+name _ = None
+
+-- a NUMBER, which is not below 0
+abbrev pub number : List Tok → Reading ℤ
+number (K.Number (pos n) ∷ ts) = Some (pos n, ts)
+number _ = None
+
+abbrev pub with_type : Option Ty → List Tok → Reading Ty
+with_type (Some t) ts = Some (t, ts)
+with_type None ts = None
+
+abbrev pub type_name : List Tok → Reading Ty
+type_name (K.Word w ∷ ts) = with_type (type_of w) ts
+type_name _ = None
+
+abbrev pub of_level : ℕ → Option (ℕ × Op) → List Tok → Reading Op
+of_level level (Some p) ts = if nat_eq p.0 level then Some (p.1, ts) else None
+of_level level None ts = None
+
+-- an operator of that level
+abbrev pub operator : ℕ → List Tok → Reading Op
+operator level (t ∷ ts) = of_level level (joins t) ts
+operator level [] = None
+
+-- nothing stands behind what is read
+abbrev pub whole : {A : Type 0} → A → List Tok → Option A
+whole x [] = Some x
+whole x (t ∷ ts) = None
+
+-- ---- operands that links join
+
+abbrev pub turn : {J A : Type 0} → (J → A → A → A) → (List Tok → Reading A) → (A → List Tok → Reading A) → A → List Tok → Reading J → Reading A
+turn join operand next left ts None = Some (left, ts)
+turn join operand next left ts (Some j) = operand j.1 >>= λ right. next (join j.0 left right.0) right.1
+
+-- what is joined to the first operand: fewer operands than the number, each behind a link
+unfoldable pub more : {J A : Type 0} → (List Tok → Reading J) → (J → A → A → A) → (List Tok → Reading A) → ℕ → A → List Tok → Reading A
+more link join operand zero left ts = None
+more link join operand (suc turns) left ts = turn join operand (more link join operand turns) left ts (link ts)
+
+-- operands with a link between them, grouped to the left
+unfoldable pub joined : {J A : Type 0} → (List Tok → Reading J) → (J → A → A → A) → (List Tok → Reading A) → List Tok → Reading A
+joined link join operand ts = do
+  left ← operand ts
+  more link join operand (length left.1 + 1) left.0 left.1
+
+-- ---- lists
+
+abbrev pub others : {A : Type 0} → (List Tok → Reading (List A)) → A → List Tok → Option (List Tok) → Reading (List A)
+others next x ts None = Some (x ∷ [], ts)
+others next x ts (Some behind) = next behind >>= λ xs. Some (x ∷ xs.0, xs.1)
+
+unfoldable pub listed_at : {A : Type 0} → (List Tok → Reading A) → ℕ → List Tok → Reading (List A)
+listed_at item zero ts = None
+listed_at item (suc k) ts = item ts >>= λ x. others (listed_at item k) x.0 x.1 (behind_sign S.Comma x.1)
+
+-- items with commas between them
+unfoldable pub listed : {A : Type 0} → (List Tok → Reading A) → List Tok → Reading (List A)
+listed item ts = listed_at item (length ts) ts
+
+unfoldable pub some_listed : {A : Type 0} → (List Tok → Reading A) → List Tok → Reading (List A)
+some_listed item ts = do
+  xs ← listed item ts
+  rest ← behind_sign S.RightParen xs.1
+  Some (xs.0, rest)
+
+abbrev pub none_or_some : {A : Type 0} → (List Tok → Reading A) → List Tok → Option (List Tok) → Reading (List A)
+none_or_some item ts (Some rest) = Some ([], rest)
+none_or_some item ts None = some_listed item ts
+
+-- "(" [ item { "," item } ] ")"
+unfoldable pub bracketed : {A : Type 0} → (List Tok → Reading A) → List Tok → Reading (List A)
+bracketed item ts = do
+  inside ← behind_sign S.LeftParen ts
+  none_or_some item inside (behind_sign S.RightParen inside)
+
+-- ---- the rules, over a reader of whole expressions
+
+-- an expression and a `)`
+unfoldable pub closed : Reader → Reader
+closed expr ts = do
+  e ← expr ts
+  rest ← behind_sign S.RightParen e.1
+  Some (e.0, rest)
+
+-- an expression in brackets, under an operator
+unfoldable pub applied : UnaryOp → Reader → Reader
+applied o expr ts = do
+  inside ← behind_sign S.LeftParen ts
+  e ← closed expr inside
+  Some (Unary o e.0, e.1)
+
+-- behind the word `res`
+unfoldable pub made : Reader → Reader
+made expr ts = do
+  from_amount ← behind_sign S.LeftParen ts
+  a ← expr from_amount
+  from_kind ← behind_sign S.Comma a.1
+  b ← closed expr from_kind
+  Some (Make a.0 b.0, b.1)
+
+-- behind the word `if`
+unfoldable pub conditional : Reader → Reader
+conditional expr ts = do
+  a ← expr ts
+  from_then ← behind_word W.Then a.1
+  b ← expr from_then
+  from_else ← behind_word W.Else b.1
+  c ← expr from_else
+  rest ← behind_word W.End c.1
+  Some (If a.0 b.0 c.0, rest)
+
+-- NUMBER NAME "]"
+unfoldable pub amount : List Tok → Reading Resource
+amount ts = do
+  n ← number ts
+  x ← name n.1
+  rest ← behind_sign S.RightBracket x.1
+  Some (record { amount = n.0; kind = x.0 }, rest)
+
+unfoldable pub credit : Reader
+credit ts = do
+  r ← amount ts
+  Some (Literal (V.Resource r.0), r.1)
+
+unfoldable pub debt : Reader
+debt ts = do
+  r ← amount ts
+  Some (Literal (V.Resource (record { amount = neg_ℤ r.0.amount; kind = r.0.kind })), r.1)
+
+-- behind the `[`
+unfoldable pub resource : Reader
+resource (K.Sign S.Minus ∷ ts) = debt ts
+resource ts = credit ts
+
+-- behind the word `undefined`
+unfoldable pub undefined_of : Reader
+undefined_of ts = do
+  t ← type_name ts
+  Some (Undefined t.0, t.1)
+
+abbrev pub primary_word : Reader → Word → Reader
+primary_word expr W.True ts = Some (Literal (V.Bool true), ts)
+primary_word expr W.False ts = Some (Literal (V.Bool false), ts)
+primary_word expr W.Undefined ts = undefined_of ts
+primary_word expr W.Amount ts = applied AmountOf expr ts
+primary_word expr W.Kind ts = applied KindOf expr ts
+primary_word expr W.Res ts = made expr ts
+primary_word expr W.If ts = conditional expr ts
+primary_word expr _ ts = None
+
+unfoldable pub literal : Reader
+literal ts = do
+  n ← number ts
+  Some (Literal (V.Int n.0), n.1)
+
+abbrev pub day_literal : Reader
+day_literal (K.Day d ∷ ts) = Some (Literal (V.Day d), ts)
+day_literal _ = None
+
+unfoldable pub primary : Reader → Reader
+primary expr [] = None
+primary expr (K.Number n ∷ ts) = literal (K.Number n ∷ ts)
+primary expr (K.Day d ∷ ts) = day_literal (K.Day d ∷ ts)
+primary expr (K.Name x ∷ ts) = Some (Named x, ts)
+primary expr (K.Word w ∷ ts) = primary_word expr w ts
+primary expr (K.Sign S.LeftBracket ∷ ts) = resource ts
+primary expr (K.Sign S.LeftParen ∷ ts) = closed expr ts
+primary expr (K.Sign _ ∷ ts) = None
+
+-- what is read, under an operator
+abbrev pub under : UnaryOp → Reading Expression → Reading Expression
+under o r = r >>= λ e. Some (Unary o e.0, e.1)
+
+-- behind a `-`
+unfoldable pub negative : Reader
+negative ts = do
+  n ← number ts
+  Some (Literal (V.Int (neg_ℤ n.0)), n.1)
+
+unfoldable pub prefixed : Reader → Reader
+prefixed expr (K.Sign S.Minus ∷ K.Number n ∷ ts) = negative (K.Number n ∷ ts)
+prefixed expr (K.Sign S.Minus ∷ ts) = under Minus (prefixed expr ts)
+prefixed expr ts = primary expr ts
+
+unfoldable pub product : Reader → Reader
+product expr ts = joined (operator 6) Binary (prefixed expr) ts
+
+unfoldable pub sum : Reader → Reader
+sum expr ts = joined (operator 5) Binary (product expr) ts
+
+-- comparisons do not chain
+abbrev pub unless_compared : Expression → List Tok → Reading Op → Reading Expression
+unless_compared e ts None = Some (e, ts)
+unless_compared e ts (Some o) = None
+
+abbrev pub compared : Reader → Expression → List Tok → Reading Op → Reading Expression
+compared operand a ts None = Some (a, ts)
+compared operand a ts (Some o) = operand o.1 >>= λ b. unless_compared (Binary o.0 a b.0) b.1 (operator 4 b.1)
+
+unfoldable pub comparison : Reader → Reader
+comparison expr ts = do
+  a ← sum expr ts
+  compared (sum expr) a.0 a.1 (operator 4 a.1)
+
+unfoldable pub negation : Reader → Reader
+negation expr (K.Word W.Not ∷ ts) = under Not (negation expr ts)
+negation expr ts = comparison expr ts
+
+unfoldable pub conjunction : Reader → Reader
+conjunction expr ts = joined (operator 2) Binary (negation expr) ts
+
+unfoldable pub disjunction : Reader → Reader
+disjunction expr ts = joined (operator 1) Binary (conjunction expr) ts
+
+-- ---- whole expressions
+
+-- nested less deeply than the number; the count of the tokens is always enough
+unfoldable pub expression_at : ℕ → Reader
+expression_at zero ts = None
+expression_at (suc n) ts = disjunction (expression_at n) ts
+
+unfoldable pub expression : Reader
+expression ts = expression_at (length ts) ts
+
+-- the expression that all the tokens are
+unfoldable pub whole_expression : List Tok → Option Expression
+whole_expression ts = do
+  e ← expression ts
+  whole e.0 e.1
+
+-- "(" [ expression { "," expression } ] ")"
+unfoldable pub arguments : List Tok → Reading (List Expression)
+arguments ts = bracketed expression ts

@@ -1,0 +1,207 @@
+-- Reading of statements as functions on lists. What is a statement Statements.antt says; that both agree is proved.
+use Rattle.std.specs.Prelude.{ℕ, List, [], ◌∷◌, Option, Some, None, ℤ, pos}
+use Rattle.poets_value.specs.declared.value.Name.{Name}
+use Rattle.poets_value.specs.declared.value.Ty.{Ty}
+use Rattle.poets_expr.specs.Expression.{Expression}
+use Rattle.poets_syntax.specs.declared.term.Binders.{Binders}
+use Rattle.poets_syntax.specs.declared.term.Param.{Param}
+use Rattle.poets_call.specs.Calls.{Request, Register, Transmit, End, Show, Tally, Portfolio, Watch, Read}
+use Rattle.poets_call.specs.Sentences.{Sentence, Agents, Kinds, Template, Report, Clerk, Journal, Command, Numbered}
+use Rattle.poets_lex.specs.declared.token.Word.{Word}
+use Rattle.poets_lex.specs.declared.token.Word.TheVariants as W
+use Rattle.poets_lex.specs.declared.token.Sign.TheVariants as S
+use Rattle.poets_lex.specs.declared.token.Tok.{Tok}
+use Rattle.poets_lex.specs.declared.token.Tok.TheVariants as K
+use Rattle.poets_grammar.specs.Reading.{Reading, ◌>>=◌, behind_sign, behind_word, name, number, type_name, whole, listed, bracketed, expression, whole_expression, arguments}
+use Rattle.poets_grammar.specs.ContractReading.{binders, whole_contract}
+
+-- ---- parts
+
+-- a NUMBER, as a natural number
+abbrev pub natural : List Tok → Reading ℕ
+natural (K.Number (pos n) ∷ ts) = Some (n, ts)
+natural _ = None
+
+-- the DAY that is the last token
+abbrev pub last_day : List Tok → Option ℤ
+last_day (K.Day d ∷ []) = Some d
+last_day _ = None
+
+-- the NAME that is the last token
+abbrev pub last_name : List Tok → Option Name
+last_name (K.Name x ∷ []) = Some x
+last_name _ = None
+
+-- names up to the end
+unfoldable pub whole_names : List Tok → Option (List Name)
+whole_names ts = do
+  names ← listed name ts
+  whole names.0 names.1
+
+-- NAME ":" type
+unfoldable pub parameter : List Tok → Reading Param
+parameter ts = do
+  x ← name ts
+  a ← behind_sign S.Colon x.1
+  t ← type_name a
+  Some (record { name = x.0; ty = t.0 }, t.1)
+
+unfoldable pub parameters : List Tok → Reading (List Param)
+parameters ts = bracketed parameter ts
+
+-- arguments up to the end
+unfoldable pub whole_arguments : List Tok → Option (List Expression)
+whole_arguments ts = do
+  args ← arguments ts
+  whole args.0 args.1
+
+-- ---- commands, behind their words
+
+unfoldable pub register : List Tok → Option Request
+register ts = do
+  x ← name ts
+  a ← behind_sign S.Equal x.1
+  c ← whole_contract a
+  Some (Register x.0 c)
+
+unfoldable pub transmission : List Tok → Option Request
+transmission ts = do
+  x ← name ts
+  sender ← name x.1
+  receiver ← name sender.1
+  n ← number receiver.1
+  kind ← name n.1
+  day ← last_day kind.1
+  Some (Transmit x.0 (record { sender = sender.0; receiver = receiver.0; what = record { kind = kind.0; amount = n.0 }; day = day }))
+
+unfoldable pub tally : List Tok → Option Request
+tally ts = do
+  q ← name ts
+  args ← whole_arguments q.1
+  Some (Tally q.0 args)
+
+unfoldable pub portfolio : List Tok → Option Request
+portfolio ts = do
+  q ← name ts
+  args ← arguments q.1
+  a ← behind_word W.Over args.1
+  names ← whole_names a
+  Some (Portfolio q.0 args.0 names)
+
+unfoldable pub watch : List Tok → Option Request
+watch ts = do
+  q ← name ts
+  args ← whole_arguments q.1
+  Some (Watch q.0 args)
+
+unfoldable pub read_watch : List Tok → Option Request
+read_watch ts = do
+  n ← natural ts
+  whole (Read n.0) n.1
+
+abbrev pub command_word : Word → List Tok → Option Request
+command_word W.Register ts = register ts
+command_word W.Transmit ts = transmission ts
+command_word W.End ts = last_name ts >>= λ x. Some (End x)
+command_word W.Show ts = last_name ts >>= λ x. Some (Show x)
+command_word W.Tally ts = tally ts
+command_word W.Portfolio ts = portfolio ts
+command_word W.Watch ts = watch ts
+command_word W.Read ts = read_watch ts
+command_word _ ts = None
+
+unfoldable pub command : List Tok → Option Request
+command (K.Word w ∷ ts) = command_word w ts
+command _ = None
+
+-- ---- statements, behind their words
+
+unfoldable pub template : List Tok → Option Sentence
+template ts = do
+  f ← name ts
+  params ← parameters f.1
+  a ← behind_sign S.Equal params.1
+  body ← whole_contract a
+  Some (Template (record { name = f.0; params = params.0; body = body }))
+
+-- NAME "(" [ params ] ")" ":" type "="
+unfoldable pub report_head : List Tok → Reading (Name × List Param × Ty)
+report_head ts = do
+  q ← name ts
+  params ← parameters q.1
+  a ← behind_sign S.Colon params.1
+  ty ← type_name a
+  b ← behind_sign S.Equal ty.1
+  Some ((q.0, params.0, ty.0), b)
+
+-- "fold" NAME "=" expression
+unfoldable pub report_start : List Tok → Reading (Name × Expression)
+report_start ts = do
+  a ← behind_word W.Fold ts
+  carry ← name a
+  b ← behind_sign S.Equal carry.1
+  start ← expression b
+  Some ((carry.0, start.0), start.1)
+
+-- "with" "(" NAME "," NAME "," NAME "," NAME ")" "in"
+unfoldable pub report_binders : List Tok → Reading Binders
+report_binders ts = do
+  a ← behind_word W.With ts
+  b ← behind_sign S.LeftParen a
+  binders ← binders b
+  c ← behind_sign S.RightParen binders.1
+  d ← behind_word W.In c
+  Some (binders.0, d)
+
+abbrev pub report_key : Expression → List Tok → Option (List Tok) → Option (Expression × Option Expression)
+report_key step ts None = whole (step, None) ts
+report_key step ts (Some mid) = whole_expression mid >>= λ key. Some (step, Some key)
+
+-- expression [ "by" expression ]
+unfoldable pub report_step : List Tok → Option (Expression × Option Expression)
+report_step ts = do
+  step ← expression ts
+  report_key step.0 step.1 (behind_word W.By step.1)
+
+unfoldable pub report : List Tok → Option Sentence
+report ts = do
+  head ← report_head ts
+  start ← report_start head.1
+  binders ← report_binders start.1
+  step ← report_step binders.1
+  Some (Report (record {
+    name = head.0.0;
+    params = head.0.1;
+    ty = head.0.2;
+    start = start.0.1;
+    carry = start.0.0;
+    binders = binders.0;
+    step = step.0;
+    key = step.1;
+  }))
+
+abbrev pub commanded : Option Request → Option Sentence
+commanded r = r >>= λ request. Some (Command request)
+
+abbrev pub sentence_word : Word → List Tok → Option Sentence
+sentence_word W.Agents ts = whole_names ts >>= λ names. Some (Agents names)
+sentence_word W.Kinds ts = whole_names ts >>= λ names. Some (Kinds names)
+sentence_word W.Template ts = template ts
+sentence_word W.Report ts = report ts
+sentence_word W.Clerk ts = whole Clerk ts
+sentence_word W.Journal ts = whole Journal ts
+sentence_word w ts = commanded (command_word w ts)
+
+-- NUMBER ":" command
+unfoldable pub numbered : List Tok → Option Sentence
+numbered ts = do
+  n ← natural ts
+  a ← behind_sign S.Colon n.1
+  request ← command a
+  Some (Numbered n.0 request)
+
+-- what the tokens say as a statement
+unfoldable pub sentence : List Tok → Option Sentence
+sentence (K.Word w ∷ ts) = sentence_word w ts
+sentence (K.Number n ∷ ts) = numbered (K.Number n ∷ ts)
+sentence _ = None

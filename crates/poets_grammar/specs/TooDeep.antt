@@ -1,0 +1,68 @@
+-- Statements with too many brackets open at one place, or too many operators.
+use Rattle.std.specs.Prelude.{ℕ, ◌-◌, ◌<◌, suc, Bool, true, false, List, count_by, fold, take}
+use Rattle.poets_lex.specs.declared.token.Word.{Word}
+use Rattle.poets_lex.specs.declared.token.Word.TheVariants as W
+use Rattle.poets_lex.specs.declared.token.Sign.{Sign}
+use Rattle.poets_lex.specs.declared.token.Sign.TheVariants as S
+use Rattle.poets_lex.specs.declared.token.Tok.{Tok}
+use Rattle.poets_lex.specs.declared.token.Tok.TheVariants as K
+
+-- ---- brackets
+
+-- the `(` that are open behind one more token; a `)` with nothing open counts for nothing
+abbrev pub open_behind : ℕ → Tok → ℕ
+open_behind n (K.Sign S.LeftParen) = suc n
+open_behind n (K.Sign S.RightParen) = n - 1
+open_behind n _ = n
+
+-- the `(` that are open at the end
+abbrev pub open_at_end : List Tok → ℕ
+open_at_end tokens = fold open_behind 0 tokens
+
+-- ---- operators
+
+abbrev pub is_operator_word : Word → Bool
+is_operator_word W.And = true
+is_operator_word W.Or = true
+is_operator_word W.Not = true
+is_operator_word W.If = true
+is_operator_word _ = false
+
+abbrev pub is_operator_sign : Sign → Bool
+is_operator_sign S.Plus = true
+is_operator_sign S.Minus = true
+is_operator_sign S.Star = true
+is_operator_sign S.Slash = true
+is_operator_sign S.Percent = true
+is_operator_sign S.Equal = true
+is_operator_sign S.NotEqual = true
+is_operator_sign S.Less = true
+is_operator_sign S.LessEqual = true
+is_operator_sign S.Greater = true
+is_operator_sign S.GreaterEqual = true
+is_operator_sign S.Dot = true
+is_operator_sign S.DoubleBar = true
+is_operator_sign S.Semicolon = true
+is_operator_sign _ = false
+
+abbrev pub is_operator : Tok → Bool
+is_operator (K.Word word) = is_operator_word word
+is_operator (K.Sign sign) = is_operator_sign sign
+is_operator _ = false
+
+-- the number of operator tokens
+abbrev pub operators : List Tok → ℕ
+operators tokens = count_by is_operator tokens
+
+-- ---- the limits
+
+abbrev pub most_open : ℕ
+most_open = 200
+
+abbrev pub most_operators : ℕ
+most_operators = 1000
+
+-- more brackets are open behind some of the first tokens, or there are more operators
+pub data IsTooDeep (tokens : List Tok) : Type 0 where
+  Nested : (count : ℕ) → most_open < open_at_end (take count tokens) → IsTooDeep tokens
+  Long : most_operators < operators tokens → IsTooDeep tokens

@@ -1,0 +1,45 @@
+//! Sentences worked by hand, each carried by a function that does nothing.
+ghost use Rattle.std.specs.Prelude.{◌∷◌};
+ghost use Rattle.poets_expr.specs.Expression.{Expression};
+ghost use Rattle.poets_call.specs.Sentences.{Sentence};
+ghost use Rattle.poets_lex.specs.declared.token.Sign.TheVariants as S;
+ghost use Rattle.poets_lex.specs.declared.token.Tok.TheVariants as K;
+ghost use Rattle.poets_grammar.specs.Expressions.{IsExpression};
+ghost use Rattle.poets_grammar.specs.ContractGrammar.{IsContract};
+ghost use Rattle.poets_grammar.specs.Statements.{IsSentence};
+ghost use Rattle.poets_grammar.specs.TooDeep.{IsTooDeep};
+ghost use Rattle.poets_grammar.specs.Examples.{mixed, mixed_tree, less, less_tree, chained, negative, negative_tree, negated, negated_tree, joint, joint_tree, agents, agents_said, registered, registered_said, cut_off, nested, added};
+
+/// `1 or 2 and not 3 = 4` goes by levels, `1 - 2 - 3` to the left, and `1 = 2 = 3` is no expression.
+pub fn levels()
+    ensures by_level { IsExpression mixed mixed_tree }
+    ensures to_the_left { IsExpression less less_tree }
+    ensures no_chain { (e : Expression) → ¬ (IsExpression chained e) }
+{}
+
+/// `-5` is a number, and `-(5)` is the negation of one.
+pub fn negative_numbers()
+    ensures number { IsExpression negative negative_tree }
+    ensures negation { IsExpression negated negated_tree }
+{}
+
+/// `a() + b() || Success ; b()` goes by levels.
+pub fn contracts()
+    ensures { IsContract joint joint_tree }
+{}
+
+/// `agents ann, bob` and `register x = Success` are statements, and `agents ann,` is none.
+pub fn statements()
+    ensures names { IsSentence agents agents_said }
+    ensures command { IsSentence registered registered_said }
+    ensures cut_off { (s : Sentence) → ¬ (IsSentence cut_off s) }
+{}
+
+/// 201 brackets are too deep, also behind a `)`, and 200 are not; 1,001 operators are too deep, and 1,000 are not.
+pub fn depths()
+    ensures deep { IsTooDeep (nested 201) }
+    ensures behind_closing { IsTooDeep (K.Sign S.RightParen ∷ nested 201) }
+    ensures not_deep { ¬ (IsTooDeep (nested 200)) }
+    ensures long { IsTooDeep (added 1001) }
+    ensures not_long { ¬ (IsTooDeep (added 1000)) }
+{}

@@ -1,0 +1,32 @@
+//! The laws of the grammar, each carried by a function that does nothing.
+ghost use Rattle.poets_grammar.specs.Laws.{OneExpression, OneContract, OneSentence, ExpressionRead, ContractRead, SentenceRead};
+
+/// No tokens have two trees as an expression.
+pub fn one_expression()
+    ensures { OneExpression }
+{}
+
+/// No tokens have two trees as a contract.
+pub fn one_contract()
+    ensures { OneContract }
+{}
+
+/// No statement says two things.
+pub fn one_sentence()
+    ensures { OneSentence }
+{}
+
+/// Reading finds the expression that the tokens are, and nothing where they are none.
+pub fn expression_read()
+    ensures { ExpressionRead }
+{}
+
+/// Reading finds the contract that the tokens are, and nothing where they are none.
+pub fn contract_read()
+    ensures { ContractRead }
+{}
+
+/// Reading finds what the tokens say as a statement, and nothing where they are none.
+pub fn sentence_read()
+    ensures { SentenceRead }
+{}

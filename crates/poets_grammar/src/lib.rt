@@ -1,0 +1,5 @@
+//! What a statement of a session is, over tokens.
+#![tactic(auto)]
+
+mod examples;
+pub mod laws;

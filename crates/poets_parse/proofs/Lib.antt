@@ -1,0 +1,5 @@
+pub mod Depths
+pub mod Loops
+pub mod Lists
+pub mod Sentences
+pub mod Lexed

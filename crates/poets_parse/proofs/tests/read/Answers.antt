@@ -1,0 +1,5 @@
+use Rattle.poets_parse.proofs.Lexed.{read_natural}
+use Rattle.poets_parse.proofs.tests.read.Goals as goal
+
+pub statement-requires : goal.statement-requires
+statement-requires c = record { natural = rw c.as_slice.ensures (read_natural c.in-Ok.ensures.ok) }

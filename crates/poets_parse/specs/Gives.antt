@@ -1,0 +1,27 @@
+-- What a reader of the code answers, against reading on lists.
+use Rattle.std.specs.Prelude.{◌≡◌, ◌<◌, List, length, Option, Some, None, Result, Ok, Err, IfOk}
+use Rattle.std.specs.Borrow.{Bor}
+use Rattle.poets_lex.specs.declared.token.Tok.{Tok}
+use Rattle.poets_lex.specs.declared.token.Token.{Token}
+use Rattle.poets_grammar.specs.Tokens.{toks}
+use Rattle.poets_parse.specs.declared.fault.SyntaxFault.{SyntaxFault}
+use Rattle.poets_parse.specs.declared.fault.SyntaxFault.TheVariants as F
+
+-- a refusal comes where nothing is read; want of memory may come anywhere
+abbrev pub Refuses : {Y : Type 0} → SyntaxFault → Option Y → Type 0
+Refuses F.TooDeep read = ⊥
+Refuses F.NoSentence read = read ≡ None
+Refuses F.Memory read = Unit {0}
+
+-- the answer, as it is viewed, is what is read
+abbrev pub Gives : {X Y : Type 0} → (X → Y) → Result X SyntaxFault → Option Y → Type 0
+Gives view (Ok x) read = read ≡ Some (view x)
+Gives view (Err fault) read = Refuses fault read
+
+-- the same of a reader that answers what stands behind, too
+abbrev pub GivesFront : {X Y : Type 0} → (X → Y) → Result (X × Bor (List Token)) SyntaxFault → Option (Y × List Tok) → Type 0
+GivesFront view result read = Gives (λ p. (view p.0, toks p.1.now)) result read
+
+-- less of the tokens stands behind what was read
+abbrev pub LeavesLess : {X : Type 0} → List Token → Result (X × Bor (List Token)) SyntaxFault → Type 0
+LeavesLess tokens result = IfOk result (λ p. length p.1.now < length tokens)

@@ -1,0 +1,41 @@
+//! Expressions made of their parts.
+ghost use Rattle.std.specs.Prelude.{◌≡◌, IfOk};
+ghost use Rattle.poets_expr.specs.Expression.{expression_of, Make, Binary, If};
+
+use poets_expr::build::boxed;
+use poets_expr::{Expr, Op};
+use poets_value::Memory;
+use std::alloc::Global;
+
+// Two operands under an operator.
+pub(crate) fn binary(alloc: Global, op: Op, left: Expr, right: Expr) -> Result<Expr, Memory>
+    ensures { IfOk result (λ e. expression_of e ≡ Binary op (expression_of left) (expression_of right)) }
+{
+    let left = boxed(alloc, left)?;
+    let right = boxed(alloc, right)?;
+    Ok(Expr::Op(op, left, right))
+}
+
+// The resource of an amount and a kind.
+pub(crate) fn made(alloc: Global, amount: Expr, kind: Expr) -> Result<Expr, Memory>
+    ensures { IfOk result (λ e. expression_of e ≡ Make (expression_of amount) (expression_of kind)) }
+{
+    let amount = boxed(alloc, amount)?;
+    let kind = boxed(alloc, kind)?;
+    Ok(Expr::Make(amount, kind))
+}
+
+// One of two expressions, by a condition.
+pub(crate) fn conditional(
+    alloc: Global,
+    condition: Expr,
+    yes: Expr,
+    no: Expr,
+) -> Result<Expr, Memory>
+    ensures { IfOk result (λ e. expression_of e ≡ If (expression_of condition) (expression_of yes) (expression_of no)) }
+{
+    let condition = boxed(alloc, condition)?;
+    let yes = boxed(alloc, yes)?;
+    let no = boxed(alloc, no)?;
+    Ok(Expr::If(condition, yes, no))
+}

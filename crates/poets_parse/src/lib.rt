@@ -1,0 +1,22 @@
+//! Statements read from their tokens, by the grammar of `poets_grammar`.
+//!
+//! Each reader takes the tokens from its place on, and answers what it read and the tokens behind that.
+#![tactic(auto)]
+
+mod build;
+mod command;
+mod contract;
+mod declaration;
+mod depth;
+mod expression;
+mod fault;
+mod list;
+mod literal;
+mod sentence;
+mod step;
+#[cfg(test)]
+mod tests;
+
+pub use depth::is_too_deep;
+pub use fault::SyntaxFault;
+pub use sentence::statement;

@@ -1,0 +1,72 @@
+//! Statements.
+ghost use Rattle.std.specs.Prelude.{◌≡◌, IfOk, Err};
+ghost use Rattle.poets_call.specs.Sentences.{Sentence, sentence_of};
+ghost use Rattle.poets_grammar.specs.Tokens.{toks, AreNatural};
+ghost use Rattle.poets_grammar.specs.StatementReading as reading;
+ghost use Rattle.poets_grammar.specs.Statements.{IsSentence};
+ghost use Rattle.poets_grammar.specs.TooDeep.{IsTooDeep};
+ghost use Rattle.poets_parse.specs.Gives.{Gives};
+
+use crate::SyntaxFault;
+use crate::command::{command, command_word, whole_names};
+use crate::declaration::{report, template};
+use crate::depth::is_too_deep;
+use crate::step::{first, natural, sign, whole};
+use poets_call::Statement;
+use poets_lex::{Sign, Tok, Token, Word};
+use std::alloc::Global;
+
+// statement, behind the word that is its first token
+fn sentence_word(alloc: Global, word: Word, tokens: &[Token]) -> Result<Statement, SyntaxFault>
+    ensures { Gives sentence_of result (reading.sentence_word word (toks tokens.now)) }
+{
+    match word {
+        Word::Agents => Ok(Statement::Agents(whole_names(alloc, tokens)?)),
+        Word::Kinds => Ok(Statement::Kinds(whole_names(alloc, tokens)?)),
+        Word::Template => template(alloc, tokens),
+        Word::Report => report(alloc, tokens),
+        Word::Clerk => whole(Statement::Clerk, tokens),
+        Word::Journal => whole(Statement::Journal, tokens),
+        _ => Ok(Statement::Command(command_word(alloc, word, tokens)?)),
+    }
+}
+
+// NUMBER ":" command
+#[tactic(auto, unfolding(poets_grammar::specs::StatementReading::numbered))]
+fn numbered(alloc: Global, tokens: &[Token]) -> Result<Statement, SyntaxFault>
+    ensures { Gives sentence_of result (reading.numbered (toks tokens.now)) }
+{
+    let (clerk, rest) = natural(tokens)?;
+    let rest = sign(Sign::Colon, rest)?;
+    let command = command(alloc, rest)?;
+    Ok(Statement::Numbered(clerk, command))
+}
+
+// statement, by its first token
+#[tactic(auto, unfolding(poets_grammar::specs::StatementReading::sentence))]
+fn sentence(alloc: Global, tokens: &[Token]) -> Result<Statement, SyntaxFault>
+    ensures { Gives sentence_of result (reading.sentence (toks tokens.now)) }
+{
+    match first(tokens) {
+        Some((Tok::Word(word), rest)) => sentence_word(alloc, word, rest),
+        Some((Tok::Number(_), _)) => numbered(alloc, tokens),
+        _ => Err(SyntaxFault::NoSentence),
+    }
+}
+
+/// The statement that the tokens are, which stand before a `;;`.
+///
+/// The time is linear in the tokens. The stack is bounded, since a statement that is nested too deep is refused before it is
+/// read: the readers call themselves only behind brackets, `not`, `-`, `if` and the dot of a transmit.
+pub fn statement(alloc: Global, tokens: &[Token]) -> Result<Statement, SyntaxFault>
+    requires natural { AreNatural tokens.now }
+    ensures found { IfOk result (λ s. IsSentence (toks tokens.now) (sentence_of s)) }
+    ensures shallow { IfOk result (λ _. ¬ (IsTooDeep (toks tokens.now))) }
+    ensures none { result ≡ Err SyntaxFault.NoSentence → ¬ (IsTooDeep (toks tokens.now)) × ((s : Sentence) → ¬ (IsSentence (toks tokens.now) s)) }
+    ensures deep { result ≡ Err SyntaxFault.TooDeep → IsTooDeep (toks tokens.now) }
+{
+    if is_too_deep(tokens) {
+        return Err(SyntaxFault::TooDeep);
+    }
+    sentence(alloc, tokens)
+}

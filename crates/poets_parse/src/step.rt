@@ -1,0 +1,201 @@
+//! Single tokens.
+ghost use Rattle.std.specs.Prelude.{◌≡◌, ◌<◌, ◌≤ℤ◌, pos, length, [], ◌∷◌, IfSome, IfNone, IfOk, option_map};
+ghost use Rattle.poets_grammar.specs.Tokens.{toks, joins as joins_lem, type_of as type_of_lem};
+ghost use Rattle.poets_grammar.specs.Reading as reading;
+ghost use Rattle.poets_grammar.specs.StatementReading as statements;
+ghost use Rattle.poets_parse.specs.Gives.{Gives, GivesFront, LeavesLess};
+
+use crate::SyntaxFault;
+use poets_expr::Op;
+use poets_lex::{Sign, Tok, Token, Word};
+use poets_value::{Day, Name, Ty};
+
+// What the first token is, and the tokens behind it.
+pub(crate) fn first(tokens: &[Token]) -> Option<(Tok, &[Token])>
+    ensures some { IfSome result (λ p. toks tokens.now ≡ p.0 ∷ toks p.1.now) }
+    ensures none { IfNone result (toks tokens.now ≡ []) }
+    ensures shorter { IfSome result (λ p. length p.1.now < length tokens.now) }
+{
+    let (token, rest) = tokens.split_first()?;
+    Some((token.what, rest))
+}
+
+// What stands behind the sign, if it is the first token.
+pub(crate) fn behind_sign(wanted: Sign, tokens: &[Token]) -> Option<&[Token]>
+    ensures found { option_map (λ r. toks r.now) result ≡ reading.behind_sign wanted (toks tokens.now) }
+    ensures shorter { IfSome result (λ r. length r.now < length tokens.now) }
+{
+    match first(tokens) {
+        Some((Tok::Sign(found), rest)) if found == wanted => Some(rest),
+        _ => None,
+    }
+}
+
+// What stands behind the word, if it is the first token.
+pub(crate) fn behind_word(wanted: Word, tokens: &[Token]) -> Option<&[Token]>
+    ensures found { option_map (λ r. toks r.now) result ≡ reading.behind_word wanted (toks tokens.now) }
+    ensures shorter { IfSome result (λ r. length r.now < length tokens.now) }
+{
+    match first(tokens) {
+        Some((Tok::Word(found), rest)) if found == wanted => Some(rest),
+        _ => None,
+    }
+}
+
+// What stands behind the sign.
+pub(crate) fn sign(wanted: Sign, tokens: &[Token]) -> Result<&[Token], SyntaxFault>
+    ensures gives { Gives (λ r. toks r.now) result (reading.behind_sign wanted (toks tokens.now)) }
+    ensures shorter { IfOk result (λ r. length r.now < length tokens.now) }
+{
+    behind_sign(wanted, tokens).ok_or(SyntaxFault::NoSentence)
+}
+
+// What stands behind the word.
+pub(crate) fn word(wanted: Word, tokens: &[Token]) -> Result<&[Token], SyntaxFault>
+    ensures gives { Gives (λ r. toks r.now) result (reading.behind_word wanted (toks tokens.now)) }
+    ensures shorter { IfOk result (λ r. length r.now < length tokens.now) }
+{
+    behind_word(wanted, tokens).ok_or(SyntaxFault::NoSentence)
+}
+
+// The NAME, and what stands behind it.
+pub(crate) fn name(tokens: &[Token]) -> Result<(Name, &[Token]), SyntaxFault>
+    ensures gives { GivesFront (λ x. x) result (reading.name (toks tokens.now)) }
+    ensures shorter { LeavesLess tokens.now result }
+{
+    match first(tokens) {
+        Some((Tok::Name(name), rest)) => Ok((name, rest)),
+        _ => Err(SyntaxFault::NoSentence),
+    }
+}
+
+// The NUMBER, which is not below 0, and what stands behind it.
+pub(crate) fn number(tokens: &[Token]) -> Result<(i64, &[Token]), SyntaxFault>
+    ensures gives { GivesFront (λ x. x) result (reading.number (toks tokens.now)) }
+    ensures natural { IfOk result (λ r. pos 0 ≤ℤ r.0) }
+    ensures shorter { LeavesLess tokens.now result }
+{
+    match first(tokens) {
+        Some((Tok::Number(number), rest)) if number >= 0 => Ok((number, rest)),
+        _ => Err(SyntaxFault::NoSentence),
+    }
+}
+
+// The NUMBER of something that is counted, and what stands behind it.
+pub(crate) fn natural(tokens: &[Token]) -> Result<(u64, &[Token]), SyntaxFault>
+    ensures gives { GivesFront (λ x. x) result (statements.natural (toks tokens.now)) }
+{
+    match first(tokens) {
+        Some((Tok::Number(number), rest)) if number >= 0 => Ok((number as u64, rest)),
+        _ => Err(SyntaxFault::NoSentence),
+    }
+}
+
+// The NAME that is the last token.
+pub(crate) fn last_name(tokens: &[Token]) -> Result<Name, SyntaxFault>
+    ensures { Gives (λ x. x) result (statements.last_name (toks tokens.now)) }
+{
+    match first(tokens) {
+        Some((Tok::Name(name), [])) => Ok(name),
+        _ => Err(SyntaxFault::NoSentence),
+    }
+}
+
+// The DAY that is the last token.
+pub(crate) fn last_day(tokens: &[Token]) -> Result<Day, SyntaxFault>
+    ensures { Gives (λ d. d) result (statements.last_day (toks tokens.now)) }
+{
+    let Some((token, [])) = tokens.split_first() else {
+        return Err(SyntaxFault::NoSentence);
+    };
+    match &token.what {
+        Tok::Day(day) => Ok(*day),
+        _ => Err(SyntaxFault::NoSentence),
+    }
+}
+
+// The type that the word names.
+fn type_of(word: Word) -> Option<Ty>
+    ensures { result ≡ type_of_lem word }
+{
+    match word {
+        Word::IntType => Some(Ty::Int),
+        Word::BoolType => Some(Ty::Bool),
+        Word::AgentType => Some(Ty::Agent),
+        Word::KindType => Some(Ty::Kind),
+        Word::ResourceType => Some(Ty::Resource),
+        Word::DayType => Some(Ty::Day),
+        _ => None,
+    }
+}
+
+// The type, and what stands behind its word.
+pub(crate) fn type_name(tokens: &[Token]) -> Result<(Ty, &[Token]), SyntaxFault>
+    ensures gives { GivesFront (λ x. x) result (reading.type_name (toks tokens.now)) }
+    ensures shorter { LeavesLess tokens.now result }
+{
+    let Some((Tok::Word(word), rest)) = first(tokens) else {
+        return Err(SyntaxFault::NoSentence);
+    };
+    match type_of(word) {
+        Some(ty) => Ok((ty, rest)),
+        None => Err(SyntaxFault::NoSentence),
+    }
+}
+
+// The levels of the operators between two operands: the higher binds tighter. 3 is that of "not".
+pub(crate) const OR: u8 = 1;
+
+pub(crate) const AND: u8 = 2;
+
+pub(crate) const COMPARE: u8 = 4;
+
+pub(crate) const SUM: u8 = 5;
+
+pub(crate) const PRODUCT: u8 = 6;
+
+// The operator that the token is between two operands, behind its level.
+fn joins(tok: Tok) -> Option<(u8, Op)>
+    ensures { result ≡ joins_lem tok }
+{
+    match tok {
+        Tok::Word(Word::Or) => Some((OR, Op::Or)),
+        Tok::Word(Word::And) => Some((AND, Op::And)),
+        Tok::Sign(Sign::Equal) => Some((COMPARE, Op::Eq)),
+        Tok::Sign(Sign::NotEqual) => Some((COMPARE, Op::Ne)),
+        Tok::Sign(Sign::Less) => Some((COMPARE, Op::Lt)),
+        Tok::Sign(Sign::LessEqual) => Some((COMPARE, Op::Le)),
+        Tok::Sign(Sign::Greater) => Some((COMPARE, Op::Gt)),
+        Tok::Sign(Sign::GreaterEqual) => Some((COMPARE, Op::Ge)),
+        Tok::Sign(Sign::Plus) => Some((SUM, Op::Add)),
+        Tok::Sign(Sign::Minus) => Some((SUM, Op::Sub)),
+        Tok::Sign(Sign::Star) => Some((PRODUCT, Op::Mul)),
+        Tok::Sign(Sign::Slash) => Some((PRODUCT, Op::Div)),
+        Tok::Sign(Sign::Percent) => Some((PRODUCT, Op::Rem)),
+        _ => None,
+    }
+}
+
+// The operator of the level, if one is the first token, and what stands behind it.
+pub(crate) fn operator(level: u8, tokens: &[Token]) -> Option<(Op, &[Token])>
+    ensures found { option_map (λ p. (p.0, toks p.1.now)) result ≡ reading.operator level (toks tokens.now) }
+    ensures shorter { IfSome result (λ p. length p.1.now < length tokens.now) }
+{
+    let Some((tok, rest)) = first(tokens) else {
+        return None;
+    };
+    match joins(tok) {
+        Some((found, op)) if found == level => Some((op, rest)),
+        _ => None,
+    }
+}
+
+// The value, where nothing stands behind it.
+pub(crate) fn whole<T: Drop>(value: T, rest: &[Token]) -> Result<T, SyntaxFault>
+    ensures { Gives (λ x. x) result (reading.whole value (toks rest.now)) }
+{
+    match rest {
+        [] => Ok(value),
+        _ => Err(SyntaxFault::NoSentence),
+    }
+}

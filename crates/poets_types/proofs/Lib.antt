@@ -1,0 +1,10 @@
+pub mod Arguments
+pub mod Binders
+pub mod CheckedBooks
+pub mod Checks
+pub mod Declaring
+pub mod Indices
+pub mod Reports
+pub mod Scopes
+pub mod Tables
+pub mod Twice

@@ -1,0 +1,57 @@
+//! Why statements are not typed.
+
+use poets_value::{Memory, Name, Ty};
+use thiserror::Error;
+
+/// Why something is not typed, or want of memory.
+#[derive(Debug, Clone, Copy, PartialEq, Eq, Error)]
+pub enum TypeCause {
+    /// The name is declared before, or stands earlier in the same list of parameters or binders.
+    #[error("a name stands twice")]
+    Twice { name: Name },
+    /// Nothing of that name may stand here.
+    #[error("a name is unknown")]
+    Unknown { name: Name },
+    /// The template or the report of that name has another number of parameters.
+    #[error("wanted {wanted} arguments, found {found}")]
+    WrongCount { name: Name, wanted: u64, found: u64 },
+    /// Another type is wanted.
+    #[error("wanted {wanted:?}, found {found:?}")]
+    WrongType { wanted: Ty, found: Ty },
+    /// Want of memory.
+    #[error("no memory is left")]
+    Memory,
+}
+
+/// Which statement is not typed, and why. Statements count from 1; beside want of memory the number says nothing.
+#[derive(Debug, Clone, Copy, PartialEq, Eq, Error)]
+#[error("in statement {statement}: {cause}")]
+pub struct TypeFault {
+    pub statement: u64,
+    pub cause: TypeCause,
+}
+
+impl From<Memory> for TypeCause {
+    ghost use Rattle.std.specs.Prelude.{◌≡◌};
+    ghost use Rattle.poets_types.specs.declared.cause.TypeCause.TheVariants as C;
+
+    ghost from_gives = { λ _ cause. cause ≡ C.Memory };
+
+    fn from(_: Memory) -> TypeCause {
+        TypeCause::Memory
+    }
+}
+
+impl From<Memory> for TypeFault {
+    ghost use Rattle.std.specs.Prelude.{◌≡◌};
+    ghost use Rattle.poets_types.specs.declared.cause.TypeCause.TheVariants as C;
+
+    ghost from_gives = { λ _ fault. fault ≡ record { statement = 0; cause = C.Memory } };
+
+    fn from(_: Memory) -> TypeFault {
+        TypeFault {
+            statement: 0,
+            cause: TypeCause::Memory,
+        }
+    }
+}

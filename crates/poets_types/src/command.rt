@@ -1,0 +1,118 @@
+//! Types of commands, and of contracts by themselves.
+ghost use Rattle.std.specs.Prelude.{◌≡◌, [], IfOk, IfErr, map, find};
+ghost use Rattle.std.specs.Option.{option_copied};
+ghost use Rattle.poets_expr.specs.Env.{declared_of, same_name};
+ghost use Rattle.poets_expr.specs.Expression.{expression_of};
+ghost use Rattle.poets_syntax.specs.Book.{definitions_of};
+ghost use Rattle.poets_syntax.specs.Contract.{contract_of};
+ghost use Rattle.poets_syntax.specs.TypeOf.{Passes};
+ghost use Rattle.poets_syntax.specs.Typed.{check_contract as check_contract_lem};
+ghost use Rattle.poets_report.specs.Query.{query_of};
+ghost use Rattle.poets_call.specs.Calls.{request_of};
+ghost use Rattle.poets_call.specs.Replies.{report_in};
+ghost use Rattle.poets_call.specs.TypedSentences.{report_names, check_declared as check_declared_lem, check_event as check_event_lem, check_asked as check_asked_lem, check_request as check_request_lem};
+ghost use Rattle.poets_types.specs.Faults.{IsFaultOf};
+ghost use Rattle.poets_types.specs.Answers.{answer_of};
+ghost use Rattle.poets_types.specs.Indices.{book_in};
+
+use crate::TypeCause;
+use crate::contract::{check_arguments, check_contract};
+use crate::expression::{must_be, name_type};
+use crate::index::Index;
+use crate::scope::Scope;
+use poets_call::Command;
+use poets_expr::{Decls, Expr};
+use poets_report::Report;
+use poets_syntax::{Book, Term};
+use poets_value::{Event, Name, Ty};
+use std::alloc::Global;
+
+// The name is declared as the wanted one of an agent and a kind.
+fn check_declared(decls: &Decls, wanted: Ty, name: Name) -> Result<(), TypeCause>
+    ensures { result ≡ answer_of (check_declared_lem (declared_of decls.now.names) wanted name) }
+{
+    let found = name_type(name, decls.names.get(&name).copied())?;
+    must_be(wanted, found)
+}
+
+// The event's agents and its kind are declared as such.
+fn check_event(decls: &Decls, event: &Event) -> Result<(), TypeCause>
+    ensures { result ≡ answer_of (check_event_lem (declared_of decls.now.names) event.now) }
+{
+    check_declared(decls, Ty::Agent, event.sender)?;
+    check_declared(decls, Ty::Agent, event.receiver)?;
+    check_declared(decls, Ty::Kind, event.what.kind)
+}
+
+// The first report of that name.
+fn report_of(reports: &[Report], name: Name) -> Option<&Report>
+    ensures { option_copied result ≡ find (λ r. same_name r.name name) reports.now }
+{
+    reports.iter().find(|report| report.name == name)
+}
+
+// The arguments are those that a report of that name takes.
+#[tactic(auto, using(crate::proofs::Reports::report_in_find))]
+fn check_asked(
+    decls: &Decls,
+    reports: &[Report],
+    name: Name,
+    args: &[Expr],
+) -> Result<(), TypeCause>
+    ensures { result ≡ answer_of (check_asked_lem (declared_of decls.now.names) name (report_in (map query_of reports.now) name) (map expression_of args.now)) }
+{
+    match report_of(reports, name) {
+        None => Err(TypeCause::Unknown { name }),
+        Some(report) => {
+            check_arguments(decls, &Scope::Empty, name, report.params.as_slice(), args)
+        }
+    }
+}
+
+// The command is typed.
+pub(crate) fn check_request(index: &Index, command: &Command) -> Result<(), TypeCause>
+    ensures { result ≡ answer_of (check_request_lem (book_in index.now) (map query_of index.now.reports.now) (request_of command.now)) }
+{
+    let decls = &index.book.decls;
+    match command {
+        Command::Register { term, .. } => check_contract(index, &Scope::Empty, term),
+        Command::Transmit { event, .. } => check_event(decls, event),
+        Command::Tally { report, args }
+        | Command::Portfolio { report, args, .. }
+        | Command::Watch { report, args } => {
+            check_asked(decls, index.reports, *report, args.as_slice())
+        }
+        Command::End { .. } | Command::Show { .. } | Command::Read { .. } => Ok(()),
+    }
+}
+
+/// Checks a contract without parameters in a book with these reports. An error tells its first fault.
+#[tactic(auto, using(crate::proofs::Checks::fault_told))]
+pub fn check_term(
+    alloc: Global,
+    book: &Book,
+    reports: &[Report],
+    term: &Term,
+) -> Result<(), TypeCause>
+    ensures passes { IfOk result (λ _. check_contract_lem (definitions_of book.now) (report_names (map query_of reports.now)) [] (contract_of term.now) ≡ Passes tt) }
+    ensures fault { IfErr result (IsFaultOf (check_contract_lem (definitions_of book.now) (report_names (map query_of reports.now)) [] (contract_of term.now))) }
+{
+    let index = Index::new(alloc, book, reports)?;
+    check_contract(&index, &Scope::Empty, term)
+}
+
+/// Checks a command in a book with these reports. An error tells its first fault. For the commands of a session
+/// `check_book` is faster, which looks over the book once.
+#[tactic(auto, using(crate::proofs::Checks::fault_told))]
+pub fn check_call(
+    alloc: Global,
+    book: &Book,
+    reports: &[Report],
+    command: &Command,
+) -> Result<(), TypeCause>
+    ensures passes { IfOk result (λ _. check_request_lem (definitions_of book.now) (map query_of reports.now) (request_of command.now) ≡ Passes tt) }
+    ensures fault { IfErr result (IsFaultOf (check_request_lem (definitions_of book.now) (map query_of reports.now) (request_of command.now))) }
+{
+    let index = Index::new(alloc, book, reports)?;
+    check_request(&index, command)
+}
