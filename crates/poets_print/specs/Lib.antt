@@ -1,3 +1,4 @@
 pub mod Levels
 pub mod Texts
 pub mod Lines
+pub mod Laws

@@ -5,6 +5,7 @@
 
 mod contracts;
 mod expressions;
+pub mod laws;
 mod levels;
 mod lines;
 mod pieces;
@@ -12,8 +13,10 @@ mod replies;
 mod requests;
 #[cfg(test)]
 mod tests;
+mod words;
 
 pub use contracts::term_text;
 pub use lines::line_text;
 pub use replies::reply_text;
 pub use requests::command_text;
+pub use words::{name_text, type_text};

@@ -2,9 +2,10 @@
 ghost use Rattle.std.specs.Prelude.{◌≡◌, ◌++◌, OnOk, string_bytes, codes, Some, None, option_map, unwrap_or, slice_get, true, false};
 ghost use Rattle.std.specs.Fmt.{decimal, signed_decimal};
 ghost use Rattle.poets_value.specs.Civil.{day_text};
-ghost use Rattle.poets_print.specs.Texts.{name_text, type_text, truth_text, resource_text, value_text};
+ghost use Rattle.poets_print.specs.Texts.{name_text as name_text_lem, type_text as type_text_lem, truth_text, resource_text, value_text};
 ghost use Rattle.poets_print.specs.Lines.{optional_text};
 
+use crate::words::{name_text, type_text};
 use poets_lex::Names;
 use poets_value::{Day, Memory, Name, Resource, Ty, Value};
 
@@ -16,21 +17,10 @@ pub(crate) fn put(out: &mut String, text: &str) -> Result<(), Memory>
     Ok(())
 }
 
-// The name's text, which is empty for a name that the table does not have.
-fn text_of<'a>(names: &'a Names, name: Name) -> &'a str
-    ensures { result.now ≡ name_text names.now name }
-{
-    if name.id < names.len() {
-        names.text(name)
-    } else {
-        ""
-    }
-}
-
 pub(crate) fn put_name(out: &mut String, names: &Names, name: Name) -> Result<(), Memory>
-    ensures { OnOk result (string_bytes out.new ≡ string_bytes out.old ++ name_text names.now name) }
+    ensures { OnOk result (string_bytes out.new ≡ string_bytes out.old ++ name_text_lem names.now name) }
 {
-    put(out, text_of(names, name))
+    put(out, name_text(names, name))
 }
 
 /// Puts a text, and a name behind it.
@@ -40,7 +30,7 @@ pub(crate) fn put_named(
     text: &str,
     name: Name,
 ) -> Result<(), Memory>
-    ensures { OnOk result (string_bytes out.new ≡ string_bytes out.old ++ (text.now ++ name_text names.now name)) }
+    ensures { OnOk result (string_bytes out.new ≡ string_bytes out.old ++ (text.now ++ name_text_lem names.now name)) }
 {
     put(out, text)?;
     put_name(out, names, name)
@@ -86,26 +76,12 @@ pub(crate) fn put_literal_day(out: &mut String, day: Day) -> Result<(), Memory>
     put_day(out, day)
 }
 
-fn put_type(out: &mut String, ty: Ty) -> Result<(), Memory>
-    ensures { OnOk result (string_bytes out.new ≡ string_bytes out.old ++ type_text ty) }
-{
-    let text = match ty {
-        Ty::Int => "Int",
-        Ty::Bool => "Bool",
-        Ty::Agent => "Agent",
-        Ty::Kind => "Kind",
-        Ty::Resource => "Resource",
-        Ty::Day => "Day",
-    };
-    put(out, text)
-}
-
 /// Puts the undefined literal of a type, `undefined Int`.
 pub(crate) fn put_undefined(out: &mut String, ty: Ty) -> Result<(), Memory>
-    ensures { OnOk result (string_bytes out.new ≡ string_bytes out.old ++ (codes "undefined " ++ type_text ty)) }
+    ensures { OnOk result (string_bytes out.new ≡ string_bytes out.old ++ (codes "undefined " ++ type_text_lem ty)) }
 {
     put(out, "undefined ")?;
-    put_type(out, ty)
+    put(out, type_text(ty))
 }
 
 pub(crate) fn put_truth(out: &mut String, truth: bool) -> Result<(), Memory>

@@ -1,0 +1,5 @@
+use Rattle.poets_print.proofs.WritingRequests.{command_reads_back}
+use Rattle.poets_print.proofs.laws.command_reads_back.Goals as goal
+
+pub returns : goal.returns
+returns c = command_reads_back

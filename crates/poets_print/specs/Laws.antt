@@ -1,0 +1,88 @@
+-- The laws of printed texts, as statements: they read back.
+use Rattle.std.specs.Prelude.{◌≢◌, ◌<◌, ◌^◌, List, [], ◌∷◌, length, All, pos, ◌≤ℤ◌}
+use Rattle.poets_value.specs.declared.value.Name.{Name}
+use Rattle.poets_value.specs.declared.value.Value.{Value}
+use Rattle.poets_value.specs.declared.value.Value.TheVariants as V
+use Rattle.poets_value.specs.Whole.{IsWholeEvent}
+use Rattle.poets_expr.specs.Expression.{Expression, Literal, Undefined, Named, Unary, Make, Binary, If}
+use Rattle.poets_expr.specs.Whole.{IsWholeExpression}
+use Rattle.poets_syntax.specs.Contract.{Contract, Success, Failure, Transmit, Plus, Par, Seq, App}
+use Rattle.poets_syntax.specs.Whole.{IsWholeContract}
+use Rattle.poets_call.specs.Calls.{Request}
+use Rattle.poets_call.specs.Sentences.{Command}
+use Rattle.poets_lex.specs.declared.token.Token.{Token}
+use Rattle.poets_lex.specs.Table.{Table, IsTable}
+use Rattle.poets_lex.specs.Lexes.{Lexes}
+use Rattle.poets_grammar.specs.Tokens.{toks}
+use Rattle.poets_grammar.specs.ContractGrammar.{IsContract}
+use Rattle.poets_grammar.specs.Statements.{IsSentence}
+use Rattle.poets_print.specs.Texts.{contract_text}
+use Rattle.poets_print.specs.Lines.{request_text}
+
+-- the table has a text for the name
+abbrev pub IsListed : Table → Name → Type 0
+IsListed names x = x.id < length names
+
+-- a literal can be written for the value: an agent or a kind has none, for its name stands for it
+abbrev pub HasLiteral : Table → Value → Type 0
+HasLiteral names (V.Agent x) = ⊥
+HasLiteral names (V.Kind x) = ⊥
+HasLiteral names (V.Resource r) = IsListed names r.kind
+HasLiteral names _ = Unit {0}
+
+-- the expression can be written with the names of the table
+abbrev pub CanWrite : Table → Expression → Type 0
+CanWrite names (Literal v) = HasLiteral names v
+CanWrite names (Undefined t) = Unit {0}
+CanWrite names (Named x) = IsListed names x
+CanWrite names (Unary o a) = CanWrite names a
+CanWrite names (Make a b) = CanWrite names a × CanWrite names b
+CanWrite names (Binary o a b) = CanWrite names a × CanWrite names b
+CanWrite names (If a b c) = CanWrite names a × CanWrite names b × CanWrite names c
+
+-- so can the contract
+abbrev pub CanWriteContract : Table → Contract → Type 0
+CanWriteContract names Success = Unit {0}
+CanWriteContract names Failure = Unit {0}
+CanWriteContract names (Transmit b p c) =
+    All (IsListed names) (b.sender ∷ b.receiver ∷ b.what ∷ b.day ∷ []) × CanWrite names p × CanWriteContract names c
+CanWriteContract names (Plus a b) = CanWriteContract names a × CanWriteContract names b
+CanWriteContract names (Par a b) = CanWriteContract names a × CanWriteContract names b
+CanWriteContract names (Seq a b) = CanWriteContract names a × CanWriteContract names b
+CanWriteContract names (App f args) = IsListed names f × All (CanWrite names) args
+
+-- so can the command: no amount is negative, and a portfolio is over one name or more
+abbrev pub CanWriteRequest : Table → Request → Type 0
+CanWriteRequest names (Request.Register x c) = IsListed names x × CanWriteContract names c
+CanWriteRequest names (Request.Transmit x e) =
+    IsListed names x × IsListed names e.sender × IsListed names e.receiver × (pos 0 ≤ℤ e.what.amount) × IsListed names e.what.kind
+CanWriteRequest names (Request.End x) = IsListed names x
+CanWriteRequest names (Request.Show x) = IsListed names x
+CanWriteRequest names (Request.Tally q args) = IsListed names q × All (CanWrite names) args
+CanWriteRequest names (Request.Portfolio q args over) =
+    IsListed names q × All (CanWrite names) args × All (IsListed names) over × (over ≢ [])
+CanWriteRequest names (Request.Watch q args) = IsListed names q × All (CanWrite names) args
+CanWriteRequest names (Request.Read n) = Unit {0}
+
+-- each number in the command is a whole number of the language, and each day one of its days
+abbrev pub IsWholeRequest : Request → Type 0
+IsWholeRequest (Request.Register x c) = IsWholeContract c
+IsWholeRequest (Request.Transmit x e) = IsWholeEvent e
+IsWholeRequest (Request.End x) = Unit {0}
+IsWholeRequest (Request.Show x) = Unit {0}
+IsWholeRequest (Request.Tally q args) = All IsWholeExpression args
+IsWholeRequest (Request.Portfolio q args over) = All IsWholeExpression args
+IsWholeRequest (Request.Watch q args) = All IsWholeExpression args
+IsWholeRequest (Request.Read n) = n < 2 ^ 63
+
+-- the text of a contract is cut into tokens, without a new name, and the tokens are the contract
+abbrev pub ContractReadsBack : Type 0
+ContractReadsBack =
+    (names : Table) (c : Contract) → IsTable names → IsWholeContract c → CanWriteContract names c
+    → (tokens : List Token) × Lexes names (contract_text names c) 0 tokens names × IsContract (toks tokens) c
+
+-- so is the text of a command
+abbrev pub CommandReadsBack : Type 0
+CommandReadsBack =
+    (names : Table) (request : Request) → IsTable names → IsWholeRequest request → CanWriteRequest names request
+    → (tokens : List Token) × Lexes names (request_text names request) 0 tokens names × IsSentence (toks tokens) (Command request)
