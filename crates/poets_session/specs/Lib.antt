@@ -1,0 +1,12 @@
+pub mod Pieces
+pub mod Places
+pub mod Counting
+pub mod Sessions
+pub mod Refusals
+pub mod Texts
+pub mod Causes
+pub mod Laws
+pub mod Splitting
+pub mod Checking
+pub mod Parts
+pub mod Scripts

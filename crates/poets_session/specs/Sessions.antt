@@ -1,0 +1,87 @@
+-- Sessions: texts of statements that stand in their places, are typed, and have a guarded book.
+use Rattle.std.specs.Prelude.{◌≡◌, ℕ, List, [], ◌∷◌, None, IsTrue, map}
+use Rattle.std.specs.List.{AllZip, flat_map}
+use Rattle.std.specs.Arc.{arc_value}
+use Rattle.std.specs.declared.alloc.Global.{Global}
+use Rattle.std.specs.declared.sync.Arc.{Arc}
+use Rattle.poets_value.specs.Listed.{Listed}
+use Rattle.poets_lex.specs.declared.token.Token.{Token}
+use Rattle.poets_lex.specs.Table.{Table}
+use Rattle.poets_lex.specs.Lexes.{Lexes}
+use Rattle.poets_grammar.specs.Tokens.{toks}
+use Rattle.poets_grammar.specs.Statements.{IsSentence}
+use Rattle.poets_grammar.specs.TooDeep.{IsTooDeep}
+use Rattle.poets_syntax.specs.Book.{definitions_of}
+use Rattle.poets_syntax.specs.Guarded.{IsGuarded}
+use Rattle.poets_report.specs.Query.{query_of}
+use Rattle.poets_call.specs.Calls.{Request, Call, request_of}
+use Rattle.poets_call.specs.declared.call.Command.{Command as CodeCommand}
+use Rattle.poets_call.specs.Sentences.{Sentence, Clerk, Command, Numbered}
+use Rattle.poets_call.specs.Declarations.{book_of, reports_of}
+use Rattle.poets_call.specs.TypedSentences.{first_fault}
+use Rattle.poets_session.specs.Pieces.{Piece, pieces_of}
+use Rattle.poets_session.specs.Places.{place_fault}
+use Rattle.poets_session.specs.declared.form.Form.{Form}
+use Rattle.poets_session.specs.declared.session.Session.{Session}
+
+-- the bytes of a text
+abbrev pub Text : Type 0
+Text = List ℕ
+
+-- a statement that is ended, is not too deep, and says this
+pub record Says (piece : Piece) (s : Sentence) : Type 0 where
+  pub ended : IsTrue piece.ended
+  pub shallow : ¬ (IsTooDeep piece.tokens)
+  pub sentence : IsSentence piece.tokens s
+
+-- the text is cut into statements that say this; its names are numbered in this table
+pub record IsReadAs (text : Text) (names : Table) (statements : List Sentence) : Type 0 where
+  pub tokens : List Token
+  pub lexed : Lexes [] text 0 tokens names
+  pub said : AllZip Says (pieces_of (toks tokens)) statements
+
+-- the text is a session of the form
+pub record IsSession (text : Text) (form : Form) (names : Table) (statements : List Sentence) : Type 0 where
+  pub read : IsReadAs text names statements
+  pub placed : place_fault form statements ≡ None
+  pub typed : first_fault statements ≡ None
+  pub guarded : IsGuarded (book_of statements)
+
+abbrev pub IsNoSession : Text → Form → Type 0
+IsNoSession text form = (names : Table) (statements : List Sentence) → ¬ (IsSession text form names statements)
+
+-- the commands up to the next `clerk`
+abbrev pub commands_ahead : List Sentence → List Request
+commands_ahead [] = []
+commands_ahead (Clerk ∷ statements) = []
+commands_ahead (Command request ∷ statements) = request ∷ commands_ahead statements
+commands_ahead (s ∷ statements) = commands_ahead statements
+
+-- the scripts of the clerks: the commands behind each `clerk`
+abbrev pub scripts_of : List Sentence → List (List Request)
+scripts_of [] = []
+scripts_of (Clerk ∷ statements) = commands_ahead statements ∷ scripts_of statements
+scripts_of (s ∷ statements) = scripts_of statements
+
+abbrev pub numbered_call : Sentence → List Call
+numbered_call (Numbered clerk request) = (clerk, request) ∷ []
+numbered_call s = []
+
+-- the calls of the journal
+abbrev pub journal_of : List Sentence → List Call
+journal_of statements = flat_map numbered_call statements
+
+-- the commands of scripts
+abbrev pub requests_of : List (Listed (Arc CodeCommand Global)) → List (List Request)
+requests_of scripts = map (λ script. map (λ c. request_of (arc_value c)) script.items) scripts
+
+-- the calls of a journal
+abbrev pub calls_in : List (ℕ × Arc CodeCommand Global) → List Call
+calls_in journal = map (λ p. (p.0, request_of (arc_value p.1))) journal
+
+-- the session holds what the statements say
+pub record Holds (statements : List Sentence) (session : Session) : Type 0 where
+  pub book : definitions_of session.studied.book ≡ book_of statements
+  pub reports : map query_of session.reports.items ≡ reports_of statements
+  pub scripts : requests_of session.scripts.items ≡ scripts_of statements
+  pub journal : calls_in session.journal.items ≡ journal_of statements

@@ -1,0 +1,96 @@
+//! Types and guardedness of the statements of a session.
+ghost use Rattle.std.specs.Prelude.{◌≡◌, false, All, None, IfSome, IfNone, IfOk, IfErr, map};
+ghost use Rattle.poets_syntax.specs.Book.{definitions_of};
+ghost use Rattle.poets_syntax.specs.Checked.{IsChecked};
+ghost use Rattle.poets_syntax.specs.Guarded.{IsGuarded};
+ghost use Rattle.poets_report.specs.Query.{query_of};
+ghost use Rattle.poets_call.specs.Sentences.{sentence_of, sentences_of};
+ghost use Rattle.poets_call.specs.Declarations.{book_of, reports_of};
+ghost use Rattle.poets_call.specs.TypedSentences.{first_fault};
+ghost use Rattle.poets_session.specs.Checking.{IsTypeRefusal, IsGuardRefusal, declares as declares_lem};
+ghost use Rattle.poets_session.specs.Refusals.{IsTemplateAt};
+ghost use Rattle.poets_session.specs.Causes.{Tells, type_cause};
+
+use crate::SessionCause;
+use poets_call::Statement;
+use poets_guard::{GuardFault, study};
+use poets_syntax::{Book, Studied};
+use poets_types::{Checked, TypeCause, TypeFault, check_book};
+use poets_value::Name;
+use std::alloc::Global;
+
+// The cause that tells the first statement that is not typed.
+fn cause_of(fault: TypeFault) -> SessionCause
+    ensures { result ≡ type_cause fault }
+{
+    match fault.cause {
+        TypeCause::Memory => SessionCause::Memory,
+        _ => SessionCause::Types(fault),
+    }
+}
+
+/// Checks the types of all statements.
+pub(crate) fn check_types(alloc: Global, statements: &[Statement]) -> Result<Checked, SessionCause>
+    ensures passes { IfOk result (λ _. first_fault (sentences_of statements.now) ≡ None) }
+    ensures book { IfOk result (λ c. definitions_of c.book ≡ book_of (sentences_of statements.now)) }
+    ensures reports { IfOk result (λ c. map query_of c.reports.items ≡ reports_of (sentences_of statements.now)) }
+    ensures checked { IfOk result (λ c. IsChecked (definitions_of c.book)) }
+    ensures fault { IfErr result (Tells (IsTypeRefusal (first_fault (sentences_of statements.now)))) }
+{
+    match check_book(alloc, statements) {
+        Ok(checked) => Ok(checked),
+        Err(fault) => Err(cause_of(fault)),
+    }
+}
+
+// Whether the statement declares the template.
+fn declares(statement: &Statement, name: Name) -> bool
+    ensures { result ≡ declares_lem name (sentence_of statement.now) }
+{
+    match statement {
+        Statement::Template(template) => template.name == name,
+        _ => false,
+    }
+}
+
+// The number of the statement that declares the template, if there is one.
+fn number_of(statements: &[Statement], name: Name) -> Option<u64>
+    ensures found { IfSome result (λ n. IsTemplateAt (sentences_of statements.now) n name) }
+    ensures none { IfNone result (All (λ s. declares_lem name (sentence_of s) ≡ false) statements.now) }
+{
+    for (place, statement) in statements.iter().enumerate() {
+        if declares(statement, name) {
+            return Some(place as u64 + 1);
+        }
+    }
+    None
+}
+
+/// Studies the book of the statements.
+pub(crate) fn study_book(
+    alloc: Global,
+    book: Book,
+    statements: &[Statement],
+) -> Result<Studied, SessionCause>
+    requires checked { IsChecked (definitions_of book) }
+    requires book { definitions_of book ≡ book_of (sentences_of statements.now) }
+    ensures book { IfOk result (λ s. s.book ≡ book) }
+    ensures guarded { IfOk result (λ _. IsGuarded (book_of (sentences_of statements.now))) }
+    ensures unguarded { IfErr result (Tells (IsGuardRefusal (sentences_of statements.now))) }
+{
+    let cycle = match study(alloc, book) {
+        Ok(studied) => return Ok(studied),
+        Err(GuardFault::Memory) => return Err(SessionCause::Memory),
+        Err(GuardFault::Unguarded { cycle }) => cycle,
+    };
+    let Some(first) = cycle.get(0) else {
+        unreachable!();
+    };
+    let Some(statement) = number_of(statements, *first) else {
+        unreachable!();
+    };
+    Err(SessionCause::Guard {
+        statement,
+        fault: GuardFault::Unguarded { cycle },
+    })
+}

@@ -1,0 +1,21 @@
+//! Sessions: what a text says, exactly where it is a valid session, or its first fault.
+#![tactic(auto)]
+
+mod checking;
+mod counting;
+mod fault;
+mod form;
+pub mod laws;
+mod lines;
+mod reading;
+mod scripts;
+mod session;
+mod splitting;
+#[cfg(test)]
+mod tests;
+
+pub use fault::{SessionCause, SessionFault};
+pub use form::Form;
+pub use lines::fault_text;
+pub use reading::read;
+pub use session::Session;

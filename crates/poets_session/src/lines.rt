@@ -1,0 +1,202 @@
+//! The lines of texts that are no sessions.
+ghost use Rattle.std.specs.Prelude.{◌≡◌, Some, IfOk, option_map, string_bytes};
+ghost use Rattle.poets_types.specs.Faults.{fault_of};
+ghost use Rattle.poets_guard.specs.declared.guard.GuardFault.TheVariants as G;
+ghost use Rattle.poets_session.specs.Texts.{at_byte as at_byte_lem, in_statement as in_statement_lem, fault_text as fault_text_lem, refusal_text};
+ghost use Rattle.poets_session.specs.Causes.{refusal_of};
+ghost use Rattle.poets_session.specs.declared.fault.SessionCause.TheVariants as C;
+
+use crate::{SessionCause, SessionFault};
+use poets_guard::GuardFault;
+use poets_lex::{LexFault, Names};
+use poets_parse::SyntaxFault;
+use poets_print::{name_text, type_text};
+use poets_types::{TypeCause, TypeFault};
+use poets_value::{List, Memory, Name};
+use std::alloc::Global;
+
+// The line that names a byte.
+fn at_byte(alloc: Global, at: u32, what: &str) -> Result<String, Memory>
+    ensures { IfOk result (λ text. string_bytes text ≡ at_byte_lem at what.now) }
+{
+    Ok(format!(in alloc; "refused at byte {at}: {what}\n")?)
+}
+
+// The line that names a statement.
+fn in_statement(alloc: Global, number: u64, what: &str) -> Result<String, Memory>
+    ensures { IfOk result (λ text. string_bytes text ≡ in_statement_lem number what.now) }
+{
+    Ok(format!(in alloc; "refused in statement {number}: {what}\n")?)
+}
+
+// What is wrong with the types of a statement.
+fn type_fault_text(alloc: Global, names: &Names, cause: TypeCause) -> Result<String, Memory>
+    ensures { IfOk result (λ text. option_map (fault_text_lem names.now) (fault_of cause) ≡ Some (string_bytes text)) }
+{
+    match cause {
+        TypeCause::Twice { name } => {
+            let name = name_text(names, name);
+            Ok(format!(in alloc; "Twice {name}")?)
+        }
+        TypeCause::Unknown { name } => {
+            let name = name_text(names, name);
+            Ok(format!(in alloc; "Unknown {name}")?)
+        }
+        TypeCause::WrongCount {
+            name,
+            wanted,
+            found,
+        } => {
+            let name = name_text(names, name);
+            Ok(format!(in alloc; "WrongCount {name}: wanted {wanted}, found {found}")?)
+        }
+        TypeCause::WrongType { wanted, found } => {
+            let wanted = type_text(wanted);
+            let found = type_text(found);
+            Ok(format!(in alloc; "WrongType: wanted {wanted}, found {found}")?)
+        }
+        TypeCause::Memory => Err(Memory),
+    }
+}
+
+// The line of a statement that is not typed.
+fn type_line(alloc: Global, names: &Names, fault: TypeFault) -> Result<String, Memory>
+    ensures { IfOk result (λ text. option_map (refusal_text names.now) (refusal_of (C.Types fault)) ≡ Some (string_bytes text)) }
+{
+    let what = type_fault_text(alloc, names, fault.cause)?;
+    in_statement(alloc, fault.statement, &what)
+}
+
+// The line of a cycle, which tells its first name. No cycle is empty.
+fn cycle_line(
+    alloc: Global,
+    names: &Names,
+    number: u64,
+    cycle: &List<Name>,
+) -> Result<String, Memory>
+    ensures { IfOk result (λ text. option_map (refusal_text names.now) (refusal_of (C.Guard number (G.Unguarded cycle.now))) ≡ Some (string_bytes text)) }
+{
+    let Some(first) = cycle.as_slice().first() else {
+        return Err(Memory);
+    };
+    let name = name_text(names, *first);
+    let what = format!(in alloc; "Unguarded {name}")?;
+    in_statement(alloc, number, &what)
+}
+
+/// The line that tells why a text is no session, with its LF, by `docs/LANGUAGE.md`, "Refused texts".
+///
+/// A fault that is want of memory has no line, and is answered as it is.
+pub fn fault_text(alloc: Global, fault: &SessionFault) -> Result<String, Memory>
+    ensures line { IfOk result (λ text. option_map (refusal_text fault.now.names) (refusal_of fault.now.what) ≡ Some (string_bytes text)) }
+{
+    let names = &fault.names;
+    match &fault.what {
+        SessionCause::Lex(LexFault::BadByte { at }) => at_byte(alloc, *at, "BadByte"),
+        SessionCause::Lex(LexFault::LongNumber { at }) => at_byte(alloc, *at, "LongNumber"),
+        SessionCause::Lex(LexFault::LongName { at }) => at_byte(alloc, *at, "LongName"),
+        SessionCause::Syntax {
+            statement,
+            fault: SyntaxFault::TooDeep,
+        } => in_statement(alloc, *statement, "TooDeep"),
+        SessionCause::Syntax {
+            statement,
+            fault: SyntaxFault::NoSentence,
+        } => in_statement(alloc, *statement, "NoSentence"),
+        SessionCause::Misplaced { statement } => in_statement(alloc, *statement, "Misplaced"),
+        SessionCause::TooMany { statement } => in_statement(alloc, *statement, "TooMany"),
+        SessionCause::Types(fault) => type_line(alloc, names, *fault),
+        SessionCause::Guard {
+            statement,
+            fault: GuardFault::Unguarded { cycle },
+        } => cycle_line(alloc, names, *statement, cycle),
+        SessionCause::Lex(LexFault::Memory)
+        | SessionCause::Syntax {
+            fault: SyntaxFault::Memory,
+            ..
+        }
+        | SessionCause::Guard {
+            fault: GuardFault::Memory,
+            ..
+        }
+        | SessionCause::Memory => Err(Memory),
+    }
+}
+
+#[cfg(test)]
+mod tests {
+    use super::*;
+    use poets_lex::tokens;
+    use poets_syntax::build::push;
+    use poets_value::Ty;
+    use std::process::Abort;
+
+    const F: Name = Name { id: 0 };
+
+    const G: Name = Name { id: 1 };
+
+    // The line of a fault, where `f` and `g` are the names.
+    fn line(alloc: Global, what: SessionCause) -> Result<String, Memory> {
+        let mut names = Names::new(alloc);
+        match tokens(alloc, b"f g", &mut names) {
+            Ok(_) => fault_text(alloc, &SessionFault { names, what }),
+            Err(_) => Err(Memory),
+        }
+    }
+
+    fn type_fault(cause: TypeCause) -> SessionCause {
+        SessionCause::Types(TypeFault {
+            statement: 1,
+            cause,
+        })
+    }
+
+    // The cycle of `template f() = Success;; template g() = g();;`.
+    fn unguarded(alloc: Global) -> Result<SessionCause, Memory> {
+        let mut cycle = List::new(alloc);
+        push(&mut cycle, G)?;
+        Ok(SessionCause::Guard {
+            statement: 2,
+            fault: GuardFault::Unguarded { cycle },
+        })
+    }
+
+    #[test]
+    fn lines_of_places_and_cycles(rt: HostRuntime) -> Result<(), Memory> {
+        let byte = line(rt.alloc(), SessionCause::Lex(LexFault::BadByte { at: 13 }))?;
+        assert_eq!(rt; byte.as_str(), "refused at byte 13: BadByte\n");
+        let deep = SessionCause::Syntax {
+            statement: 4,
+            fault: SyntaxFault::TooDeep,
+        };
+        let deep = line(rt.alloc(), deep)?;
+        assert_eq!(rt; deep.as_str(), "refused in statement 4: TooDeep\n");
+        let cycle = line(rt.alloc(), unguarded(rt.alloc())?)?;
+        assert_eq!(rt; cycle.as_str(), "refused in statement 2: Unguarded g\n");
+        Ok(())
+    }
+
+    #[test]
+    fn lines_of_types(rt: HostRuntime) -> Result<(), Memory> {
+        let count = TypeCause::WrongCount {
+            name: F,
+            wanted: 1,
+            found: 2,
+        };
+        let count = line(rt.alloc(), type_fault(count))?;
+        assert_eq!(rt;
+            count.as_str(),
+            "refused in statement 1: WrongCount f: wanted 1, found 2\n"
+        );
+        let ty = TypeCause::WrongType {
+            wanted: Ty::Int,
+            found: Ty::Day,
+        };
+        let ty = line(rt.alloc(), type_fault(ty))?;
+        assert_eq!(rt;
+            ty.as_str(),
+            "refused in statement 1: WrongType: wanted Int, found Day\n"
+        );
+        Ok(())
+    }
+}

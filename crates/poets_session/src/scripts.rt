@@ -1,0 +1,68 @@
+//! The commands of a session: the scripts of its clerks, and the calls of its journal.
+ghost use Rattle.std.specs.Prelude.{◌≡◌, ◌++◌, ◌∷◌, [], List as AnttList, IfOk, All};
+ghost use Rattle.std.specs.Arc.{arc_value};
+ghost use Rattle.poets_call.specs.Calls.{request_of};
+ghost use Rattle.poets_call.specs.Sentences.{Sentence, Command as CommandSentence, sentence_of, sentences_of};
+ghost use Rattle.poets_session.specs.Scripts.{HasShortNumber};
+ghost use Rattle.poets_session.specs.Sessions.{scripts_of, requests_of, journal_of, numbered_call, calls_in as calls_in_lem};
+
+use poets_call::{Command, Statement};
+use poets_syntax::build::push;
+use poets_value::{List, Memory};
+use std::alloc::Global;
+use std::sync::Arc;
+
+/// The scripts of the clerks, and the calls of the journal.
+#[derive(Drop)]
+pub(crate) struct Calls {
+    pub(crate) scripts: List<List<Arc<Command>>>,
+    pub(crate) journal: List<(u32, Arc<Command>)>,
+}
+
+impl Calls {
+    // Adds a command to the last script; ahead of the first script it is nobody's.
+    #[tactic(auto, using(crate::proofs::Scripting::script_more, crate::proofs::Scripting::no_script))]
+    fn add_command(&mut self, command: Arc<Command>) -> Result<(), Memory>
+        ensures scripts { (before : AnttList Sentence) → requests_of self.old.scripts.items ≡ scripts_of before → IfOk result (λ _. requests_of self.new.scripts.items ≡ scripts_of (before ++ CommandSentence (request_of (arc_value command)) ∷ [])) }
+        ensures journal { self.new.journal ≡ self.old.journal }
+    {
+        let Some(mut script) = self.scripts.pop() else {
+            return Ok(());
+        };
+        push(&mut script, command)?;
+        push(&mut self.scripts, script)
+    }
+
+    // Adds what the statement says.
+    #[tactic(auto, using(crate::proofs::Scripting::script_new, crate::proofs::Scripting::scripts_kept))]
+    fn add(&mut self, alloc: Global, statement: Statement) -> Result<(), Memory>
+        requires { HasShortNumber (sentence_of statement) }
+        ensures scripts { (before : AnttList Sentence) → requests_of self.old.scripts.items ≡ scripts_of before → IfOk result (λ _. requests_of self.new.scripts.items ≡ scripts_of (before ++ sentence_of statement ∷ [])) }
+        ensures journal { IfOk result (λ _. calls_in_lem self.new.journal.items ≡ calls_in_lem self.old.journal.items ++ numbered_call (sentence_of statement)) }
+    {
+        match statement {
+            Statement::Clerk => push(&mut self.scripts, List::new(alloc)),
+            Statement::Command(command) => self.add_command(Arc::new(alloc, command)?),
+            Statement::Numbered(clerk, command) => {
+                push(&mut self.journal, (clerk as u32, Arc::new(alloc, command)?))
+            }
+            _ => Ok(()),
+        }
+    }
+}
+
+/// The scripts and the journal of the statements.
+pub(crate) fn calls_in(alloc: Global, statements: List<Statement>) -> Result<Calls, Memory>
+    requires clerks { All HasShortNumber (sentences_of statements.items) }
+    ensures scripts { IfOk result (λ c. requests_of c.scripts.items ≡ scripts_of (sentences_of statements.items)) }
+    ensures journal { IfOk result (λ c. calls_in_lem c.journal.items ≡ journal_of (sentences_of statements.items)) }
+{
+    let mut calls = Calls {
+        scripts: List::new(alloc),
+        journal: List::new(alloc),
+    };
+    for statement in statements.into_vec() {
+        calls.add(alloc, statement)?;
+    }
+    Ok(calls)
+}

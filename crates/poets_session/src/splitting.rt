@@ -1,0 +1,118 @@
+//! The statements of a text.
+ghost use Rattle.std.specs.Prelude.{◌≡◌, ℕ, ◌≢◌, ◌∷◌, [], true, false, ◌+◌, ◌<◌, length, take, drop, IfSome, IfNone, IfOk, IfErr};
+ghost use Rattle.poets_grammar.specs.Tokens.{toks, AreNatural};
+ghost use Rattle.poets_call.specs.Sentences.{sentence_of, sentences_of};
+ghost use Rattle.poets_session.specs.Pieces.{pieces_of, is_end as is_end_lem};
+ghost use Rattle.poets_session.specs.Sessions.{Says};
+ghost use Rattle.poets_session.specs.Refusals.{IsUnread, IsStopped};
+ghost use Rattle.poets_session.specs.Causes.{Tells, syntax_cause};
+ghost use Rattle.poets_session.specs.declared.fault.SessionCause.{SessionCause};
+ghost use Rattle.poets_session.specs.Splitting.{piece, AreSaid};
+
+use crate::SessionCause;
+use poets_call::Statement;
+use poets_lex::{Sign, Tok, Token};
+use poets_parse::{SyntaxFault, is_too_deep, statement};
+use poets_syntax::build::push;
+use poets_value::List;
+use std::alloc::Global;
+
+// Whether the token ends a statement.
+fn is_end(token: &Token) -> bool
+    ensures { result ≡ is_end_lem token.now.what }
+{
+    match token.what {
+        Tok::Sign(Sign::DoubleSemicolon) => true,
+        _ => false,
+    }
+}
+
+// The number of tokens ahead of the first `;;`, if there is one.
+fn tokens_ahead(tokens: &[Token]) -> Option<usize>
+    ensures found { IfSome result (λ n. (n < length tokens.now) × (pieces_of (toks tokens.now) ≡ piece (toks (take n tokens.now)) true ∷ pieces_of (toks (drop (n + 1) tokens.now)))) }
+    ensures none { IfNone result (tokens.now ≢ [] → pieces_of (toks tokens.now) ≡ piece (toks tokens.now) false ∷ []) }
+{
+    for (place, token) in tokens.iter().enumerate() {
+        if is_end(token) {
+            return Some(place);
+        }
+    }
+    None
+}
+
+// The tokens of the first statement, whether a `;;` ends it, and the tokens behind it.
+fn first_piece(tokens: &[Token]) -> (&[Token], bool, &[Token])
+    requires { tokens.now ≢ [] }
+    ensures piece { pieces_of (toks tokens.now) ≡ piece (toks result.0.now) result.1 ∷ pieces_of (toks result.2.now) }
+    ensures shorter { length result.2.now < length tokens.now }
+    ensures natural { AreNatural tokens.now → AreNatural result.0.now × AreNatural result.2.now }
+{
+    match tokens_ahead(tokens) {
+        Some(length) => (&tokens[..length], true, &tokens[length + 1..]),
+        None => (tokens, false, &[]),
+    }
+}
+
+// Why a statement without a `;;` is none.
+fn unended(tokens: &[Token]) -> SyntaxFault
+    ensures { (number : ℕ) → Tells (IsUnread (piece (toks tokens.now) false) number) (SessionCause.Syntax number result) }
+{
+    if is_too_deep(tokens) {
+        SyntaxFault::TooDeep
+    } else {
+        SyntaxFault::NoSentence
+    }
+}
+
+// The cause that tells why a statement was not read.
+fn cause_of(number: u64, fault: SyntaxFault) -> SessionCause
+    ensures { result ≡ syntax_cause number fault }
+{
+    match fault {
+        SyntaxFault::Memory => SessionCause::Memory,
+        SyntaxFault::TooDeep | SyntaxFault::NoSentence => SessionCause::Syntax {
+            statement: number,
+            fault,
+        },
+    }
+}
+
+// What the statement with the number says.
+fn read_statement(
+    alloc: Global,
+    number: u64,
+    tokens: &[Token],
+    ended: bool,
+) -> Result<Statement, SessionCause>
+    requires { AreNatural tokens.now }
+    ensures said { IfOk result (λ s. Says (piece (toks tokens.now) ended) (sentence_of s)) }
+    ensures unread { IfErr result (Tells (IsUnread (piece (toks tokens.now) ended) number)) }
+{
+    if !ended {
+        return Err(SessionCause::Syntax {
+            statement: number,
+            fault: unended(tokens),
+        });
+    }
+    match statement(alloc, tokens) {
+        Ok(statement) => Ok(statement),
+        Err(fault) => Err(cause_of(number, fault)),
+    }
+}
+
+/// The statements of a text.
+pub(crate) fn statements(alloc: Global, tokens: &[Token]) -> Result<List<Statement>, SessionCause>
+    requires { AreNatural tokens.now }
+    ensures said { IfOk result (λ found. AreSaid (pieces_of (toks tokens.now)) (sentences_of found.items)) }
+    ensures stopped { IfErr result (Tells (IsStopped (pieces_of (toks tokens.now)))) }
+{
+    let mut found = List::new(alloc);
+    let mut rest = tokens;
+    while !rest.is_empty() {
+        let (piece, ended, behind) = first_piece(rest);
+        let number = found.len() as u64 + 1;
+        push(&mut found, read_statement(alloc, number, piece, ended)?)?;
+        rest = behind;
+    }
+    Ok(found)
+}
