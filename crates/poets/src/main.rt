@@ -1,4 +1,4 @@
-//! `poets run` reads a session from standard input and writes its history to standard output.
+//! `poets check` reads a book and `poets run` a session from standard input; both write to standard output.
 #![tactic(auto)]
 
 use poets_io::{StdSink, StdSource};
@@ -31,6 +31,6 @@ fn main(rt: HostRuntime) -> ExitCode {
 
 // Tells how the program is called.
 fn usage(rt: &HostRuntime) -> ExitCode {
-    let _ = eprintln!(rt; "usage: poets run");
+    let _ = eprintln!(rt; "usage: poets check | run");
     ExitCode::from(USAGE)
 }

@@ -7,7 +7,7 @@ use Rattle.poets_value.specs.declared.value.Ty.TheVariants as T
 use Rattle.poets_expr.specs.Expression.{Expression}
 use Rattle.poets_expr.specs.Env.{Declared}
 use Rattle.poets_syntax.specs.Book.{Definition, Definitions}
-use Rattle.poets_syntax.specs.TypeOf.{Fault, Unknown, Checked, Passes, Fails, ◌>>=◌, Scope, must_be, name_type, type_of}
+use Rattle.poets_syntax.specs.TypeOf.{Fault, Unknown, Verdict, Passes, Fails, ◌>>=◌, Scope, must_be, name_type, type_of}
 use Rattle.poets_syntax.specs.Typed.{is_among, in_use, check_new, names_bound, types_bound, scope_of, check_type, check_arguments, check_contract}
 use Rattle.poets_report.specs.Query.{Query}
 use Rattle.poets_call.specs.Calls.{Request}
@@ -18,58 +18,58 @@ use Rattle.poets_call.specs.Declarations.{names_declared, book_of, reports_of}
 abbrev pub report_names : List Query → List Name
 report_names reports = map (λ q. q.name) reports
 
-abbrev pub check_template : Definitions → (reports : List Name) → Definition → Checked (Unit {0})
+abbrev pub check_template : Definitions → (reports : List Name) → Definition → Verdict (Unit {0})
 check_template book reports t = do
   _ ← check_new (in_use book reports) [] (map (λ p. p.name) t.params)
   check_contract book reports (scope_of t.params) t.body
 
 -- a key may have any type
-abbrev pub check_key : Declared → Scope → Option Expression → Checked (Unit {0})
+abbrev pub check_key : Declared → Scope → Option Expression → Verdict (Unit {0})
 check_key declared scope None = Passes tt
 check_key declared scope (Some key) = do
   _ ← type_of declared scope key
   Passes tt
 
 -- the start, the fold name and the binders, the step, and the key, which does not see the fold name
-abbrev pub check_fold : Definitions → (reports : List Name) → Scope → Query → Checked (Unit {0})
+abbrev pub check_fold : Definitions → (reports : List Name) → Scope → Query → Verdict (Unit {0})
 check_fold book reports scope q = do
   _ ← check_type book.declared scope q.ty q.start
   _ ← check_new (in_use book reports) [] (q.carry ∷ names_bound q.binders)
   _ ← check_type book.declared (types_bound q.binders ++ (q.carry, q.ty) ∷ scope) q.ty q.step
   check_key book.declared (types_bound q.binders ++ scope) q.key
 
-abbrev pub check_report : Definitions → (reports : List Name) → Query → Checked (Unit {0})
+abbrev pub check_report : Definitions → (reports : List Name) → Query → Verdict (Unit {0})
 check_report book reports q = do
   _ ← check_new (in_use book reports) [] (map (λ p. p.name) q.params)
   check_fold book reports (scope_of q.params) q
 
 -- the name is declared as the wanted one of an agent and a kind
-abbrev pub check_declared : Declared → Ty → Name → Checked (Unit {0})
+abbrev pub check_declared : Declared → Ty → Name → Verdict (Unit {0})
 check_declared declared wanted x = do
   found ← name_type x (declared x)
   must_be wanted found
 
-abbrev pub check_event : Declared → Event → Checked (Unit {0})
+abbrev pub check_event : Declared → Event → Verdict (Unit {0})
 check_event declared e = do
   _ ← check_declared declared T.Agent e.sender
   _ ← check_declared declared T.Agent e.receiver
   check_declared declared T.Kind e.what.kind
 
 -- a report with arguments of its parameters' types
-abbrev pub check_asked : Declared → Name → Option Query → List Expression → Checked (Unit {0})
-check_asked declared x None args = Fails (Unknown x)
-check_asked declared x (Some q) args = check_arguments declared [] x q.params args
+abbrev pub check_report_arguments : Declared → Name → Option Query → List Expression → Verdict (Unit {0})
+check_report_arguments declared x None args = Fails (Unknown x)
+check_report_arguments declared x (Some q) args = check_arguments declared [] x q.params args
 
 -- a command; contracts' names are a space of their own, in which nothing is declared
-abbrev pub check_request : Definitions → List Query → Request → Checked (Unit {0})
+abbrev pub check_request : Definitions → List Query → Request → Verdict (Unit {0})
 check_request book reports (Request.Register x c) = check_contract book (report_names reports) [] c
 check_request book reports (Request.Transmit x e) = check_event book.declared e
-check_request book reports (Request.Tally x args) = check_asked book.declared x (report_in reports x) args
-check_request book reports (Request.Portfolio x args over) = check_asked book.declared x (report_in reports x) args
-check_request book reports (Request.Watch x args) = check_asked book.declared x (report_in reports x) args
+check_request book reports (Request.Tally x args) = check_report_arguments book.declared x (report_in reports x) args
+check_request book reports (Request.Portfolio x args over) = check_report_arguments book.declared x (report_in reports x) args
+check_request book reports (Request.Watch x args) = check_report_arguments book.declared x (report_in reports x) args
 check_request book reports _ = Passes tt
 
-abbrev pub check_sentence : Definitions → List Query → Sentence → Checked (Unit {0})
+abbrev pub check_sentence : Definitions → List Query → Sentence → Verdict (Unit {0})
 check_sentence book reports (Template t) = check_template book (report_names reports) t
 check_sentence book reports (Report q) = check_report book (report_names reports) q
 check_sentence book reports (Command request) = check_request book reports request
@@ -77,33 +77,33 @@ check_sentence book reports (Numbered clerk request) = check_request book report
 check_sentence book reports _ = Passes tt
 
 -- the number of a statement, from 1, and its fault; none where all pass
-abbrev pub FirstFault : Type 0
-FirstFault = Option (ℕ × Fault)
+abbrev pub NumberedFault : Type 0
+NumberedFault = Option (ℕ × Fault)
 
 -- the fault of the statement with the number, else that of the others
-abbrev pub or_else : Checked (Unit {0}) → (number : ℕ) → FirstFault → FirstFault
+abbrev pub or_else : Verdict (Unit {0}) → (number : ℕ) → NumberedFault → NumberedFault
 or_else (Passes _) number others = others
 or_else (Fails fault) number others = Some (number, fault)
 
 -- the first name that was declared before; the statements are numbered from this number on
-abbrev pub twice_from : ℕ → (earlier : List Name) → List Sentence → FirstFault
+abbrev pub twice_from : ℕ → (earlier : List Name) → List Sentence → NumberedFault
 twice_from number earlier [] = None
 twice_from number earlier (s ∷ statements) =
     or_else (check_new (is_among earlier) [] (names_declared s)) number (twice_from (number + 1) (names_declared s ++ earlier) statements)
 
 -- the first fault of types
-abbrev pub mistyped_from : ℕ → Definitions → List Query → List Sentence → FirstFault
+abbrev pub mistyped_from : ℕ → Definitions → List Query → List Sentence → NumberedFault
 mistyped_from number book reports [] = None
 mistyped_from number book reports (s ∷ statements) =
     or_else (check_sentence book reports s) number (mistyped_from (number + 1) book reports statements)
 
 -- the first of two
-abbrev pub first_of : FirstFault → FirstFault → FirstFault
+abbrev pub first_of : NumberedFault → NumberedFault → NumberedFault
 first_of None later = later
 first_of (Some fault) later = Some fault
 
 -- the first fault of statements under what the book among them declares: names that stand twice come before all others
-abbrev pub first_fault : List Sentence → FirstFault
+abbrev pub first_fault : List Sentence → NumberedFault
 first_fault statements =
     first_of (twice_from 1 [] statements) (mistyped_from 1 (book_of statements) (reports_of statements) statements)
 

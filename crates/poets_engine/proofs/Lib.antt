@@ -5,3 +5,4 @@ pub mod Rows
 pub mod Registering
 pub mod Transmitting
 pub mod Histories
+pub mod StudiedExample

@@ -6,10 +6,10 @@ use Rattle.std.proofs.lemmas.Bool.{eqb-true, eq-eqb}
 use Rattle.std.proofs.lemmas.Grind.{common_steps}
 use Rattle.poets_value.specs.declared.value.Name.{Name}
 use Rattle.poets_syntax.specs.Contract.{Contract, contract_of}
+use Rattle.poets_syntax.specs.Studied.{StudiedBook}
 use Rattle.poets_syntax.specs.declared.term.Term.{Term}
 use Rattle.poets_table.specs.TableView.{RowView}
 use Rattle.poets_call.specs.Ledger.{Ledger, contract_from}
-use Rattle.poets_call.specs.Frame.{Frame}
 use Rattle.poets_engine.specs.Rows.{RowIs, RowsAre}
 
 pub truth : (b : Bool) → (b ≡ true) ⊎ (b ≡ false)
@@ -91,10 +91,10 @@ contract_from-found x i (suc k) (r ∷ rows) e = elim (truth (has_name x r)) [
 ]
 
 -- the row at a place is that of its number
-pub row_is : (f : Frame) (l : Ledger) (i k : ℕ) (rows : List (RowView Term)) (r : RowView Term) → RowsAre f l i rows → slice_get rows k ≡ Some r → RowIs f l (i + k) r
-row_is f l i k [] r h e = absurd cc
-row_is f l i zero (r' ∷ rows) r h e =
+pub row_is : (s : StudiedBook) (l : Ledger) (i k : ℕ) (rows : List (RowView Term)) (r : RowView Term) → RowsAre s l i rows → slice_get rows k ≡ Some r → RowIs s l (i + k) r
+row_is s l i k [] r h e = absurd cc
+row_is s l i zero (r' ∷ rows) r h e =
     let q : r' ≡ r = cc in
-    subst (λ n. RowIs f l n r) (let z : i ≡ i + 0 = omega arith in z) (subst (RowIs f l i) q h.0)
-row_is f l i (suc k) (r' ∷ rows) r h e =
-    subst (λ n. RowIs f l n r) (let z : suc i + k ≡ i + suc k = omega arith in z) (row_is f l (suc i) k rows r h.1 e)
+    subst (λ n. RowIs s l n r) (let z : i ≡ i + 0 = omega arith in z) (subst (RowIs s l i) q h.0)
+row_is s l i (suc k) (r' ∷ rows) r h e =
+    subst (λ n. RowIs s l n r) (let z : suc i + k ≡ i + suc k = omega arith in z) (row_is s l (suc i) k rows r h.1 e)

@@ -1,3 +1,4 @@
 pub mod State
 pub mod Rows
 pub mod Steps
+pub mod Examples

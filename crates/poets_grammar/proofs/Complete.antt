@@ -7,7 +7,7 @@ use Rattle.poets_lex.specs.declared.token.Word.TheVariants as W
 use Rattle.poets_lex.specs.declared.token.Sign.TheVariants as S
 use Rattle.poets_lex.specs.declared.token.Tok.{Tok}
 use Rattle.poets_lex.specs.declared.token.Tok.TheVariants as K
-use Rattle.poets_grammar.specs.Tokens.{joins}
+use Rattle.poets_grammar.specs.Tokens.{infix_operator}
 use Rattle.poets_grammar.specs.Expressions.{Rule, Disjunction, Conjunction, Negation, Comparison, Sum, Product, Prefixed, Primary, begins_number, ReadsExpression, IsExpression}
 use Rattle.poets_grammar.specs.Reading.{Reading, Reader, operator, joined, closed, applied, made, conditional, amount, credit, debt, resource, undefined_of, literal, primary, under, negative, prefixed, product, sum, comparison, negation, conjunction, disjunction, expression_at, expression, whole_expression}
 use Rattle.poets_grammar.proofs.Steps.{steps, at_some, ended}
@@ -72,7 +72,7 @@ minus_else f (K.Sign s ∷ ts) e = refl
 
 -- ---- all rules
 
--- the tokens that may stand behind a part, which more operands may follow, are looser than this
+-- the tokens that may stand after a part, which more operands may follow, are looser than this
 need : Rule → ℕ
 need Disjunction = 2
 need Conjunction = 4
@@ -83,7 +83,7 @@ need Product = 7
 need Prefixed = 7
 need Primary = 7
 
--- what the rule's reader finds, with f for whole expressions: for operands of one level, that reading is to go on behind e
+-- what the rule's reader finds, with f for whole expressions: for operands of one level, that reading is to go on after e
 Claim : Reader → Rule → List Tok → Expression → List Tok → Type 0
 Claim f Disjunction ts e rest = Goes (operator 1) Binary (conjunction f) (disjunction f) ts e rest
 Claim f Conjunction ts e rest = Goes (operator 2) Binary (negation f) (conjunction f) ts e rest
@@ -101,7 +101,7 @@ FindsBelow f n = (ts : List Tok) (e : Expression) (rest : List Tok) → length t
 stop : {level : ℕ} {operand f : Reader} {ts rest : List Tok} {e : Expression} → Goes (operator level) Binary operand f ts e rest → tight rest < level → f ts ≡ Some (e, rest)
 stop {level} {operand} {f} {ts} {rest} {e} g l = ends (operator level) Binary operand g (no_operator level rest l)
 
-step : {level : ℕ} {operand f : Reader} {ts mid rest : List Tok} {a b : Expression} {t : Tok} {o : Op} → Goes (operator level) Binary operand f ts a (t ∷ mid) → joins t ≡ Some (level, o) →
+step : {level : ℕ} {operand f : Reader} {ts mid rest : List Tok} {a b : Expression} {t : Tok} {o : Op} → Goes (operator level) Binary operand f ts a (t ∷ mid) → infix_operator t ≡ Some (level, o) →
     operand mid ≡ Some (b, rest) → length rest < length mid → Goes (operator level) Binary operand f ts (Binary o a b) rest
 step {level} {operand} {f} {ts} {mid} {rest} {a} {b} {t} {o} g j q l = goes_on (operator level) Binary operand g (an_operator level t o mid j) q (omega (arith, l))
 

@@ -53,7 +53,7 @@ semicolon_none : (ts : List Tok) → grip ts < 3 → mark S.Semicolon ts ≡ Non
 semicolon_none (K.Sign S.Semicolon ∷ ts) lt = absurd (omega arith)
 semicolon_none _ lt = refl
 
--- what the rule's reader finds, with f for simple contracts: that reading is to go on behind c
+-- what the rule's reader finds, with f for simple contracts: that reading is to go on after c
 Claim : ContractReader → ContractRule → List Tok → Contract → List Tok → Type 0
 Claim f Choice ts c rest = Goes (mark S.Plus) either (parallel f) (choice f) ts c rest
 Claim f Parallel ts c rest = Goes (mark S.DoubleBar) beside (sequence f) (parallel f) ts c rest

@@ -26,7 +26,7 @@ grip (K.Sign S.DoubleBar ∷ ts) = 2
 grip (K.Sign S.Semicolon ∷ ts) = 3
 grip _ = 0
 
--- what stands behind the longest front of a rule is looser than this
+-- what stands after the longest front of a rule is looser than this
 abbrev pub grip_bound : ContractRule → ℕ
 grip_bound Choice = 1
 grip_bound Parallel = 2

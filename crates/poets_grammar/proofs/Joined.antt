@@ -5,7 +5,7 @@ use Rattle.poets_lex.specs.declared.token.Tok.{Tok}
 use Rattle.poets_grammar.specs.Reading.{Reading, ◌>>=◌, turn, more, joined}
 use Rattle.poets_grammar.proofs.Steps.{steps}
 
--- R is what operands O with links between them are; SR and SO are what stands behind them
+-- R is what operands O with links between them are; SR and SO are what stands after them
 pub record IsLevel {J A : Type 0} (link : List Tok → Reading J) (join : J → A → A → A) (R O : List Tok → A → List Tok → Type 0) (SR SO : List Tok → Type 0) : Type 0 where
   pub one : (ts rest : List Tok) (a : A) → O ts a rest → R ts a rest
   pub more : (ts mid behind rest : List Tok) (a b : A) (j : J) → R ts a mid → link mid ≡ Some (j, behind) → O behind b rest → R ts (join j a b) rest

@@ -9,3 +9,4 @@ pub mod ContractSound
 pub mod ContractComplete
 pub mod Statements
 pub mod Depths
+pub mod Lexed

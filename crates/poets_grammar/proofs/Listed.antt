@@ -8,7 +8,7 @@ use Rattle.poets_grammar.specs.Lists.{ReadsList, ReadsBracketed}
 use Rattle.poets_grammar.specs.Reading.{Reading, behind_sign, others, listed_at, listed, some_listed, none_or_some, bracketed}
 use Rattle.poets_grammar.proofs.Steps.{steps, sign_is}
 
--- the reader reads exactly the items that have what may stand behind them
+-- the reader reads exactly the items that have what may stand after them
 pub record IsItem {A : Type 0} (item : List Tok → Reading A) (Item : List Tok → A → List Tok → Type 0) (Stops : List Tok → Type 0) : Type 0 where
   pub sound : (ts : List Tok) → IfSome (item ts) (λ p. Item ts p.0 p.1)
   pub complete : (ts rest : List Tok) (x : A) → Item ts x rest → Stops rest → item ts ≡ Some (x, rest)

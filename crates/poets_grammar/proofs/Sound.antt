@@ -10,7 +10,7 @@ use Rattle.poets_lex.specs.declared.token.Word.TheVariants as W
 use Rattle.poets_lex.specs.declared.token.Sign.TheVariants as S
 use Rattle.poets_lex.specs.declared.token.Tok.{Tok}
 use Rattle.poets_lex.specs.declared.token.Tok.TheVariants as K
-use Rattle.poets_grammar.specs.Tokens.{joins}
+use Rattle.poets_grammar.specs.Tokens.{infix_operator}
 use Rattle.poets_grammar.specs.Expressions.{Rule, Disjunction, Conjunction, Negation, Comparison, Sum, Product, Prefixed, Primary, begins_number, ReadsExpression}
 use Rattle.poets_grammar.specs.Reading.{Reading, Reader, behind_sign, behind_word, name, number, type_name, operator, closed, applied, made, conditional, amount, credit, debt, resource, undefined_of, primary_word, literal, primary, under, negative, prefixed, product, sum, unless_compared, compared, comparison, negation, conjunction, disjunction}
 use Rattle.poets_grammar.proofs.Steps.{steps, weaker, at_some, sign_is, word_is, name_is, number_is, type_is}
@@ -161,9 +161,9 @@ prefixed_sound f h ts = weaker _ _ (prefixed f ts) (prefixed_is f h ts) (λ p r.
 abbrev Level : ℕ → Rule → Rule → Type 0
 Level level L M = IsLevel (operator level) Binary (ReadsExpression L) (ReadsExpression M) (λ ts. tight ts < bound L) (λ ts. tight ts < bound M)
 
--- one more operand, behind an operator
+-- one more operand, after an operator
 one_more : (level : ℕ) (L M : Rule) →
-    ((ts mid rest : List Tok) (a b : Expression) (t : Tok) (o : Op) → joins t ≡ Some (level, o) → ReadsExpression L ts a (t ∷ mid) → ReadsExpression M mid b rest → ReadsExpression L ts (Binary o a b) rest) →
+    ((ts mid rest : List Tok) (a b : Expression) (t : Tok) (o : Op) → infix_operator t ≡ Some (level, o) → ReadsExpression L ts a (t ∷ mid) → ReadsExpression M mid b rest → ReadsExpression L ts (Binary o a b) rest) →
     (ts mid behind rest : List Tok) (a b : Expression) (o : Op) → ReadsExpression L ts a mid → operator level mid ≡ Some (o, behind) → ReadsExpression M behind b rest → ReadsExpression L ts (Binary o a b) rest
 one_more level L M more ts mid behind rest a b o r e q =
     let is : IsOperator level mid (o, behind) = at_some (IsOperator level mid) (operator level mid) (o, behind) (operator_is level mid) e in

@@ -72,7 +72,7 @@ pub type_is : (ts : List Tok) → IfSome (type_name ts) (IsType ts)
 type_is (K.Word w ∷ ts) = with_type_is (type_of w) w ts refl
 type_is _ = tt
 
--- what stands behind what is read is nothing
+-- what stands after what is read is nothing
 pub ended : {A : Type 0} (P : A → List Tok → Type 0) (x : A) (rest : List Tok) → P x rest → IfSome (whole x rest) (λ y. P y [])
 ended P x [] p = p
 ended P x (t ∷ rest) p = tt

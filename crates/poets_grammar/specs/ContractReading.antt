@@ -46,7 +46,7 @@ binders ts = do
 
 -- ---- the rules, over a reader of simple contracts
 
--- behind the word `transmit`
+-- after the word `transmit`
 unfoldable pub transmit : ContractReader → ContractReader
 transmit simple ts = do
   a ← behind_sign S.LeftParen ts
@@ -58,7 +58,7 @@ transmit simple ts = do
   after ← simple d
   Some (C.Transmit binders.0 when.0 after.0, after.1)
 
--- behind the name
+-- after the name
 unfoldable pub application : Name → ContractReader
 application f ts = do
   args ← arguments ts
@@ -73,7 +73,7 @@ parallel simple ts = joined (mark S.DoubleBar) beside (sequence simple) ts
 unfoldable pub choice : ContractReader → ContractReader
 choice simple ts = joined (mark S.Plus) either (parallel simple) ts
 
--- behind the `(`
+-- after the `(`
 unfoldable pub closed_contract : ContractReader → ContractReader
 closed_contract simple ts = do
   c ← choice simple ts

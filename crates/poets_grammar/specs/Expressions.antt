@@ -12,7 +12,7 @@ use Rattle.poets_lex.specs.declared.token.Word.TheVariants as W
 use Rattle.poets_lex.specs.declared.token.Sign.TheVariants as S
 use Rattle.poets_lex.specs.declared.token.Tok.{Tok}
 use Rattle.poets_lex.specs.declared.token.Tok.TheVariants as K
-use Rattle.poets_grammar.specs.Tokens.{joins, type_of}
+use Rattle.poets_grammar.specs.Tokens.{infix_operator, type_of}
 use Rattle.poets_grammar.specs.Lists.{ReadsBracketed}
 
 -- the rules; a whole expression is a disjunction
@@ -36,13 +36,13 @@ pub data ReadsExpression : Rule → List Tok → Expression → List Tok → Typ
   OneConjunction : {ts rest : List Tok} {e : Expression} → ReadsExpression Conjunction ts e rest → ReadsExpression Disjunction ts e rest
   MoreConjunctions :
       {ts mid rest : List Tok} {a b : Expression} {t : Tok} {o : Op} →
-      joins t ≡ Some (1, o) → ReadsExpression Disjunction ts a (t ∷ mid) → ReadsExpression Conjunction mid b rest →
+      infix_operator t ≡ Some (1, o) → ReadsExpression Disjunction ts a (t ∷ mid) → ReadsExpression Conjunction mid b rest →
       ReadsExpression Disjunction ts (E.Binary o a b) rest
   -- conjunction = negation { "and" negation }
   OneNegation : {ts rest : List Tok} {e : Expression} → ReadsExpression Negation ts e rest → ReadsExpression Conjunction ts e rest
   MoreNegations :
       {ts mid rest : List Tok} {a b : Expression} {t : Tok} {o : Op} →
-      joins t ≡ Some (2, o) → ReadsExpression Conjunction ts a (t ∷ mid) → ReadsExpression Negation mid b rest →
+      infix_operator t ≡ Some (2, o) → ReadsExpression Conjunction ts a (t ∷ mid) → ReadsExpression Negation mid b rest →
       ReadsExpression Conjunction ts (E.Binary o a b) rest
   -- negation = "not" negation | comparison
   Not :
@@ -53,19 +53,19 @@ pub data ReadsExpression : Rule → List Tok → Expression → List Tok → Typ
   OneSum : {ts rest : List Tok} {e : Expression} → ReadsExpression Sum ts e rest → ReadsExpression Comparison ts e rest
   TwoSums :
       {ts mid rest : List Tok} {a b : Expression} {t : Tok} {o : Op} →
-      joins t ≡ Some (4, o) → ReadsExpression Sum ts a (t ∷ mid) → ReadsExpression Sum mid b rest →
+      infix_operator t ≡ Some (4, o) → ReadsExpression Sum ts a (t ∷ mid) → ReadsExpression Sum mid b rest →
       ReadsExpression Comparison ts (E.Binary o a b) rest
   -- sum = product { ( "+" | "-" ) product }
   OneProduct : {ts rest : List Tok} {e : Expression} → ReadsExpression Product ts e rest → ReadsExpression Sum ts e rest
   MoreProducts :
       {ts mid rest : List Tok} {a b : Expression} {t : Tok} {o : Op} →
-      joins t ≡ Some (5, o) → ReadsExpression Sum ts a (t ∷ mid) → ReadsExpression Product mid b rest →
+      infix_operator t ≡ Some (5, o) → ReadsExpression Sum ts a (t ∷ mid) → ReadsExpression Product mid b rest →
       ReadsExpression Sum ts (E.Binary o a b) rest
   -- product = prefixed { ( "*" | "/" | "%" ) prefixed }
   OnePrefixed : {ts rest : List Tok} {e : Expression} → ReadsExpression Prefixed ts e rest → ReadsExpression Product ts e rest
   MorePrefixed :
       {ts mid rest : List Tok} {a b : Expression} {t : Tok} {o : Op} →
-      joins t ≡ Some (6, o) → ReadsExpression Product ts a (t ∷ mid) → ReadsExpression Prefixed mid b rest →
+      infix_operator t ≡ Some (6, o) → ReadsExpression Product ts a (t ∷ mid) → ReadsExpression Prefixed mid b rest →
       ReadsExpression Product ts (E.Binary o a b) rest
   -- prefixed = "-" NUMBER | "-" prefixed | primary, where a "-" directly before a NUMBER is the first
   NegativeNumber :

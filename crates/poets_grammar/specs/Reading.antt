@@ -1,4 +1,4 @@
--- Reading of expressions as functions on lists: what stands at the front of the tokens, as long as possible, and what stands behind it.
+-- Reading of expressions as functions on lists: what stands at the front of the tokens, as long as possible, and what stands after it.
 -- What is an expression Expressions.antt says; that both agree is proved.
 use Rattle.std.specs.Prelude.{ℕ, zero, suc, ◌+◌, nat_eq, Bool, true, false, if◌then◌else◌, List, [], ◌∷◌, length, Option, Some, None, ℤ, pos, neg_ℤ}
 use Rattle.poets_value.specs.declared.value.Name.{Name}
@@ -15,9 +15,9 @@ use Rattle.poets_lex.specs.declared.token.Tok.{Tok}
 use Rattle.poets_lex.specs.declared.token.Tok.TheVariants as K
 use Rattle.poets_lex.specs.contracts.token.SignPartialEq.TheImpl as sign_eq
 use Rattle.poets_lex.specs.contracts.token.WordPartialEq.TheImpl as word_eq
-use Rattle.poets_grammar.specs.Tokens.{joins, type_of}
+use Rattle.poets_grammar.specs.Tokens.{infix_operator, type_of}
 
--- what is read from the front of the tokens, and what stands behind it
+-- what is read from the front of the tokens, and what stands after it
 abbrev pub Reading : Type 0 → Type 0
 Reading A = Option (A × List Tok)
 
@@ -37,7 +37,7 @@ same_sign a b = (sign_eq.ghosts).eq a b
 abbrev pub same_word : Word → Word → Bool
 same_word a b = (word_eq.ghosts).eq a b
 
--- what stands behind the sign
+-- what stands after the sign
 abbrev pub behind_sign : Sign → List Tok → Option (List Tok)
 behind_sign wanted (K.Sign found ∷ ts) = if same_sign found wanted then Some ts else None
 behind_sign wanted _ = None
@@ -69,10 +69,10 @@ of_level level None ts = None
 
 -- an operator of that level
 abbrev pub operator : ℕ → List Tok → Reading Op
-operator level (t ∷ ts) = of_level level (joins t) ts
+operator level (t ∷ ts) = of_level level (infix_operator t) ts
 operator level [] = None
 
--- nothing stands behind what is read
+-- nothing stands after what is read
 abbrev pub whole : {A : Type 0} → A → List Tok → Option A
 whole x [] = Some x
 whole x (t ∷ ts) = None
@@ -83,7 +83,7 @@ abbrev pub turn : {J A : Type 0} → (J → A → A → A) → (List Tok → Rea
 turn join operand next left ts None = Some (left, ts)
 turn join operand next left ts (Some j) = operand j.1 >>= λ right. next (join j.0 left right.0) right.1
 
--- what is joined to the first operand: fewer operands than the number, each behind a link
+-- what is joined to the first operand: fewer operands than the number, each after a link
 unfoldable pub more : {J A : Type 0} → (List Tok → Reading J) → (J → A → A → A) → (List Tok → Reading A) → ℕ → A → List Tok → Reading A
 more link join operand zero left ts = None
 more link join operand (suc turns) left ts = turn join operand (more link join operand turns) left ts (link ts)
@@ -140,7 +140,7 @@ applied o expr ts = do
   e ← closed expr inside
   Some (Unary o e.0, e.1)
 
--- behind the word `res`
+-- after the word `res`
 unfoldable pub made : Reader → Reader
 made expr ts = do
   from_amount ← behind_sign S.LeftParen ts
@@ -149,7 +149,7 @@ made expr ts = do
   b ← closed expr from_kind
   Some (Make a.0 b.0, b.1)
 
--- behind the word `if`
+-- after the word `if`
 unfoldable pub conditional : Reader → Reader
 conditional expr ts = do
   a ← expr ts
@@ -178,12 +178,12 @@ debt ts = do
   r ← amount ts
   Some (Literal (V.Resource (record { amount = neg_ℤ r.0.amount; kind = r.0.kind })), r.1)
 
--- behind the `[`
+-- after the `[`
 unfoldable pub resource : Reader
 resource (K.Sign S.Minus ∷ ts) = debt ts
 resource ts = credit ts
 
--- behind the word `undefined`
+-- after the word `undefined`
 unfoldable pub undefined_of : Reader
 undefined_of ts = do
   t ← type_name ts
@@ -222,7 +222,7 @@ primary expr (K.Sign _ ∷ ts) = None
 abbrev pub under : UnaryOp → Reading Expression → Reading Expression
 under o r = r >>= λ e. Some (Unary o e.0, e.1)
 
--- behind a `-`
+-- after a `-`
 unfoldable pub negative : Reader
 negative ts = do
   n ← number ts

@@ -55,7 +55,7 @@ whole_arguments ts = do
   args ← arguments ts
   whole args.0 args.1
 
--- ---- commands, behind their words
+-- ---- commands, after their words
 
 unfoldable pub register : List Tok → Option Request
 register ts = do
@@ -114,7 +114,7 @@ unfoldable pub command : List Tok → Option Request
 command (K.Word w ∷ ts) = command_word w ts
 command _ = None
 
--- ---- statements, behind their words
+-- ---- statements, after their words
 
 unfoldable pub template : List Tok → Option Sentence
 template ts = do

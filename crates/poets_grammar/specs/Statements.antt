@@ -1,4 +1,4 @@
--- The grammar of statements, without the `;;` behind them.
+-- The grammar of statements, without the `;;` after them.
 use Rattle.std.specs.Prelude.{◌≡◌, ℕ, List, [], ◌∷◌, Option, Some, None, ℤ, pos}
 use Rattle.poets_value.specs.declared.value.Name.{Name}
 use Rattle.poets_value.specs.declared.value.Ty.{Ty}

@@ -34,28 +34,28 @@ type_of W.ResourceType = Some T.Resource
 type_of W.DayType = Some T.Day
 type_of _ = None
 
-abbrev pub word_joins : Word → Option (ℕ × Op)
-word_joins W.Or = Some (1, O.Or)
-word_joins W.And = Some (2, O.And)
-word_joins _ = None
+abbrev pub word_operator : Word → Option (ℕ × Op)
+word_operator W.Or = Some (1, O.Or)
+word_operator W.And = Some (2, O.And)
+word_operator _ = None
 
-abbrev pub sign_joins : Sign → Option (ℕ × Op)
-sign_joins S.Equal = Some (4, O.Eq)
-sign_joins S.NotEqual = Some (4, O.Ne)
-sign_joins S.Less = Some (4, O.Lt)
-sign_joins S.LessEqual = Some (4, O.Le)
-sign_joins S.Greater = Some (4, O.Gt)
-sign_joins S.GreaterEqual = Some (4, O.Ge)
-sign_joins S.Plus = Some (5, O.Add)
-sign_joins S.Minus = Some (5, O.Sub)
-sign_joins S.Star = Some (6, O.Mul)
-sign_joins S.Slash = Some (6, O.Div)
-sign_joins S.Percent = Some (6, O.Rem)
-sign_joins _ = None
+abbrev pub sign_operator : Sign → Option (ℕ × Op)
+sign_operator S.Equal = Some (4, O.Eq)
+sign_operator S.NotEqual = Some (4, O.Ne)
+sign_operator S.Less = Some (4, O.Lt)
+sign_operator S.LessEqual = Some (4, O.Le)
+sign_operator S.Greater = Some (4, O.Gt)
+sign_operator S.GreaterEqual = Some (4, O.Ge)
+sign_operator S.Plus = Some (5, O.Add)
+sign_operator S.Minus = Some (5, O.Sub)
+sign_operator S.Star = Some (6, O.Mul)
+sign_operator S.Slash = Some (6, O.Div)
+sign_operator S.Percent = Some (6, O.Rem)
+sign_operator _ = None
 
 -- the level of a token between two operands, and which operator it is: `or` 1, `and` 2, comparisons 4, sums 5, products 6
 -- (3 is the level of `not`)
-abbrev pub joins : Tok → Option (ℕ × Op)
-joins (K.Word w) = word_joins w
-joins (K.Sign s) = sign_joins s
-joins _ = None
+abbrev pub infix_operator : Tok → Option (ℕ × Op)
+infix_operator (K.Word w) = word_operator w
+infix_operator (K.Sign s) = sign_operator s
+infix_operator _ = None

@@ -9,7 +9,7 @@ use Rattle.poets_lex.specs.declared.token.Tok.TheVariants as K
 
 -- ---- brackets
 
--- the `(` that are open behind one more token; a `)` with nothing open counts for nothing
+-- the `(` that are open after one more token; a `)` with nothing open counts for nothing
 abbrev pub open_behind : ℕ → Tok → ℕ
 open_behind n (K.Sign S.LeftParen) = suc n
 open_behind n (K.Sign S.RightParen) = n - 1
@@ -62,7 +62,7 @@ most_open = 200
 abbrev pub most_operators : ℕ
 most_operators = 1000
 
--- more brackets are open behind some of the first tokens, or there are more operators
+-- more brackets are open after some of the first tokens, or there are more operators
 pub data IsTooDeep (tokens : List Tok) : Type 0 where
   Nested : (count : ℕ) → most_open < open_at_end (take count tokens) → IsTooDeep tokens
   Long : most_operators < operators tokens → IsTooDeep tokens

@@ -35,7 +35,7 @@ pub fn statements()
     ensures cut_off { (s : Sentence) → ¬ (IsSentence cut_off s) }
 {}
 
-/// 201 brackets are too deep, also behind a `)`, and 200 are not; 1,001 operators are too deep, and 1,000 are not.
+/// 201 brackets are too deep, also after a `)`, and 200 are not; 1,001 operators are too deep, and 1,000 are not.
 pub fn depths()
     ensures deep { IsTooDeep (nested 201) }
     ensures behind_closing { IsTooDeep (K.Sign S.RightParen ∷ nested 201) }

@@ -1,14 +1,14 @@
 -- The books worked by hand are checked.
-use Rattle.std.proofs.Common.{◌≡◌, ℕ, List, [], ◌∷◌, map, Some, refl, subst, inl, inr}
+use Rattle.std.proofs.Common.{◌≡◌, ℕ, List, [], ◌∷◌, Some, refl, subst, inl, inr}
 use Rattle.std.specs.List.{AllByRecursion, IsDistinct}
 use Rattle.poets_value.specs.declared.value.Name.{Name}
 use Rattle.poets_expr.specs.Env.{same_name}
 use Rattle.poets_syntax.specs.declared.term.Binders.{Binders}
-use Rattle.poets_syntax.specs.Book.{Definitions, Definition, template_in}
-use Rattle.poets_syntax.specs.Checked.{IsChecked}
+use Rattle.poets_syntax.specs.Book.{Definition, template_in}
+use Rattle.poets_syntax.specs.Checked.{IsChecked, names_of_templates_and}
 use Rattle.poets_syntax.specs.Typed.{IsTypedTemplate}
 use Rattle.poets_syntax.proofs.Replacing.{truth}
-use Rattle.poets_guard.specs.Examples.{looping, looping_first, sending, hopeless}
+use Rattle.poets_guard.specs.Examples.{book_of, looping, looping_first, sending, hopeless}
 
 typed_named : (P : Definition → Type 0) (templates : List Definition) → AllByRecursion P templates → (f : Name) (t : Definition) → template_in templates f ≡ Some t → P t
 typed_named P [] h f t i = absurd cc
@@ -17,8 +17,17 @@ typed_named P (u ∷ templates) h f t i = elim (truth (same_name u.name f)) [
   | inr e ↦ typed_named P templates h.1 f t (rw e at i)
 ]
 
-checked_by : (book : Definitions) → AllByRecursion (IsTypedTemplate book []) book.templates → IsDistinct same_name (map (λ t. t.name) book.templates) → IsChecked book
-checked_by book typed distinct = ([], record { typed = λ f t i. typed_named (IsTypedTemplate book []) book.templates typed f t i; distinct = distinct })
+checked_by : (templates : List Definition) → AllByRecursion (IsTypedTemplate (book_of templates) []) templates →
+    IsDistinct same_name (names_of_templates_and (book_of templates) []) → IsChecked (book_of templates)
+checked_by templates typed distinct = (
+  [],
+  record {
+    typed = λ f t i. typed_named (IsTypedTemplate (book_of templates) []) templates typed f t i;
+    distinct = distinct;
+    undeclared = λ k d l. refl;
+    agent_or_kind = λ x ty e. absurd cc;
+  },
+)
 
 abbrev name : ℕ → Name
 name n = record { id = n }
@@ -28,16 +37,16 @@ binders = record { sender = name 2; receiver = name 3; what = name 4; day = name
 
 pub looping_checked : IsChecked (looping (name 0))
 unfolding IsDistinct
-looping_checked = checked_by (looping (name 0)) ((refl, refl), tt) (tt, tt)
+looping_checked = checked_by (looping (name 0)).templates ((refl, refl), tt) (tt, tt)
 
 pub looping_first_checked : IsChecked (looping_first (name 0) (name 1))
 unfolding IsDistinct
-looping_first_checked = checked_by (looping_first (name 0) (name 1)) ((refl, refl), ((refl, refl), tt)) ((refl, tt), (tt, tt))
+looping_first_checked = checked_by (looping_first (name 0) (name 1)).templates ((refl, refl), ((refl, refl), tt)) ((refl, tt), (tt, tt))
 
 pub sending_checked : IsChecked (sending binders (name 0) (name 1))
 unfolding IsDistinct
-sending_checked = checked_by (sending binders (name 0) (name 1)) ((refl, refl), ((refl, refl), tt)) ((refl, tt), (tt, tt))
+sending_checked = checked_by (sending binders (name 0) (name 1)).templates ((refl, refl), ((refl, refl), tt)) ((refl, tt), (tt, tt))
 
 pub hopeless_checked : IsChecked (hopeless binders (name 0) (name 1))
 unfolding IsDistinct
-hopeless_checked = checked_by (hopeless binders (name 0) (name 1)) ((refl, refl), ((refl, refl), tt)) ((refl, tt), (tt, tt))
+hopeless_checked = checked_by (hopeless binders (name 0) (name 1)).templates ((refl, refl), ((refl, refl), tt)) ((refl, tt), (tt, tt))

@@ -19,7 +19,7 @@ use Rattle.poets_guard.specs.declared.graph.Node.{Node}
 use Rattle.poets_guard.specs.Endings.{ends, MayEnd, IsExact}
 use Rattle.poets_guard.specs.Graph.{exposures, held, holding, IsGraph, HasEdge}
 use Rattle.poets_guard.proofs.Places.{same_name-self}
-use Rattle.poets_guard.proofs.Marking.{either_true, ends-sound, ends-complete}
+use Rattle.poets_guard.proofs.Marking.{either_true, or_second, ends-sound, ends-complete}
 
 -- no granted step, or some number of them
 pub MayEnd-nullable : (book : Definitions) (c : Contract) → MayEnd book false c ↔ Nullable book c
@@ -36,10 +36,6 @@ in_first xs ys f h = is_among-append xs ys f ∙ rw h refl
 
 in_second : (xs ys : List Name) (f : Name) → is_among ys f ≡ true → is_among (xs ++ ys) f ≡ true
 in_second xs ys f h = is_among-append xs ys f ∙ or_second (is_among xs f) (is_among ys f) h
-  where
-    or_second : (a b : Bool) → b ≡ true → (a || b) ≡ true
-    or_second true b e = refl
-    or_second false b e = e
 
 in_either : (xs ys : List Name) (f : Name) → is_among (xs ++ ys) f ≡ true → (is_among xs f ≡ true) ⊎ (is_among ys f ≡ true)
 in_either xs ys f h = either_true (is_among xs f) (is_among ys f) (sym (is_among-append xs ys f) ∙ h)

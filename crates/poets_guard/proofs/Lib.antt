@@ -1,6 +1,7 @@
 pub mod Places
+pub mod Learning
 pub mod Marking
-pub mod Graphs
+pub mod Concluding
 pub mod Walking
 pub mod Searching
 pub mod Finding

@@ -1,6 +1,6 @@
 -- Templates by place and by name.
-use Rattle.std.proofs.Common.{◌≡◌, ℕ, zero, suc, ◌+◌, ◌<◌, arith, true, false, List, [], ◌∷◌, ◌++◌, length, map, take, Some, None, refl, sym, ◌∙◌, ap, subst, inl, inr}
-use Rattle.std.specs.Prelude.{slice_index_or, if◌then◌else◌}
+use Rattle.std.proofs.Common.{◌≡◌, ℕ, zero, suc, ◌+◌, ◌<◌, arith, Bool, true, false, cond, List, [], ◌∷◌, ◌++◌, length, map, take, Option, Some, None, refl, sym, ◌∙◌, ap, subst, inl, inr}
+use Rattle.std.specs.Prelude.{slice_index_or, option_map, if◌then◌else◌}
 use Rattle.std.specs.List.{AllByRecursion, IsDistinct}
 use Rattle.std.specs.Ordering.{is_eq}
 use Rattle.std.proofs.lemmas.Bool.{eq-eqb}
@@ -30,63 +30,47 @@ name_cmp-same x y = grind (arith, nat_tests)
 abbrev pub names_of : List Template → List Name
 names_of templates = map (λ t. t.name) (map definition_of templates)
 
-apart_at : (x : Name) (templates : List Template) → AllByRecursion (λ y. same_name x y ≡ false) (names_of templates) →
+apart_at : (x : Name) (templates : List Template) (others : List Name) → AllByRecursion (λ y. same_name x y ≡ false) (names_of templates ++ others) →
     (k : ℕ) (t : Template) → k < length templates → t ≡ slice_index_or templates k t → same_name x t.name ≡ false
-apart_at x [] h k t l e = absurd (omega (arith, l))
-apart_at x (u ∷ templates) h zero t l e = subst (λ v. same_name x v.name ≡ false) (sym e) h.0
-apart_at x (u ∷ templates) h (suc k) t l e = apart_at x templates h.1 k t (omega (arith, l)) e
+apart_at x [] others h k t l e = absurd (omega (arith, l))
+apart_at x (u ∷ templates) others h zero t l e = subst (λ v. same_name x v.name ≡ false) (sym e) h.0
+apart_at x (u ∷ templates) others h (suc k) t l e = apart_at x templates others h.1 k t (omega (arith, l)) e
 
 -- of distinct names each template is the one of its name
-template_in-at : (templates : List Template) → IsDistinct same_name (names_of templates) →
+template_in-at : (templates : List Template) (others : List Name) → IsDistinct same_name (names_of templates ++ others) →
     (k : ℕ) (t : Template) → k < length templates → t ≡ slice_index_or templates k t → template_in (map definition_of templates) t.name ≡ Some (definition_of t)
-template_in-at [] h k t l e = absurd (omega (arith, l))
-template_in-at (u ∷ templates) h zero t l e = rw (ap (λ v. same_name u.name v.name) e ∙ same_name-self u.name) (ap (λ v. Some (definition_of v)) (sym e))
-template_in-at (u ∷ templates) h (suc k) t l e =
-    let apart = apart_at u.name templates (IsDistinct-head same_name u.name (names_of templates) h) k t (omega (arith, l)) e in
-    rw apart (template_in-at templates (IsDistinct-tail same_name u.name (names_of templates) h) k t (omega (arith, l)) e)
+template_in-at [] others h k t l e = absurd (omega (arith, l))
+template_in-at (u ∷ templates) others h zero t l e = rw (ap (λ v. same_name u.name v.name) e ∙ same_name-self u.name) (ap (λ v. Some (definition_of v)) (sym e))
+template_in-at (u ∷ templates) others h (suc k) t l e =
+    let apart = apart_at u.name templates others (IsDistinct-head same_name u.name (names_of templates ++ others) h) k t (omega (arith, l)) e in
+    rw apart (template_in-at templates others (IsDistinct-tail same_name u.name (names_of templates ++ others) h) k t (omega (arith, l)) e)
 
 pub own_template : (book : Book) → IsChecked (definitions_of book) →
     (k : ℕ) (t : Template) → k < length book.templates.items → t ≡ slice_index_or book.templates.items k t →
     template_in (map definition_of book.templates.items) t.name ≡ Some (definition_of t)
-own_template book checked k t l e = template_in-at book.templates.items checked.1.distinct k t l e
-
--- one stands at a place
-pub one_at : (templates : List Template) (k : ℕ) (t u : Template) → k < length templates → t ≡ slice_index_or templates k t → u ≡ slice_index_or templates k u → t ≡ u
-one_at [] k t u l e q = absurd (omega (arith, l))
-one_at (v ∷ templates) zero t u l e q = e ∙ sym q
-one_at (v ∷ templates) (suc k) t u l e q = one_at templates k t u (omega (arith, l)) e q
+own_template book checked k t l e = template_in-at book.templates.items checked.0 checked.1.distinct k t l e
 
 -- a template stands at a place of the list
 pub record StandsAt (templates : List Template) (k : ℕ) (t : Template) : Type 0 where
   pub within : k < length templates
   pub is : t ≡ slice_index_or templates k t
 
--- one that is found by name stands at a place
-pub placed : (templates : List Template) (f : Name) (u : Definition) → template_in (map definition_of templates) f ≡ Some u →
-    (k : ℕ) × (t : Template) × StandsAt templates k t × (definition_of t ≡ u) × (t.name ≡ f)
-placed [] f u i = absurd cc
-placed (t ∷ templates) f u i = elim (truth (same_name t.name f)) [
-  | inl e ↦ (let q : Some (definition_of t) ≡ Some u = rw e at i in (0, t, record { within = omega arith; is = refl }, cc, name_one t.name f e))
-  | inr e ↦ (let p = placed templates f u (rw e at i) in
-      (suc p.0, p.1, record { within = (let l = p.2.within in omega (arith, l)); is = p.2.is }, p.3, p.4))
-]
-
 pub StandsAt-same : (xs ys : List Template) (k : ℕ) (t : Template) → xs ≡ ys → k < length xs → t ≡ slice_index_or xs k t → StandsAt ys k t
 StandsAt-same xs ys k t same l e = record { within = rw (sym same) l; is = e ∙ ap (λ zs. slice_index_or zs k t) same }
 
 -- no earlier one has its name
-none_before_at : (templates : List Template) → IsDistinct same_name (names_of templates) → (k : ℕ) (t : Template) → StandsAt templates k t →
+none_before_at : (templates : List Template) (others : List Name) → IsDistinct same_name (names_of templates ++ others) → (k : ℕ) (t : Template) → StandsAt templates k t →
     template_in (map definition_of (take k templates)) t.name ≡ None
-none_before_at [] h k t s = absurd (let l = s.within in omega (arith, l))
-none_before_at (u ∷ templates) h zero t s = refl
-none_before_at (u ∷ templates) h (suc k) t s =
+none_before_at [] others h k t s = absurd (let l = s.within in omega (arith, l))
+none_before_at (u ∷ templates) others h zero t s = refl
+none_before_at (u ∷ templates) others h (suc k) t s =
     let l : k < length templates = (let m = s.within in omega (arith, m)) in
-    let apart = apart_at u.name templates (IsDistinct-head same_name u.name (names_of templates) h) k t l s.is in
-    rw apart (none_before_at templates (IsDistinct-tail same_name u.name (names_of templates) h) k t (record { within = l; is = s.is }))
+    let apart = apart_at u.name templates others (IsDistinct-head same_name u.name (names_of templates ++ others) h) k t l s.is in
+    rw apart (none_before_at templates others (IsDistinct-tail same_name u.name (names_of templates ++ others) h) k t (record { within = l; is = s.is }))
 
 pub none_before : (book : Book) → IsChecked (definitions_of book) → (k : ℕ) (t : Template) → StandsAt book.templates.items k t →
     template_in (map definition_of (take k book.templates.items)) t.name ≡ None
-none_before book checked k t s = none_before_at book.templates.items checked.1.distinct k t s
+none_before book checked k t s = none_before_at book.templates.items checked.0 checked.1.distinct k t s
 
 -- one template more at the end
 template_in-push : (templates : List Template) (t : Template) (f : Name) → template_in (map definition_of templates) t.name ≡ None →
@@ -106,12 +90,25 @@ template_in-push (u ∷ templates) t f none = elim (truth (same_name u.name t.na
       | inr l ↦ l
     ]
 
+pub taken : (templates : List Template) (k : ℕ) (t : Template) → StandsAt templates k t → take (k + 1) templates ≡ take k templates ++ t ∷ []
+taken templates k t s = take_more templates k t s.within ∙ ap (λ u. take k templates ++ u ∷ []) (sym s.is)
+
 pub template_in-take : (book : Book) → IsChecked (definitions_of book) → (k : ℕ) (t : Template) → StandsAt book.templates.items k t → (f : Name) →
     template_in (map definition_of (take (k + 1) book.templates.items)) f
     ≡ (if same_name t.name f then Some (definition_of t) else template_in (map definition_of (take k book.templates.items)) f)
 template_in-take book checked k t s f =
     let more : take (k + 1) book.templates.items ≡ take k book.templates.items ++ t ∷ [] = taken book.templates.items k t s in
     rw more (template_in-push (take k book.templates.items) t f (none_before book checked k t s))
+
+-- one more entry of a map that has one for each template
+pub template_in-entry : {V W : Type 0} (book : Book) → IsChecked (definitions_of book) → (h : V → W) (g : Definition → W) (k : ℕ) (t : Template) → StandsAt book.templates.items k t →
+    (old new : Name → Option V) (v : V) → h v ≡ g (definition_of t) → ((f : Name) → new f ≡ cond (is_eq (name_cmp t.name f)) (Some v) (old f)) →
+    ((f : Name) → option_map h (old f) ≡ option_map g (template_in (map definition_of (take k book.templates.items)) f)) →
+    (f : Name) → option_map h (new f) ≡ option_map g (template_in (map definition_of (take (k + 1) book.templates.items)) f)
+template_in-entry book checked h g k t s old new v same update before f =
+    ap (option_map h) (update f) ∙ by (same_name t.name f) (name_cmp-same t.name f) ∙ sym (ap (option_map g) (template_in-take book checked k t s f))
   where
-    taken : (templates : List Template) (k : ℕ) (t : Template) → StandsAt templates k t → take (k + 1) templates ≡ take k templates ++ t ∷ []
-    taken templates k t s = take_more templates k t s.within ∙ ap (λ u. take k templates ++ u ∷ []) (sym s.is)
+    by : (b : Bool) → is_eq (name_cmp t.name f) ≡ b → option_map h (cond (is_eq (name_cmp t.name f)) (Some v) (old f))
+        ≡ option_map g (if b then Some (definition_of t) else template_in (map definition_of (take k book.templates.items)) f)
+    by true e = rw e (ap Some same)
+    by false e = rw e (before f)

@@ -14,7 +14,7 @@ use Rattle.poets_syntax.specs.declared.studied.Mark.{Mark}
 use Rattle.poets_syntax.specs.Contract.{Contract}
 use Rattle.poets_syntax.specs.Book.{Definitions, Definition, definition_of, definitions_of, template_in}
 use Rattle.poets_syntax.specs.Checked.{IsChecked}
-use Rattle.poets_syntax.specs.Marks.{Marks, AreRight, Nullable, Hopeful, BodyIs, nullable}
+use Rattle.poets_syntax.specs.Marks.{Marks, AreRight, Nullable, Hopeful, BodySatisfies, nullable}
 use Rattle.poets_syntax.specs.Applied.{BodiesFit}
 use Rattle.poets_syntax.specs.Guarded.{UnguardedEdge, IsPath, IsCycle, IsGuarded}
 use Rattle.poets_syntax.specs.Typed.{is_among}
@@ -32,7 +32,8 @@ use Rattle.poets_guard.specs.Graph.{cut, own, exposures, held, holding, IsGraph,
 use Rattle.poets_guard.specs.Marked.{IsMarked}
 use Rattle.poets_guard.specs.Searched.{HasNodesOf}
 use Rattle.poets_guard.specs.Walks.{PathsEnd, width_at, IsWidthOf, HasWidth}
-use Rattle.poets_guard.proofs.Places.{same_name-self, StandsAt, own_template}
+use Rattle.poets_guard.proofs.Places.{same_name-self, own_template, StandsAt}
+use Rattle.poets_guard.proofs.Marking.{one_template, or_second}
 use Rattle.poets_guard.proofs.Walking.{no_cycle}
 use Rattle.poets_guard.proofs.Exposing.{MayEnd-nullable, MayEnd-hopeful, node_out, edge_in, edge_out, IsPath-alike}
 
@@ -88,12 +89,9 @@ pub record IsFound (book : Definitions) (graph : BTreeMap Name Node) (t : Defini
   pub hopeful : IsTrue m.hopeful ↔ Hopeful book t.body
   pub wide : HasWidth graph t.name m.wide
 
-one_template : {o : Option Definition} {t u : Definition} → o ≡ Some t → o ≡ Some u → t ≡ u
-one_template i j = cc
-
 -- a mark that is exact of the name is exact of the template's body
 of_body : (book : Definitions) (Is Is' : Contract → Type 0) (t : Definition) (b : Bool) (says : Name → Bool) → template_in book.templates t.name ≡ Some t →
-    ((c : Contract) → Is c ↔ Is' c) → ((f : Name) → IsTrue (says f) ↔ BodyIs book Is f) → b ≡ says t.name → IsTrue b ↔ Is' t.body
+    ((c : Contract) → Is c ↔ Is' c) → ((f : Name) → IsTrue (says f) ↔ BodySatisfies book Is f) → b ≡ says t.name → IsTrue b ↔ Is' t.body
 of_body book Is Is' t b says named same exact e = (
   λ h. (let u = (exact t.name).0 (subst IsTrue e h) in (same t.body).0 (subst (λ v. Is v.body) (one_template u.1 named) u.2)),
   λ h. subst IsTrue (sym e) ((exact t.name).1 (t, named, (same t.body).1 h)),
@@ -231,10 +229,6 @@ HasNodesOf-graph says graph templates is f h = among templates f (by (get name_c
     by None p e k = absurd cc
     by (Some n) None e k = absurd cc
     by (Some n) (Some t) e k = refl
-
-    or_second : (a b : Bool) → b ≡ true → (a || b) ≡ true
-    or_second true b k = refl
-    or_second false b k = k
 
     among : (templates : List Template) (f : Name) → IsSome (template_in (map definition_of templates) f) → is_among (map (λ (t : Template). t.name) templates) f ≡ true
     among [] f k = absurd cc

@@ -1,5 +1,5 @@
 -- What a walk over the graph gives: widths, or a cycle.
-use Rattle.std.proofs.Common.{◌≡◌, ℕ, zero, suc, ◌+◌, ◌≤◌, ◌<◌, arith, Bool, true, false, not, cond, ◌||◌, List, [], ◌∷◌, ◌++◌, length, take, Option, Some, None, refl, sym, ◌∙◌, ap, subst, ◌⊎◌, inl, inr}
+use Rattle.std.proofs.Common.{◌≡◌, ℕ, zero, suc, ◌+◌, ◌≤◌, ◌<◌, arith, Bool, true, false, not, cond, List, [], ◌∷◌, ◌++◌, length, take, Option, Some, None, refl, sym, ◌∙◌, ap, subst, ◌⊎◌, inl, inr}
 use Rattle.std.specs.Prelude.{slice_index_or, sum_by, IsSome}
 use Rattle.std.specs.Ordering.{is_eq}
 use Rattle.std.specs.Cmp.{eq_by_cmp_equiv}
@@ -22,7 +22,7 @@ use Rattle.poets_guard.specs.declared.graph.Node.{Node}
 use Rattle.poets_guard.specs.Graph.{cut, HasEdge}
 use Rattle.poets_guard.specs.Walks.{HasCycle, PathsEnd, width_at, IsWidthOf, HasWidth, HaveWidths, AllReach, HaveSameNames}
 use Rattle.poets_guard.proofs.Places.{name_cmp-same, same_name-self}
-use Rattle.poets_guard.proofs.Marking.{either_true, said}
+use Rattle.poets_guard.proofs.Marking.{either_true, or_second, said}
 
 -- ---- lists of names
 
@@ -30,10 +30,6 @@ pub among_at : (names : List Name) (k : ℕ) (d : Name) → k < length names →
 among_at [] k d l = absurd (omega (arith, l))
 among_at (x ∷ names) zero d l = rw (same_name-self x) refl
 among_at (x ∷ names) (suc k) d l = or_second (same_name (slice_index_or names k d) x) (is_among names (slice_index_or names k d)) (among_at names k d (omega (arith, l)))
-  where
-    or_second : (a b : Bool) → b ≡ true → (a || b) ≡ true
-    or_second true b e = refl
-    or_second false b e = e
 
 among_push : (names : List Name) (x y : Name) → is_among (names ++ x ∷ []) y ≡ true → (is_among names y ≡ true) ⊎ (y ≡ x)
 among_push [] x y h = elim (either_true (same_name y x) false h) [ inl k ↦ inr (name_one y x k) | inr k ↦ absurd cc ]
@@ -142,9 +138,6 @@ module _ (graph : BTreeMap Name Node) where
       by false k l = have g m (sym (rw (k ∙ l) at (more g)) ∙ e)
 
 -- ---- names on the way
-
-pub HaveSameNames-self : (names : BTreeSet Name) → HaveSameNames names names
-HaveSameNames-self names = record { same = λ f. refl; as_many = refl }
 
 pub HaveSameNames-trans : (xs ys zs : BTreeSet Name) → HaveSameNames xs ys → HaveSameNames ys zs → HaveSameNames xs zs
 HaveSameNames-trans xs ys zs h k = record { same = λ f. k.same f ∙ h.same f; as_many = k.as_many ∙ h.as_many }

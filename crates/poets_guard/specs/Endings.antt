@@ -4,9 +4,9 @@ use Rattle.poets_value.specs.declared.value.Name.{Name}
 use Rattle.poets_syntax.specs.Contract.{Contract, Success, Failure, Transmit, Plus, Par, Seq, App}
 use Rattle.poets_syntax.specs.Book.{Definitions}
 use Rattle.poets_syntax.specs.May.{May}
-use Rattle.poets_syntax.specs.Marks.{BodyIs}
+use Rattle.poets_syntax.specs.Marks.{BodySatisfies}
 
--- whether a contract may end, where `says` tells it of templates; where steps are granted, behind transmits too
+-- whether a contract may end, where `says` tells it of templates; where steps are granted, after transmits too
 abbrev pub ends : (granted : Bool) → (says : Name → Bool) → Contract → Bool
 ends granted says Success = true
 ends granted says Failure = false
@@ -22,8 +22,8 @@ MayEnd book granted c = (n : ℕ) × May book [] c [] n × (granted ≡ false �
 
 -- each template that is said to may end
 abbrev pub IsSound : Definitions → (granted : Bool) → (says : Name → Bool) → Type 0
-IsSound book granted says = (f : Name) → says f ≡ true → BodyIs book (MayEnd book granted) f
+IsSound book granted says = (f : Name) → says f ≡ true → BodySatisfies book (MayEnd book granted) f
 
 -- exactly the templates that may end are said to
 abbrev pub IsExact : Definitions → (granted : Bool) → (says : Name → Bool) → Type 0
-IsExact book granted says = (f : Name) → IsTrue (says f) ↔ BodyIs book (MayEnd book granted) f
+IsExact book granted says = (f : Name) → IsTrue (says f) ↔ BodySatisfies book (MayEnd book granted) f

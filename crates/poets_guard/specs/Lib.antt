@@ -1,5 +1,6 @@
 pub mod Endings
-pub mod Sweeps
+pub mod Rules
+pub mod Facts
 pub mod Graph
 pub mod Walks
 pub mod Marked

@@ -1,54 +1,168 @@
 //! Templates that may end.
-ghost use Rattle.std.specs.Prelude.{◌≡◌, ◌<◌, length, IfOk, OnOk, Ok, true, false};
+ghost use Rattle.std.specs.Prelude.{◌≡◌, ℕ, ◌+◌, ◌++◌, [], ◌∷◌, ◌||◌, length, IfOk, OnOk, if◌then◌else◌};
+ghost use Rattle.std.specs.BTreeMap.{get};
 ghost use Rattle.std.specs.BTreeSet.{contains};
 ghost use Rattle.poets_value.specs.Names.{name_cmp};
+ghost use Rattle.poets_expr.specs.Env.{same_name};
 ghost use Rattle.poets_syntax.specs.Contract.{contract_of};
 ghost use Rattle.poets_syntax.specs.Book.{definitions_of};
 ghost use Rattle.poets_syntax.specs.Checked.{IsChecked};
-ghost use Rattle.poets_guard.specs.Endings.{ends, IsSound, IsExact};
-ghost use Rattle.poets_guard.specs.Sweeps.{IsClosedTo, unsaid};
+ghost use Rattle.poets_guard.specs.Endings.{IsExact};
+ghost use Rattle.poets_guard.specs.Rules.{is_known};
+ghost use Rattle.poets_guard.specs.Facts.{says, rule_from, AreAdded, AreFacts, IsBuilt};
 
-use poets_syntax::{Book, Term};
+use crate::rules::{GIVEN, Rule, consequences};
+use poets_syntax::{Book, Template, Term};
 use poets_value::{Memory, Name};
 use std::alloc::Global;
-use std::collections::BTreeSet;
+use std::collections::{BTreeMap, BTreeSet};
 
-// Whether a contract may end, where `ending` has the templates that may. Where steps are granted, it may pass transmits.
-fn may_end(granted: bool, ending: &BTreeSet<Name>, term: &Term) -> bool
-    ensures { result ≡ ends granted (contains name_cmp ending.now) (contract_of term.now) }
-{
-    match term {
-        Term::Success => true,
-        Term::Failure => false,
-        Term::Transmit { then, .. } => granted && may_end(granted, ending, then),
-        Term::Plus(a, b) => may_end(granted, ending, a) || may_end(granted, ending, b),
-        Term::Par(a, b) | Term::Seq(a, b) => {
-            may_end(granted, ending, a) && may_end(granted, ending, b)
+/// The facts of templates, by their names: that their bodies may end.
+type Facts = BTreeMap<Name, usize>;
+
+// Rules of so many facts.
+#[derive(Drop)]
+struct Rules {
+    count: usize,
+    rules: Vec<Rule>,
+}
+
+impl Rules {
+    // A fact of its own.
+    fn fresh(&mut self) -> Result<usize, Memory>
+        ensures fact { IfOk result (λ fact. fact ≡ self.old.count) }
+        ensures count { OnOk result (self.new.count ≡ self.old.count + 1) }
+        ensures rules { self.new.rules ≡ self.old.rules }
+    {
+        let fact = self.count;
+        let Some(next) = fact.checked_add(1) else {
+            return Err(Memory);
+        };
+        self.count = next;
+        Ok(fact)
+    }
+
+    // Adds the rule by which a goal follows from two facts, if there is a second.
+    fn add(&mut self, first: usize, second: Option<usize>, goal: usize) -> Result<(), Memory>
+        ensures count { self.new.count ≡ self.old.count }
+        ensures rules { OnOk result (self.new.rules.items ≡ self.old.rules.items ++ rule_from first second goal) }
+    {
+        let Some(second) = second else {
+            return Ok(());
+        };
+        self.rules.push(Rule {
+            first,
+            second,
+            conclusion: goal,
+        })?;
+        Ok(())
+    }
+
+    // Adds the rules by which a goal follows from a given fact where a contract may end.
+    // Where steps are granted, it may pass transmits.
+    fn conclude(
+        &mut self,
+        granted: bool,
+        facts: &Facts,
+        term: &Term,
+        given: usize,
+        goal: usize,
+    ) -> Result<(), Memory>
+        ensures { OnOk result (AreAdded granted (get name_cmp facts.now) (contract_of term.now) given goal self.old self.new) }
+    {
+        match term {
+            Term::Success => self.add(given, Some(GIVEN), goal),
+            Term::Failure => Ok(()),
+            Term::Transmit { then, .. } => {
+                if granted {
+                    return self.conclude(granted, facts, then, given, goal);
+                }
+                Ok(())
+            }
+            Term::Plus(a, b) => {
+                self.conclude(granted, facts, a, given, goal)?;
+                self.conclude(granted, facts, b, given, goal)
+            }
+            Term::Par(a, b) | Term::Seq(a, b) => {
+                let first = self.fresh()?;
+                self.conclude(granted, facts, a, given, first)?;
+                self.conclude(granted, facts, b, first, goal)
+            }
+            Term::App { name, .. } => self.add(given, facts.get(name).copied(), goal),
         }
-        Term::App { name, .. } => ending.contains(name),
     }
 }
 
-// Adds each template whose body may end by what is known so far. Says whether there was one.
-fn sweep(granted: bool, book: &Book, ending: &mut BTreeSet<Name>) -> Result<bool, Memory>
-    requires checked { IsChecked (definitions_of book.now) }
-    requires sound { IsSound (definitions_of book.now) granted (contains name_cmp ending.old) }
-    ensures sound { OnOk result (IsSound (definitions_of book.now) granted (contains name_cmp ending.new)) }
-    ensures closed { result ≡ Ok false → IsClosedTo (length book.now.templates.items) granted (contains name_cmp ending.new) book.now.templates.items }
-    ensures fewer { result ≡ Ok true → unsaid (contains name_cmp ending.new) book.now.templates.items < unsaid (contains name_cmp ending.old) book.now.templates.items }
-{
-    let mut grown = false;
-    for template in book.templates.as_slice() {
-        if !ending.contains(&template.name) && may_end(granted, ending, &template.body) {
-            ending.insert(template.name)?;
-            grown = true;
+impl Rules {
+    // Adds the rules by which the fact of a template follows.
+    fn conclude_template(
+        &mut self,
+        granted: bool,
+        facts: &Facts,
+        template: &Template,
+    ) -> Result<(), Memory>
+        ensures { OnOk result ((goal : ℕ) → get name_cmp facts.now template.now.name ≡ Some goal →
+            AreAdded granted (get name_cmp facts.now) (contract_of template.now.body) 0 goal self.old self.new) }
+    {
+        if let Some(goal) = facts.get(&template.name) {
+            return self.conclude(granted, facts, &template.body, GIVEN, *goal);
         }
+        Ok(())
     }
-    Ok(grown)
+}
+
+// A fact for each template, after the one that is given.
+fn facts_of(alloc: Global, book: &Book) -> Result<Facts, Memory>
+    requires { IsChecked (definitions_of book.now) }
+    ensures { IfOk result (λ facts. AreFacts (length book.now.templates.items) book.now.templates.items (get name_cmp facts)) }
+{
+    let mut facts = BTreeMap::new(alloc);
+    for (place, template) in book.templates.as_slice().iter().enumerate() {
+        facts.insert(template.name, place + 1)?;
+    }
+    Ok(facts)
+}
+
+// The rules by which the facts of the templates follow.
+fn rules_of_book(alloc: Global, granted: bool, book: &Book, facts: &Facts) -> Result<Rules, Memory>
+    requires checked { IsChecked (definitions_of book.now) }
+    requires facts { AreFacts (length book.now.templates.items) book.now.templates.items (get name_cmp facts.now) }
+    ensures { IfOk result (IsBuilt (definitions_of book.now) granted book.now.templates.items (get name_cmp facts.now) (length book.now.templates.items)) }
+{
+    let templates = book.templates.as_slice();
+    let mut rules = Rules {
+        count: templates.len() + 1,
+        rules: Vec::new(alloc),
+    };
+    for template in templates {
+        rules.conclude_template(granted, facts, template)?;
+    }
+    Ok(rules)
+}
+
+// Whether the fact of a template is known.
+fn may_end(facts: &Facts, known: &[bool], name: &Name) -> bool
+    ensures { result ≡ says (is_known known.now) (get name_cmp facts.now) name.now }
+{
+    match facts.get(name) {
+        Some(fact) => known.get(*fact).copied().unwrap_or(false),
+        None => false,
+    }
+}
+
+// Adds a name where the test holds.
+fn insert_if(test: bool, ending: &mut BTreeSet<Name>, name: Name) -> Result<(), Memory>
+    ensures { OnOk result ((f : Name) → contains name_cmp ending.new f ≡ (if same_name name f then test || contains name_cmp ending.old f else contains name_cmp ending.old f)) }
+{
+    if !test {
+        return Ok(());
+    }
+    ending.insert(name)?;
+    Ok(())
 }
 
 /// The names of the templates whose bodies may end: by no step, or by granted steps.
-/// It takes at most one sweep more than there are templates.
+/// It looks at each part of a body a fixed number of times, and so is linear in the size of the book but for the look-ups of names.
 pub(crate) fn templates_that_end(
     alloc: Global,
     granted: bool,
@@ -57,7 +171,13 @@ pub(crate) fn templates_that_end(
     requires { IsChecked (definitions_of book.now) }
     ensures { IfOk result (λ ending. IsExact (definitions_of book.now) granted (contains name_cmp ending)) }
 {
+    let facts = facts_of(alloc, book)?;
+    let rules = rules_of_book(alloc, granted, book, &facts)?;
+    let known = consequences(alloc, rules.count, rules.rules)?;
     let mut ending = BTreeSet::new(alloc);
-    while sweep(granted, book, &mut ending)? {}
+    for template in book.templates.as_slice() {
+        let test = may_end(&facts, &known, &template.name);
+        insert_if(test, &mut ending, template.name)?;
+    }
     Ok(ending)
 }

@@ -5,6 +5,7 @@ mod cycles;
 mod endings;
 mod graph;
 mod guard;
+mod rules;
 #[cfg(test)]
 mod tests;
 mod widths;

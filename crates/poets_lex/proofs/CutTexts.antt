@@ -102,7 +102,7 @@ pub cut_spaced : {table : Table} {rest : List ℕ} {kinds : List Tok} (sign : Si
 cut_spaced {rest = rest} sign h =
     cut_token (K.Sign sign) (sign_text sign) refl (λ other begins. before_space (sign_text other) (sign_text sign) begins.0 rest begins.1 (spaceless other)) refl (cut_space h)
 
--- the first byte of a sign, with any text behind it
+-- the first byte of a sign, with any text after it
 first_byte : (sign : Sign) (rest : List ℕ) → get_or (sign_text sign ++ rest) 0 0 ≡ get_or (sign_text sign) 0 0
 first_byte S.DoubleSemicolon rest = refl
 first_byte sign rest = refl

@@ -52,7 +52,7 @@ get-map f [] i x h = absurd cc
 get-map f (y ∷ xs) zero x h = let e : y ≡ x = cc in ap (λ v. Some (f v)) e
 get-map f (y ∷ xs) (suc i) x h = get-map f xs i x h
 
--- the text behind the last one of a table
+-- the text after the last one of a table
 pub get-push : {A : Type 0} (xs : List A) (y x : A) (i : ℕ) → slice_get (xs ++ y ∷ []) i ≡ Some x → (slice_get xs i ≡ Some x) ⊎ ((i ≡ length xs) × (x ≡ y))
 get-push [] y x zero h = inr (refl, cc)
 get-push [] y x (suc i) h = absurd cc
@@ -63,14 +63,14 @@ pub place-before : {A : Type 0} (p : A → Bool) (xs ys : List A) → position_o
 place-before p [] ys h = absurd (omega arith)
 place-before p (x ∷ xs) ys h = grind (arith, common_steps, nat_tests, place-before p xs ys)
 
--- a text that stands among the first ones stands there with more behind them
+-- a text that stands among the first ones stands there with more after them
 pub position-before : {A : Type 0} (p : A → Bool) (xs ys : List A) (i : ℕ) → position p xs ≡ Some i → position p (xs ++ ys) ≡ Some i
 position-before p xs ys i h =
     let low : position_or_len p xs < length xs = grind (arith, common_steps, nat_tests, h) in
     let at : position_or_len p xs ≡ i = grind (arith, common_steps, nat_tests, h) in
     rw (place-before p xs ys low, length-append) (grind (arith, common_steps, nat_tests))
 
--- a table with a new name behind it
+-- a table with a new name after it
 pub IsTable-push : (table : Table) (text : List ℕ) → IsTable table → IsName text → place_of text table ≡ None → IsTable (table ++ text ∷ [])
 IsTable-push table text all name new x place at =
     ⊎_elim
@@ -82,7 +82,7 @@ IsTable-push table text all name new x place at =
     rw (e, last.0) (name, here))
     (get-push table text x place at)
 
--- the texts of the keys behind which a new one was put
+-- the texts of the keys after which a new one was put
 pub keys-added : (keys : List (String Global)) (key : String Global) (text : List ℕ) → string_bytes key ≡ text → place_of text (texts_of keys) ≡ None → texts_of (if list_any (string_eq key) keys then keys else keys ++ key ∷ []) ≡ texts_of keys ++ text ∷ []
 keys-added keys key text e new =
     let no : list_any (bytes_eq (string_bytes key)) (texts_of keys) ≡ false = rw e (unknown (bytes_eq text) (texts_of keys) new) in

@@ -35,7 +35,7 @@ Extends-same table = ([], sym (append-nil table))
 pub Extends-then : (a b c : Table) → Extends a b → Extends b c → Extends a c
 Extends-then a b c h k = (h.0 ++ k.0, k.1 ∙ ap (λ t. t ++ k.0) h.1 ∙ append_assoc a h.0 k.0)
 
--- a text that is put in a table stands behind the others, if it is new
+-- a text that is put in a table stands after the others, if it is new
 Extends-with : (text : List ℕ) (table : Table) (b : Bool) → Extends table (cond b table (table ++ text ∷ []))
 Extends-with text table true = Extends-same table
 Extends-with text table false = (text ∷ [], refl)

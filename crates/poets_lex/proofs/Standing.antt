@@ -1,4 +1,4 @@
--- The tokens of a reading stand one behind the other, each where its bytes are.
+-- The tokens of a reading stand one after the other, each where its bytes are.
 use Rattle.std.proofs.Common.{◌≡◌, ℕ, ◌+◌, ◌-◌, ◌<◌, ◌≤◌, List, [], ◌∷◌, ◌++◌, length, take, drop, slice_range, refl, sym, ap, ◌∙◌, arith, append_assoc, length-append}
 use Rattle.std.specs.Str.{bytes_eq}
 use Rattle.std.proofs.lemmas.List.{take_at, drop_at}

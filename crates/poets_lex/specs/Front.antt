@@ -21,7 +21,7 @@ pub record FirstToken (before : Table) (place : ℕ) (text : List ℕ) (token : 
   pub cut : text ≡ bytes ++ rest
   pub lexeme : IsToken before place bytes rest token after
 
--- the piece of so many bytes begins the text, which begins at the place; its token, if it is one, stands behind the others
+-- the piece of so many bytes begins the text, which begins at the place; its token, if it is one, stands after the others
 pub record TakesPiece (before : Table) (place : ℕ) (text : List ℕ) (old : List Token) (size : ℕ) (new : List Token) (after : Table) : Type 0 where
   pub bytes : List ℕ
   pub rest : List ℕ

@@ -24,7 +24,7 @@ OneFault =
     (before : Table) (text : List ℕ) (a b : LexFault)
     → FirstFault before text a → FirstFault before text b → a ≡ b
 
--- the tokens stand in the text one behind the other, from the place on, each where its bytes are
+-- the tokens stand in the text one after the other, from the place on, each where its bytes are
 abbrev pub Stand : Table → List ℕ → ℕ → List Token → Type 0
 Stand table text place [] = Unit {0}
 Stand table text place (token ∷ tokens) =

@@ -41,12 +41,12 @@ IsLongest (K.Number _) rest = BeginsWithout is_ascii_digit rest
 IsLongest (K.Day _) rest = Unit {0}
 IsLongest (K.Sign sign) rest = IsLongestSign sign (sign_text sign ++ rest)
 
--- the table behind a token
+-- the table after a token
 abbrev pub table_with : Tok → List ℕ → Table → Table
 table_with (K.Name _) bytes before = with_text bytes before
 table_with _ bytes before = before
 
--- the bytes, which begin at the place and have this rest behind them, are the token
+-- the bytes, which begin at the place and have this rest after them, are the token
 pub record IsToken (before : Table) (place : ℕ) (bytes rest : List ℕ) (token : Token) (after : Table) : Type 0 where
   pub text : IsTextOf after token.what bytes
   pub longest : IsLongest token.what rest

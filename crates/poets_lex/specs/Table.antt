@@ -35,7 +35,7 @@ with_text text table = if list_any (bytes_eq text) table then table else table +
 abbrev pub IsTable : Table → Type 0
 IsTable table = (text : List ℕ) (place : ℕ) → slice_get table place ≡ Some text → IsName text × (place_of text table ≡ Some place)
 
--- the new table has more texts behind those of the old one
+-- the new table has more texts after those of the old one
 abbrev pub Extends : Table → Table → Type 0
 Extends old new = (more : Table) × (new ≡ old ++ more)
 

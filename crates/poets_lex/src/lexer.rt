@@ -10,7 +10,7 @@ use std::alloc::Global;
 
 /// The tokens of the text, whose names are numbered on from those of the table.
 ///
-/// After a fault the names that were read before it may stand in the table, behind those that were there.
+/// After a fault the names that were read before it may stand in the table, after those that were there.
 pub fn tokens(alloc: Global, text: &[u8], names: &mut Names) -> Result<List<Token>, LexFault>
     requires { length text.now + length names.old < 2 ^ 32 }
     ensures ok { IfOk result (λ tokens. Lexes names.old text.now 0 tokens.items names.new) }

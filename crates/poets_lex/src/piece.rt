@@ -9,7 +9,7 @@ use crate::lexeme::first_token;
 use crate::{LexFault, Names, Token};
 use poets_value::List;
 
-// Takes the piece that begins the text, which begins at the place. Its token, if it is one, goes behind the others.
+// Takes the piece that begins the text, which begins at the place. Its token, if it is one, goes after the others.
 // Gives the number of its bytes.
 pub(crate) fn take_piece(
     text: &[u8],

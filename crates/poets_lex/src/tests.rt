@@ -153,7 +153,7 @@ fn names_go_up_to_their_limit(rt: HostRuntime) -> Result<(), LexFault> {
     Ok(())
 }
 
-// The text is these tokens, each with its first place and the one behind it.
+// The text is these tokens, each with its first place and the one after it.
 fn is_read(
     rt: &impl Abort,
     alloc: Global,

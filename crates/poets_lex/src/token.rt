@@ -120,7 +120,7 @@ pub enum Tok {
     Sign(Sign),
 }
 
-/// A token, and the place of its first byte and of the byte behind it.
+/// A token, and the place of its first byte and of the byte after it.
 #[derive(Debug, Clone, Copy, PartialEq, Eq)]
 pub struct Token {
     pub what: Tok,

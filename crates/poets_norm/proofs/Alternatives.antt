@@ -1,9 +1,10 @@
 -- Choices of distinct alternatives, grouped to the left.
-use Rattle.std.proofs.Common.{◌≡◌, false, not, ◌||◌, List, [], ◌∷◌, ◌++◌, filter, fold, refl, sym, ◌∙◌, ap, subst, inl, inr, append-nil, append_assoc, if◌then◌else◌}
+use Rattle.std.proofs.Common.{◌≡◌, true, false, not, List, [], ◌∷◌, ◌++◌, filter, fold, refl, sym, ◌∙◌, ap, subst, inl, inr, append-nil, append_assoc, if◌then◌else◌}
 use Rattle.std.specs.List.{All}
 use Rattle.std.proofs.lemmas.List.Elements.{All-nil, All-cons, All-head, All-tail, All-append, All-push, filter-append}
 use Rattle.std.proofs.lemmas.List.Folds.{list_any-append}
 use Rattle.std.proofs.lemmas.List.Sums.{fold-append}
+use Rattle.std.proofs.lemmas.Map.Views.{any-filter_same}
 use Rattle.poets_syntax.specs.Contract.{Contract, Failure, Plus}
 use Rattle.poets_syntax.specs.Same.{same_contract}
 use Rattle.poets_syntax.specs.Normal.{alternatives, distinct, choice, plus}
@@ -50,13 +51,10 @@ distinct-last (c ∷ xs) d =
 
 -- they are the same contracts
 holds_equal-filter : (c d : Contract) → same_contract c d ≡ false → (xs : List Contract) → holds_equal (filter (λ x. not (same_contract c x)) xs) d ≡ holds_equal xs d
-holds_equal-filter c d h [] = refl
-holds_equal-filter c d h (x ∷ xs) =
-    let rest = holds_equal-filter c d h xs in
-    elim (truth (same_contract c x)) [
-      | inl e ↦ rw (e, subst (λ y. same_contract y d ≡ false) (contract_one c x e) h) rest
-      | inr e ↦ rw e (ap (λ b. same_contract x d || b) rest)
-    ]
+holds_equal-filter c d h xs = any-filter_same (λ x. same_contract x d) (λ x. not (same_contract c x)) true (λ x k. elim (truth (same_contract c x)) [
+  | inl e ↦ (let l : true ≡ false = sym k ∙ subst (λ y. same_contract y d ≡ false) (contract_one c x e) h in absurd cc)
+  | inr e ↦ ap not e
+]) xs
 
 holds_equal-distinct : (xs : List Contract) (d : Contract) → holds_equal (distinct xs) d ≡ holds_equal xs d
 holds_equal-distinct [] d = refl

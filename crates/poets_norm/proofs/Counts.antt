@@ -1,17 +1,15 @@
--- Normal forms apply templates to as many arguments as their contracts do.
-use Rattle.std.proofs.Common.{◌≡◌, suc, List, [], ◌∷◌, length, refl, sym, ◌∙◌, ap, inl, inr}
-use Rattle.poets_expr.specs.Env.{Declared}
-use Rattle.poets_expr.specs.Expression.{Expression}
-use Rattle.poets_syntax.specs.declared.term.Binders.{Binders}
-use Rattle.poets_syntax.specs.declared.term.Param.{Param}
+-- Normal forms, and contracts whose names were replaced, apply templates to as many arguments as the contracts do.
+use Rattle.std.proofs.Common.{sym, ◌∙◌}
+use Rattle.poets_expr.specs.Subst.{Givens}
 use Rattle.poets_syntax.specs.Contract.{Contract, Success, Failure, Transmit, Plus, Par, Seq, App}
 use Rattle.poets_syntax.specs.Book.{Definitions}
 use Rattle.poets_syntax.specs.Marks.{Marks}
-use Rattle.poets_syntax.specs.Normal.{send, folded, params_in, normal}
-use Rattle.poets_syntax.proofs.Replacing.{truth}
+use Rattle.poets_syntax.specs.Normal.{params_in, normal}
+use Rattle.poets_syntax.specs.Replace.{without, replace}
+use Rattle.poets_syntax.proofs.Replacing.{args_count}
 pub use Rattle.poets_syntax.proofs.Exposures.{length-folded}
 use Rattle.poets_norm.specs.Laws.{CountsFit}
-use Rattle.poets_norm.proofs.Parts.{IsOfParts, kept_by_plus, kept_by_par, kept_by_seq}
+use Rattle.poets_norm.proofs.Parts.{IsOfParts, kept_by_normal}
 
 module _ (book : Definitions) where
   pub CountsFit-of_parts : IsOfParts (CountsFit book)
@@ -25,22 +23,19 @@ module _ (book : Definitions) where
     seq_parts = λ a b h. h;
   }
 
-  CountsFit-send : (b : Binders) (p : Expression) (c : Contract) → CountsFit book c → CountsFit book (send b p c)
-  CountsFit-send b p Failure h = tt
-  CountsFit-send b p _ h = h
+  pub CountsFit-replace : (given : Givens) (c : Contract) → CountsFit book c → CountsFit book (replace given c)
+  CountsFit-replace given Success h = tt
+  CountsFit-replace given Failure h = tt
+  CountsFit-replace given (Transmit b p c) h = CountsFit-replace (without b given) c h
+  CountsFit-replace given (Plus a b) h = (CountsFit-replace given a h.0, CountsFit-replace given b h.1)
+  CountsFit-replace given (Par a b) h = (CountsFit-replace given a h.0, CountsFit-replace given b h.1)
+  CountsFit-replace given (Seq a b) h = (CountsFit-replace given a h.0, CountsFit-replace given b h.1)
+  CountsFit-replace given (App f args) h = λ t q. h t q ∙ sym (args_count given args)
 
-module _ (book : Definitions) (marks : Marks) where
-  pub CountsFit-normal : (c : Contract) → CountsFit book c → CountsFit book (normal book marks c)
-  CountsFit-normal Success h = tt
-  CountsFit-normal Failure h = tt
-  CountsFit-normal (Transmit b p c) h = CountsFit-send book b p (normal book marks c) (CountsFit-normal c h)
-  CountsFit-normal (Plus a b) h = kept_by_plus (CountsFit book) (CountsFit-of_parts book)
-      (normal book marks a) (normal book marks b) (CountsFit-normal a h.0) (CountsFit-normal b h.1)
-  CountsFit-normal (Par a b) h = kept_by_par (CountsFit book) (CountsFit-of_parts book)
-      (normal book marks a) (normal book marks b) (CountsFit-normal a h.0) (CountsFit-normal b h.1)
-  CountsFit-normal (Seq a b) h = kept_by_seq (CountsFit book) (CountsFit-of_parts book)
-      (normal book marks a) (normal book marks b) (CountsFit-normal a h.0) (CountsFit-normal b h.1)
-  CountsFit-normal (App f args) h = elim (truth (marks.hopeful f)) [
-    | inl e ↦ rw e (λ t q. h t q ∙ sym (length-folded book.declared (params_in book f) args))
-    | inr e ↦ rw e tt
-  ]
+pub CountsFit-normal : (book : Definitions) (marks : Marks) (c : Contract) → CountsFit book c → CountsFit book (normal book marks c)
+CountsFit-normal book marks = kept_by_normal book marks (CountsFit book) (record {
+  of_parts = CountsFit-of_parts book;
+  below = λ b p c h. h;
+  before = λ b p c d h k. k;
+  folded = λ f args h t q. h t q ∙ sym (length-folded book.declared (params_in book f) args);
+})

@@ -1,7 +1,6 @@
 -- A normal form is `Failure`, or each part of it is hopeful.
-use Rattle.std.proofs.Common.{◌≡◌, ℕ, suc, ◌+◌, true, List, [], ◌∷◌, ◌++◌, map, refl, sym, ◌∙◌, subst, inl, inr}
-use Rattle.std.specs.List.{All}
-use Rattle.std.proofs.lemmas.List.Elements.{All-nil, All-cons, All-append}
+use Rattle.std.proofs.Common.{◌≡◌, ℕ, suc, ◌+◌, true, List, [], ◌++◌, map, refl, sym, ◌∙◌, subst, inl, inr}
+use Rattle.std.proofs.lemmas.List.Elements.{All-append}
 use Rattle.poets_value.specs.declared.value.Name.{Name}
 use Rattle.poets_expr.specs.Env.{Env}
 use Rattle.poets_expr.specs.Expression.{Expression}
@@ -12,7 +11,7 @@ use Rattle.poets_syntax.specs.Book.{Definitions, parameter_env, granted}
 use Rattle.poets_syntax.specs.Between.{Between}
 use Rattle.poets_syntax.specs.May.{May}
 use Rattle.poets_syntax.specs.Marks.{Marks, AreRight, Hopeful}
-use Rattle.poets_syntax.specs.Normal.{alternatives, distinct, plus, par, seq, send, folded, params_in, normal}
+use Rattle.poets_syntax.specs.Normal.{alternatives, distinct, plus, send, folded, params_in, normal}
 use Rattle.poets_syntax.proofs.Granting.{May-anywhere}
 use Rattle.poets_syntax.proofs.Replacing.{truth}
 use Rattle.poets_norm.specs.Laws.{CountsFit}
@@ -50,40 +49,13 @@ module _ (book : Definitions) where
       (m.0 + k.0, May.ThenGranted refl m.1 k.1)
   hopeful_by_parts (App f args) h env = (h.0, May-anywhere h.1 refl env)
 
-  only : (c : Contract) → IsHopefulThroughout book c → All (IsHopefulThroughout book) (c ∷ [])
-  only c h = All-cons (IsHopefulThroughout book) c [] h (All-nil (IsHopefulThroughout book))
-
-  All-alternatives : (c : Contract) → IsHopefulThroughout book c → All (IsHopefulThroughout book) (alternatives c)
-  All-alternatives Success h = only Success h
-  All-alternatives Failure h = absurd h
-  All-alternatives (Transmit b p c) h = only (Transmit b p c) h
-  All-alternatives (Plus a b) h =
-      All-append (IsHopefulThroughout book) (alternatives a) (alternatives b) (All-alternatives a h.0) (All-alternatives b h.1)
-  All-alternatives (Par a b) h = only (Par a b) h
-  All-alternatives (Seq a b) h = only (Seq a b) h
-  All-alternatives (App f args) h = only (App f args) h
-
   hopeful-plus : (a b : Contract) → FailureOr (IsHopefulThroughout book) a → FailureOr (IsHopefulThroughout book) b →
       FailureOr (IsHopefulThroughout book) (plus a b)
   hopeful-plus a b h k =
-      let each = FailureOr-alternatives (IsHopefulThroughout book) (IsHopefulThroughout book) All-alternatives in
+      let each = FailureOr-alternatives (IsHopefulThroughout book) (λ e. e) (λ x y i. i) in
       All-choice (IsHopefulThroughout book) (λ x y i j. (i, j)) (distinct (alternatives a ++ alternatives b))
       (All-distinct (IsHopefulThroughout book) (alternatives a ++ alternatives b)
       (All-append (IsHopefulThroughout book) (alternatives a) (alternatives b) (each a h) (each b k)))
-
-  both-par : (a b : Contract) → IsHopefulThroughout book a → IsHopefulThroughout book b → IsHopefulThroughout book (par a b)
-  both-par Failure b h k = h
-  both-par a Failure h k = k
-  both-par Success b h k = k
-  both-par a Success h k = h
-  both-par _ _ h k = (h, k)
-
-  both-seq : (a b : Contract) → IsHopefulThroughout book a → IsHopefulThroughout book b → IsHopefulThroughout book (seq a b)
-  both-seq Failure b h k = h
-  both-seq a Failure h k = k
-  both-seq Success b h k = k
-  both-seq a Success h k = h
-  both-seq _ _ h k = (h, k)
 
   hopeful-send : (b : Binders) (p : Expression) (c : Contract) → IsHopefulThroughout book c → IsHopefulThroughout book (send b p c)
   hopeful-send b p Failure h = h
@@ -92,8 +64,8 @@ module _ (book : Definitions) where
   pub IsHopefulThroughout-kept : IsKeptOrFailure (IsHopefulThroughout book)
   IsHopefulThroughout-kept = record {
     plus = hopeful-plus;
-    par = FailureOr-par (IsHopefulThroughout book) both-par;
-    seq = FailureOr-seq (IsHopefulThroughout book) both-seq;
+    par = FailureOr-par (IsHopefulThroughout book) (λ a b h k e. (h, k));
+    seq = FailureOr-seq (IsHopefulThroughout book) (λ a b h k e. (h, k));
     plus_parts = λ a b h. h;
     par_parts = λ a b h. h;
     seq_parts = λ a b h. h;

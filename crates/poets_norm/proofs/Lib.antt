@@ -4,8 +4,15 @@ pub mod Meaning
 pub mod Parts
 pub mod WellFormedness
 pub mod Counts
+pub mod Asked
+pub mod Found
+pub mod Measures
+pub mod Nullable
 pub mod Hope
 pub mod NormalForms
 pub mod NoTemplates
 pub mod Sizes
+pub mod SomePart
+pub mod StudiedBooks
+pub mod StudiedExample
 pub mod WholeNormals

@@ -39,14 +39,6 @@ All-parts P (x ∷ xs) ys h =
     (All-cons P x xs (All-head P x (xs ++ ys) h) rest.0, rest.1)
 
 module _ (book : Definitions) (marks : Marks) where
-  only : (c : Contract) → IsBuilt book marks c → All (IsBuilt book marks) (c ∷ [])
-  only c h = All-cons (IsBuilt book marks) c [] h (All-nil (IsBuilt book marks))
-
-  All-alternatives : (c : Contract) → IsBuilt book marks c → All (IsBuilt book marks) (alternatives c)
-  All-alternatives Failure h = absurd h
-  All-alternatives (Plus a b) h = All-append (IsBuilt book marks) (alternatives a) (alternatives b) (All-alternatives a h.0) (All-alternatives b h.1)
-  All-alternatives c h = only c h
-
   built_choice : (c : Contract) → IsGrouped c → All (IsBuilt book marks) (alternatives c) → FailureOr (IsBuilt book marks) c
   built_choice Failure h each = inl refl
   built_choice (Plus c d) h each =
@@ -61,24 +53,10 @@ module _ (book : Definitions) (marks : Marks) where
   -- the builders
   built-plus : (a b : Contract) → FailureOr (IsBuilt book marks) a → FailureOr (IsBuilt book marks) b → FailureOr (IsBuilt book marks) (plus a b)
   built-plus a b h k =
-      let each = FailureOr-alternatives (IsBuilt book marks) (IsBuilt book marks) All-alternatives in
+      let each = FailureOr-alternatives (IsBuilt book marks) (λ e. e) (λ x y i. (i.0, i.1)) in
       built_choice (plus a b) (IsGrouped-distinct_choice (Plus a b))
       (rw (alternatives-distinct_choice (Plus a b)) (All-distinct (IsBuilt book marks) (alternatives a ++ alternatives b)
       (All-append (IsBuilt book marks) (alternatives a) (alternatives b) (each a h) (each b k))))
-
-  both-par : (a b : Contract) → IsBuilt book marks a → IsBuilt book marks b → IsBuilt book marks (par a b)
-  both-par Failure b h k = h
-  both-par a Failure h k = k
-  both-par Success b h k = k
-  both-par a Success h k = h
-  both-par _ _ h k = (h, k, refl)
-
-  both-seq : (a b : Contract) → IsBuilt book marks a → IsBuilt book marks b → IsBuilt book marks (seq a b)
-  both-seq Failure b h k = h
-  both-seq a Failure h k = k
-  both-seq Success b h k = k
-  both-seq a Success h k = h
-  both-seq _ _ h k = (h, k, refl)
 
   built-send : (b : Binders) (p : Expression) (c : Contract) → IsBuilt book marks c → IsBuilt book marks (send b p c)
   built-send b p Failure h = h
@@ -87,8 +65,8 @@ module _ (book : Definitions) (marks : Marks) where
   pub IsBuilt-kept : IsKeptOrFailure (IsBuilt book marks)
   IsBuilt-kept = record {
     plus = built-plus;
-    par = FailureOr-par (IsBuilt book marks) both-par;
-    seq = FailureOr-seq (IsBuilt book marks) both-seq;
+    par = FailureOr-par (IsBuilt book marks) (λ a b h k e. (h, k, e));
+    seq = FailureOr-seq (IsBuilt book marks) (λ a b h k e. (h, k, e));
     plus_parts = λ a b h. (h.0, h.1);
     par_parts = λ a b h. (h.0, h.1);
     seq_parts = λ a b h. (h.0, h.1);

@@ -1,10 +1,10 @@
 -- What normal forms mean.
-use Rattle.std.specs.Prelude.{◌≡◌, ℕ, List, length, Some, ◌↔◌}
+use Rattle.std.specs.Prelude.{◌≡◌, ℕ, List, ◌↔◌}
 use Rattle.poets_value.specs.declared.event.Event.{Event}
 use Rattle.poets_expr.specs.Env.{Declared, Env}
 use Rattle.poets_expr.specs.Fold.{KeepsDeclared}
-use Rattle.poets_syntax.specs.Contract.{Contract, Success, Failure, Transmit, Plus, Par, Seq, App}
-use Rattle.poets_syntax.specs.Book.{Definitions, Definition, template_in}
+use Rattle.poets_syntax.specs.Contract.{Contract, Failure}
+use Rattle.poets_syntax.specs.Book.{Definitions}
 use Rattle.poets_syntax.specs.Whole.{IsWholeContract}
 pub use Rattle.poets_syntax.specs.Applied.{CountsFit}
 use Rattle.poets_syntax.specs.May.{May}

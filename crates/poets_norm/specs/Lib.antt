@@ -1,2 +1,4 @@
 pub mod Choices
+pub mod Examples
 pub mod Laws
+pub mod Questions

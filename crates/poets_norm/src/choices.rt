@@ -30,7 +30,7 @@ fn add(alloc: Global, choice: Term, last: Term, is_known: bool) -> Result<Term, 
 }
 
 /// The choice of two choices of distinct alternatives, grouped to the left: the first as it stands,
-/// and behind it those alternatives of the second that it has not.
+/// and after it those alternatives of the second that it has not.
 pub fn merge(alloc: Global, a: Term, b: Term) -> Result<Term, Memory>
     requires first { IsDistinctChoice (contract_of a) }
     requires second { IsDistinctChoice (contract_of b) }

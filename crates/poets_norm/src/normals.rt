@@ -1,14 +1,17 @@
-//! The builders of normal forms.
-ghost use Rattle.std.specs.Prelude.{◌≡◌, IfOk};
-ghost use Rattle.poets_expr.specs.Env.{declared_of};
+//! Normal forms and their builders.
+ghost use Rattle.std.specs.Prelude.{◌≡◌, ◌+◌, ◌≤◌, IfOk};
 ghost use Rattle.poets_expr.specs.Expression.{expression_of};
+ghost use Rattle.poets_syntax.specs.Book.{definitions_of};
 ghost use Rattle.poets_syntax.specs.Contract.{contract_of};
 ghost use Rattle.poets_syntax.specs.Normal.{par as par_lem, seq as seq_lem, send as send_lem, normal as normal_lem};
-ghost use Rattle.poets_syntax.specs.Plain.{plain, no_marks};
+ghost use Rattle.poets_syntax.specs.Studied.{marks_of};
+ghost use Rattle.poets_syntax.specs.Width.{size};
+ghost use Rattle.poets_norm.specs.Questions.{questions};
 
+use crate::applications::app;
 use crate::choices::merge;
-use poets_expr::{Decls, Expr};
-use poets_syntax::{Binders, Term, build};
+use poets_expr::{Asks, Expr};
+use poets_syntax::{Binders, Studied, Term, build};
 use poets_value::Memory;
 use std::alloc::Global;
 
@@ -46,9 +49,18 @@ pub fn send(alloc: Global, binders: Binders, when: Expr, then: Term) -> Result<T
     build::transmit(alloc, binders, when, then)
 }
 
-/// The normal form of a contract in a book without templates. An application is `Failure`, since nothing performs it.
-pub fn normal(alloc: Global, decls: &Decls, term: &Term) -> Result<Term, Memory>
-    ensures { IfOk result (λ r. contract_of r ≡ normal_lem (plain (declared_of decls.now.names)) no_marks (contract_of term.now)) }
+/// The normal form of a contract. What it asks is answered in it and is not asked again.
+pub fn normal<L>(
+    alloc: Global,
+    studied: &Studied,
+    term: &Term,
+    asks: &mut Asks<L>,
+) -> Result<Term, Memory>
+    ensures normal { IfOk result (λ r. contract_of r ≡ normal_lem (definitions_of studied.now.book) (marks_of studied.now) (contract_of term.now)) }
+    ensures rises { asks.old ≤ asks.new }
+    ensures asks { asks.new ≤ asks.old + questions (contract_of term.now) }
+    ensures questions { IfOk result (λ r. asks.new + questions (contract_of r) ≤ asks.old + questions (contract_of term.now)) }
+    ensures size { asks.new ≤ asks.old + size (contract_of term.now) }
 {
     match term {
         Term::Success => Ok(Term::Success),
@@ -58,25 +70,25 @@ pub fn normal(alloc: Global, decls: &Decls, term: &Term) -> Result<Term, Memory>
             when,
             then,
         } => {
-            let then = normal(alloc, decls, then)?;
+            let then = normal(alloc, studied, then, asks)?;
             let when = poets_expr::copy(alloc, when)?;
             send(alloc, *binders, when, then)
         }
         Term::Plus(a, b) => {
-            let a = normal(alloc, decls, a)?;
-            let b = normal(alloc, decls, b)?;
+            let a = normal(alloc, studied, a, asks)?;
+            let b = normal(alloc, studied, b, asks)?;
             merge(alloc, a, b)
         }
         Term::Par(a, b) => {
-            let a = normal(alloc, decls, a)?;
-            let b = normal(alloc, decls, b)?;
+            let a = normal(alloc, studied, a, asks)?;
+            let b = normal(alloc, studied, b, asks)?;
             par(alloc, a, b)
         }
         Term::Seq(a, b) => {
-            let a = normal(alloc, decls, a)?;
-            let b = normal(alloc, decls, b)?;
+            let a = normal(alloc, studied, a, asks)?;
+            let b = normal(alloc, studied, b, asks)?;
             seq(alloc, a, b)
         }
-        Term::App { .. } => Ok(Term::Failure),
+        Term::App { name, args } => app(alloc, studied, *name, args.as_slice(), asks),
     }
 }

@@ -1,11 +1,10 @@
-//! Normal forms and widths worked out by hand, and each call once with memory.
+//! Builders of normal forms worked out by hand, and each called once with memory.
 
-use crate::{distinct_choice, merge, normal, par, plus, send, seq, wide};
-use poets_expr::{Decls, Expr, Op, build as make};
+use crate::{distinct_choice, merge, par, plus, send, seq};
+use poets_expr::{Expr, Op, build as make};
 use poets_syntax::{Binders, Term, build, copy, same};
-use poets_value::{List, Memory, Name};
+use poets_value::{Memory, Name};
 use std::alloc::Global;
-use std::collections::BTreeMap;
 
 const OIL: Name = Name { id: 0 };
 
@@ -41,22 +40,6 @@ fn oil(alloc: Global, then: Term) -> Result<Term, Memory> {
 // transmit(a, b, r, t | kind(r) = USD). then
 fn usd(alloc: Global, then: Term) -> Result<Term, Memory> {
     build::transmit(alloc, BINDERS, of_kind(alloc, USD)?, then)
-}
-
-// transmit(a, b, r, t | amount(r) = number). Success
-fn amount(alloc: Global, number: i64) -> Result<Term, Memory> {
-    let found = Expr::Amount(make::boxed(alloc, Expr::Name(R))?);
-    let when = equation(alloc, found, Expr::Int(number))?;
-    build::transmit(alloc, BINDERS, when, Term::Success)
-}
-
-// The choice of these for the numbers from 1 on, before `end`.
-fn amounts(alloc: Global, end: i64) -> Result<Term, Memory> {
-    let mut choice = amount(alloc, 1)?;
-    for number in 2..end {
-        choice = build::plus(alloc, choice, amount(alloc, number)?)?;
-    }
-    Ok(choice)
 }
 
 // O + U
@@ -153,52 +136,5 @@ fn a_dead_continuation_fails(rt: HostRuntime) -> Result<(), Memory> {
     assert!(rt; is_sent(rt.alloc(), Term::Failure, &Term::Failure)?);
     let one = oil(rt.alloc(), Term::Success)?;
     assert!(rt; is_sent(rt.alloc(), Term::Success, &one)?);
-    Ok(())
-}
-
-// O. (U. Failure || Success) + U
-fn half_dead(alloc: Global) -> Result<Term, Memory> {
-    let never = usd(alloc, Term::Failure)?;
-    let dead = build::par(alloc, never, Term::Success)?;
-    let left = oil(alloc, dead)?;
-    build::plus(alloc, left, usd(alloc, Term::Success)?)
-}
-
-fn is_normal(alloc: Global, term: &Term, wanted: &Term) -> Result<bool, Memory> {
-    let decls = Decls {
-        names: BTreeMap::new(alloc),
-    };
-    let made = normal(alloc, &decls, term)?;
-    Ok(same(&made, wanted))
-}
-
-#[test]
-fn dead_alternatives_are_left_out(rt: HostRuntime) -> Result<(), Memory> {
-    let term = half_dead(rt.alloc())?;
-    let wanted = usd(rt.alloc(), Term::Success)?;
-    assert!(rt; is_normal(rt.alloc(), &term, &wanted)?);
-    Ok(())
-}
-
-#[test]
-fn without_templates_an_application_fails(rt: HostRuntime) -> Result<(), Memory> {
-    let applied = Term::App {
-        name: OIL,
-        args: List::new(rt.alloc()),
-    };
-    let term = oil(rt.alloc(), applied)?;
-    assert!(rt; is_normal(rt.alloc(), &term, &Term::Failure)?);
-    Ok(())
-}
-
-fn width(alloc: Global, end: i64) -> Result<u64, Memory> {
-    Ok(wide(&amounts(alloc, end)?))
-}
-
-#[test]
-fn the_width_is_cut_at_1001(rt: HostRuntime) -> Result<(), Memory> {
-    assert_eq!(rt; wide(&Term::Success), 1);
-    assert_eq!(rt; width(rt.alloc(), 144)?, 1000);
-    assert_eq!(rt; width(rt.alloc(), 145)?, 1001);
     Ok(())
 }

@@ -1,18 +1,96 @@
 //! The width of contracts, which bounds the residuals that are kept.
-ghost use Rattle.std.specs.Prelude.{◌≡◌, min};
-ghost use Rattle.poets_expr.specs.Env.{Declared};
+ghost use Rattle.std.specs.Prelude.{◌≡◌, ◌+◌, ◌&&◌, min, false};
+ghost use Rattle.poets_syntax.specs.Applied.{CountsFit};
+ghost use Rattle.poets_syntax.specs.Book.{definitions_of, template_in};
 ghost use Rattle.poets_syntax.specs.Contract.{contract_of};
-ghost use Rattle.poets_syntax.specs.Plain.{plain, no_marks};
-ghost use Rattle.poets_syntax.specs.Width.{width};
+ghost use Rattle.poets_syntax.specs.Marks.{nullable};
+ghost use Rattle.poets_syntax.specs.Studied.{marks_of};
+ghost use Rattle.poets_syntax.specs.Width.{size as size_lem, body_in, wide_by, width};
 
-use poets_syntax::{Term, size};
+use crate::templates::template_of;
+use poets_syntax::{Studied, Term, size};
 
 // One more than the greatest width that a kept residual has.
 const CUT: u64 = 1001;
 
-/// The width of the contract in a book without templates, where it is the size; cut at 1,001.
-pub fn wide(term: &Term) -> u64
-    ensures { (declared : Declared) → result ≡ min (width (plain declared) no_marks (contract_of term.now)) 1001 }
+// The width of a contract, cut, and whether the empty trace performs it.
+#[derive(Clone, Copy)]
+struct Measured {
+    wide: u64,
+    nullable: bool,
+}
+
+// A contract that exposes no application, and is not nullable.
+fn unexposed(term: &Term) -> Measured
+    ensures wide { result.wide ≡ min (size_lem (contract_of term.now)) 1001 }
+    ensures nullable { result.nullable ≡ false }
 {
-    size(term).min(CUT)
+    Measured {
+        wide: size(term).min(CUT),
+        nullable: false,
+    }
+}
+
+// One node and its two parts, cut.
+fn node(a: u64, b: u64) -> u64
+    ensures { result ≡ min (1 + a + b) 1001 }
+{
+    a.saturating_add(b).saturating_add(1).min(CUT)
+}
+
+// Two parts that must both be performed.
+fn both(a: Measured, b: Measured) -> Measured
+    ensures wide { result.wide ≡ min (1 + a.wide + b.wide) 1001 }
+    ensures nullable { result.nullable ≡ (a.nullable && b.nullable) }
+{
+    Measured {
+        wide: node(a.wide, b.wide),
+        nullable: a.nullable && b.nullable,
+    }
+}
+
+// Measures a contract. The body of a template counts as its mark says.
+fn measure(studied: &Studied, term: &Term) -> Measured
+    ensures wide { result.wide ≡ min (wide_by (λ f. body_in (template_in (definitions_of studied.now.book).templates f) (width (definitions_of studied.now.book) (marks_of studied.now))) (marks_of studied.now) (contract_of term.now)) 1001 }
+    ensures nullable { result.nullable ≡ nullable (marks_of studied.now) (contract_of term.now) }
+{
+    match term {
+        Term::Success => Measured {
+            wide: 1,
+            nullable: true,
+        },
+        Term::Failure | Term::Transmit { .. } => unexposed(term),
+        Term::Plus(a, b) => {
+            let a = measure(studied, a);
+            let b = measure(studied, b);
+            Measured {
+                wide: node(a.wide, b.wide),
+                nullable: a.nullable || b.nullable,
+            }
+        }
+        Term::Par(a, b) => both(measure(studied, a), measure(studied, b)),
+        Term::Seq(a, b) => {
+            let first = measure(studied, a);
+            if first.nullable {
+                return both(first, measure(studied, b));
+            }
+            both(first, unexposed(b))
+        }
+        Term::App { name, .. } => match template_of(studied, *name) {
+            Some((_, mark)) => Measured {
+                wide: size(term).saturating_add(mark.wide).min(CUT),
+                nullable: mark.nullable,
+            },
+            None => unexposed(term),
+        },
+    }
+}
+
+/// The width of the contract, cut at 1,001.
+pub fn wide(studied: &Studied, term: &Term) -> u64
+    requires { CountsFit (definitions_of studied.now.book) (contract_of term.now) }
+    ensures { result ≡ min (width (definitions_of studied.now.book) (marks_of studied.now) (contract_of term.now)) 1001 }
+{
+    let _book = studied.book();
+    measure(studied, term).wide
 }

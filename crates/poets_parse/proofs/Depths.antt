@@ -10,7 +10,7 @@ use Rattle.poets_lex.specs.declared.token.Token.{Token}
 use Rattle.poets_grammar.specs.Tokens.{toks}
 use Rattle.poets_grammar.specs.TooDeep.{open_behind, open_at_end, most_open, most_operators, operators, IsTooDeep}
 
--- of the tokens before a place: how many brackets are open behind them, and the most that are open anywhere
+-- of the tokens before a place: how many brackets are open after them, and the most that are open anywhere
 pub record Measured (ts : List Tok) (place open_here deepest : ℕ) : Type 0 where
   pub here : open_here ≡ open_at_end (take place ts)
   pub few : open_here ≤ place

@@ -2,4 +2,3 @@ pub mod Depths
 pub mod Loops
 pub mod Lists
 pub mod Sentences
-pub mod Lexed

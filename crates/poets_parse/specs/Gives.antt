@@ -18,10 +18,10 @@ abbrev pub Gives : {X Y : Type 0} → (X → Y) → Result X SyntaxFault → Opt
 Gives view (Ok x) read = read ≡ Some (view x)
 Gives view (Err fault) read = Refuses fault read
 
--- the same of a reader that answers what stands behind, too
+-- the same of a reader that answers what stands after, too
 abbrev pub GivesFront : {X Y : Type 0} → (X → Y) → Result (X × Bor (List Token)) SyntaxFault → Option (Y × List Tok) → Type 0
 GivesFront view result read = Gives (λ p. (view p.0, toks p.1.now)) result read
 
--- less of the tokens stands behind what was read
+-- less of the tokens stands after what was read
 abbrev pub LeavesLess : {X : Type 0} → List Token → Result (X × Bor (List Token)) SyntaxFault → Type 0
 LeavesLess tokens result = IfOk result (λ p. length p.1.now < length tokens)

@@ -1,4 +1,4 @@
-//! Commands, each behind its word and up to the end of the statement.
+//! Commands, each after its word and up to the end of the statement.
 ghost use Rattle.std.specs.Prelude.{◌≡◌, map};
 ghost use Rattle.poets_expr.specs.Expression.{expression_of};
 ghost use Rattle.poets_call.specs.Calls.{request_of};
@@ -107,7 +107,7 @@ fn read_watch(tokens: &[Token]) -> Result<Command, SyntaxFault>
     whole(Command::Read { number }, rest)
 }
 
-// command, behind the word that is its first token
+// command, after the word that is its first token
 pub(crate) fn command_word(
     alloc: Global,
     word: Word,

@@ -91,7 +91,7 @@ fn closed(alloc: Global, tokens: &[Token]) -> Result<(Term, &[Token]), SyntaxFau
     Ok((inside, rest))
 }
 
-// "transmit" "(" NAME "," NAME "," NAME "," NAME "|" expr ")" "." simple, behind the word
+// "transmit" "(" NAME "," NAME "," NAME "," NAME "|" expr ")" "." simple, after the word
 #[tactic(auto, unfolding(poets_grammar::specs::ContractReading::transmit))]
 #[cycle(contract)]
 fn transmit(alloc: Global, tokens: &[Token]) -> Result<(Term, &[Token]), SyntaxFault>
@@ -108,7 +108,7 @@ fn transmit(alloc: Global, tokens: &[Token]) -> Result<(Term, &[Token]), SyntaxF
     Ok((build::transmit(alloc, binders, when, then)?, rest))
 }
 
-// call, behind its name
+// call, after its name
 #[tactic(auto, unfolding(poets_grammar::specs::ContractReading::application))]
 fn application(alloc: Global, name: Name, tokens: &[Token]) -> Result<(Term, &[Token]), SyntaxFault>
     ensures gives { GivesFront contract_of result (reading.application name (toks tokens.now)) }

@@ -1,4 +1,4 @@
-//! Templates and reports, each behind its word and up to the end of the statement.
+//! Templates and reports, each after its word and up to the end of the statement.
 ghost use Rattle.std.specs.Prelude.{◌≡◌, option_map};
 ghost use Rattle.poets_expr.specs.Expression.{expression_of};
 ghost use Rattle.poets_call.specs.Sentences.{sentence_of};

@@ -50,7 +50,7 @@ fn operators(tokens: &[Token]) -> usize
     tokens.iter().filter(|token| is_operator(token)).count()
 }
 
-// The number of `(` that are open behind the token.
+// The number of `(` that are open after the token.
 fn open_behind(before: usize, token: &Token) -> usize
     requires { before + 1 < 2 ^ 64 }
     ensures { result ≡ depth.open_behind before token.now.what }

@@ -150,7 +150,7 @@ fn primary(alloc: Global, tokens: &[Token]) -> Result<(Expr, &[Token]), SyntaxFa
     }
 }
 
-// "true" | "false" | "undefined" type | "amount" .. | "kind" .. | "res" .. | "if" .., behind the word
+// "true" | "false" | "undefined" type | "amount" .. | "kind" .. | "res" .. | "if" .., after the word
 #[cycle(expression)]
 fn primary_word(
     alloc: Global,
@@ -184,7 +184,7 @@ fn closed(alloc: Global, tokens: &[Token]) -> Result<(Expr, &[Token]), SyntaxFau
     Ok((inside, rest))
 }
 
-// "amount" "(" expression ")", behind the word
+// "amount" "(" expression ")", after the word
 #[tactic(auto, unfolding(poets_grammar::specs::Reading::applied))]
 #[cycle(expression)]
 fn amount_of(alloc: Global, tokens: &[Token]) -> Result<(Expr, &[Token]), SyntaxFault>
@@ -196,7 +196,7 @@ fn amount_of(alloc: Global, tokens: &[Token]) -> Result<(Expr, &[Token]), Syntax
     Ok((Expr::Amount(boxed(alloc, resource)?), rest))
 }
 
-// "kind" "(" expression ")", behind the word
+// "kind" "(" expression ")", after the word
 #[tactic(auto, unfolding(poets_grammar::specs::Reading::applied))]
 #[cycle(expression)]
 fn kind_of(alloc: Global, tokens: &[Token]) -> Result<(Expr, &[Token]), SyntaxFault>
@@ -208,7 +208,7 @@ fn kind_of(alloc: Global, tokens: &[Token]) -> Result<(Expr, &[Token]), SyntaxFa
     Ok((Expr::KindOf(boxed(alloc, resource)?), rest))
 }
 
-// "res" "(" expression "," expression ")", behind the word
+// "res" "(" expression "," expression ")", after the word
 #[tactic(auto, unfolding(poets_grammar::specs::Reading::made))]
 #[cycle(expression)]
 fn made(alloc: Global, tokens: &[Token]) -> Result<(Expr, &[Token]), SyntaxFault>
@@ -222,7 +222,7 @@ fn made(alloc: Global, tokens: &[Token]) -> Result<(Expr, &[Token]), SyntaxFault
     Ok((build::made(alloc, amount, kind)?, rest))
 }
 
-// "if" expression "then" expression "else" expression "end", behind the first word
+// "if" expression "then" expression "else" expression "end", after the first word
 #[tactic(auto, unfolding(poets_grammar::specs::Reading::conditional))]
 #[cycle(expression)]
 fn conditional(alloc: Global, tokens: &[Token]) -> Result<(Expr, &[Token]), SyntaxFault>

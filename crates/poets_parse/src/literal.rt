@@ -34,7 +34,7 @@ fn credit(tokens: &[Token]) -> Result<(Expr, &[Token]), SyntaxFault>
     Ok((Expr::Res(resource), rest))
 }
 
-// The same, behind the "-" of a resource that is owed
+// The same, after the "-" of a resource that is owed
 #[tactic(auto, unfolding(poets_grammar::specs::Reading::debt))]
 fn debt(tokens: &[Token]) -> Result<(Expr, &[Token]), SyntaxFault>
     ensures gives { GivesFront expression_of result (reading.debt (toks tokens.now)) }
@@ -46,7 +46,7 @@ fn debt(tokens: &[Token]) -> Result<(Expr, &[Token]), SyntaxFault>
     Ok((Expr::Res(Resource { amount, kind }), rest))
 }
 
-// "[" NUMBER NAME "]" | "[" "-" NUMBER NAME "]", behind the bracket
+// "[" NUMBER NAME "]" | "[" "-" NUMBER NAME "]", after the bracket
 #[tactic(auto, unfolding(poets_grammar::specs::Reading::resource))]
 pub(crate) fn resource(tokens: &[Token]) -> Result<(Expr, &[Token]), SyntaxFault>
     ensures gives { GivesFront expression_of result (reading.resource (toks tokens.now)) }
@@ -58,7 +58,7 @@ pub(crate) fn resource(tokens: &[Token]) -> Result<(Expr, &[Token]), SyntaxFault
     }
 }
 
-// "undefined" type, behind the word
+// "undefined" type, after the word
 #[tactic(auto, unfolding(poets_grammar::specs::Reading::undefined_of))]
 pub(crate) fn undefined_of(tokens: &[Token]) -> Result<(Expr, &[Token]), SyntaxFault>
     ensures gives { GivesFront expression_of result (reading.undefined_of (toks tokens.now)) }
@@ -68,7 +68,7 @@ pub(crate) fn undefined_of(tokens: &[Token]) -> Result<(Expr, &[Token]), SyntaxF
     Ok((Expr::Undefined(ty), rest))
 }
 
-// "-" NUMBER, behind the sign
+// "-" NUMBER, after the sign
 #[tactic(auto, unfolding(poets_grammar::specs::Reading::negative))]
 pub(crate) fn negative(tokens: &[Token]) -> Result<(Expr, &[Token]), SyntaxFault>
     ensures gives { GivesFront expression_of result (reading.negative (toks tokens.now)) }

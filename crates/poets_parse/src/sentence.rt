@@ -16,7 +16,7 @@ use poets_call::Statement;
 use poets_lex::{Sign, Tok, Token, Word};
 use std::alloc::Global;
 
-// statement, behind the word that is its first token
+// statement, after the word that is its first token
 fn sentence_word(alloc: Global, word: Word, tokens: &[Token]) -> Result<Statement, SyntaxFault>
     ensures { Gives sentence_of result (reading.sentence_word word (toks tokens.now)) }
 {
@@ -57,7 +57,7 @@ fn sentence(alloc: Global, tokens: &[Token]) -> Result<Statement, SyntaxFault>
 /// The statement that the tokens are, which stand before a `;;`.
 ///
 /// The time is linear in the tokens. The stack is bounded, since a statement that is nested too deep is refused before it is
-/// read: the readers call themselves only behind brackets, `not`, `-`, `if` and the dot of a transmit.
+/// read: the readers call themselves only after brackets, `not`, `-`, `if` and the dot of a transmit.
 pub fn statement(alloc: Global, tokens: &[Token]) -> Result<Statement, SyntaxFault>
     requires natural { AreNatural tokens.now }
     ensures found { IfOk result (λ s. IsSentence (toks tokens.now) (sentence_of s)) }

@@ -1,6 +1,6 @@
 //! Single tokens.
 ghost use Rattle.std.specs.Prelude.{◌≡◌, ◌<◌, ◌≤ℤ◌, pos, length, [], ◌∷◌, IfSome, IfNone, IfOk, option_map};
-ghost use Rattle.poets_grammar.specs.Tokens.{toks, joins as joins_lem, type_of as type_of_lem};
+ghost use Rattle.poets_grammar.specs.Tokens.{toks, infix_operator as infix_operator_lem, type_of as type_of_lem};
 ghost use Rattle.poets_grammar.specs.Reading as reading;
 ghost use Rattle.poets_grammar.specs.StatementReading as statements;
 ghost use Rattle.poets_parse.specs.Gives.{Gives, GivesFront, LeavesLess};
@@ -10,7 +10,7 @@ use poets_expr::Op;
 use poets_lex::{Sign, Tok, Token, Word};
 use poets_value::{Day, Name, Ty};
 
-// What the first token is, and the tokens behind it.
+// What the first token is, and the tokens after it.
 pub(crate) fn first(tokens: &[Token]) -> Option<(Tok, &[Token])>
     ensures some { IfSome result (λ p. toks tokens.now ≡ p.0 ∷ toks p.1.now) }
     ensures none { IfNone result (toks tokens.now ≡ []) }
@@ -20,7 +20,7 @@ pub(crate) fn first(tokens: &[Token]) -> Option<(Tok, &[Token])>
     Some((token.what, rest))
 }
 
-// What stands behind the sign, if it is the first token.
+// What stands after the sign, if it is the first token.
 pub(crate) fn behind_sign(wanted: Sign, tokens: &[Token]) -> Option<&[Token]>
     ensures found { option_map (λ r. toks r.now) result ≡ reading.behind_sign wanted (toks tokens.now) }
     ensures shorter { IfSome result (λ r. length r.now < length tokens.now) }
@@ -31,7 +31,7 @@ pub(crate) fn behind_sign(wanted: Sign, tokens: &[Token]) -> Option<&[Token]>
     }
 }
 
-// What stands behind the word, if it is the first token.
+// What stands after the word, if it is the first token.
 pub(crate) fn behind_word(wanted: Word, tokens: &[Token]) -> Option<&[Token]>
     ensures found { option_map (λ r. toks r.now) result ≡ reading.behind_word wanted (toks tokens.now) }
     ensures shorter { IfSome result (λ r. length r.now < length tokens.now) }
@@ -42,7 +42,7 @@ pub(crate) fn behind_word(wanted: Word, tokens: &[Token]) -> Option<&[Token]>
     }
 }
 
-// What stands behind the sign.
+// What stands after the sign.
 pub(crate) fn sign(wanted: Sign, tokens: &[Token]) -> Result<&[Token], SyntaxFault>
     ensures gives { Gives (λ r. toks r.now) result (reading.behind_sign wanted (toks tokens.now)) }
     ensures shorter { IfOk result (λ r. length r.now < length tokens.now) }
@@ -50,7 +50,7 @@ pub(crate) fn sign(wanted: Sign, tokens: &[Token]) -> Result<&[Token], SyntaxFau
     behind_sign(wanted, tokens).ok_or(SyntaxFault::NoSentence)
 }
 
-// What stands behind the word.
+// What stands after the word.
 pub(crate) fn word(wanted: Word, tokens: &[Token]) -> Result<&[Token], SyntaxFault>
     ensures gives { Gives (λ r. toks r.now) result (reading.behind_word wanted (toks tokens.now)) }
     ensures shorter { IfOk result (λ r. length r.now < length tokens.now) }
@@ -58,7 +58,7 @@ pub(crate) fn word(wanted: Word, tokens: &[Token]) -> Result<&[Token], SyntaxFau
     behind_word(wanted, tokens).ok_or(SyntaxFault::NoSentence)
 }
 
-// The NAME, and what stands behind it.
+// The NAME, and what stands after it.
 pub(crate) fn name(tokens: &[Token]) -> Result<(Name, &[Token]), SyntaxFault>
     ensures gives { GivesFront (λ x. x) result (reading.name (toks tokens.now)) }
     ensures shorter { LeavesLess tokens.now result }
@@ -69,7 +69,7 @@ pub(crate) fn name(tokens: &[Token]) -> Result<(Name, &[Token]), SyntaxFault>
     }
 }
 
-// The NUMBER, which is not below 0, and what stands behind it.
+// The NUMBER, which is not below 0, and what stands after it.
 pub(crate) fn number(tokens: &[Token]) -> Result<(i64, &[Token]), SyntaxFault>
     ensures gives { GivesFront (λ x. x) result (reading.number (toks tokens.now)) }
     ensures natural { IfOk result (λ r. pos 0 ≤ℤ r.0) }
@@ -81,7 +81,7 @@ pub(crate) fn number(tokens: &[Token]) -> Result<(i64, &[Token]), SyntaxFault>
     }
 }
 
-// The NUMBER of something that is counted, and what stands behind it.
+// The NUMBER of something that is counted, and what stands after it.
 pub(crate) fn natural(tokens: &[Token]) -> Result<(u64, &[Token]), SyntaxFault>
     ensures gives { GivesFront (λ x. x) result (statements.natural (toks tokens.now)) }
 {
@@ -129,7 +129,7 @@ fn type_of(word: Word) -> Option<Ty>
     }
 }
 
-// The type, and what stands behind its word.
+// The type, and what stands after its word.
 pub(crate) fn type_name(tokens: &[Token]) -> Result<(Ty, &[Token]), SyntaxFault>
     ensures gives { GivesFront (λ x. x) result (reading.type_name (toks tokens.now)) }
     ensures shorter { LeavesLess tokens.now result }
@@ -154,9 +154,9 @@ pub(crate) const SUM: u8 = 5;
 
 pub(crate) const PRODUCT: u8 = 6;
 
-// The operator that the token is between two operands, behind its level.
-fn joins(tok: Tok) -> Option<(u8, Op)>
-    ensures { result ≡ joins_lem tok }
+// The operator that the token is between two operands, after its level.
+fn infix_operator(tok: Tok) -> Option<(u8, Op)>
+    ensures { result ≡ infix_operator_lem tok }
 {
     match tok {
         Tok::Word(Word::Or) => Some((OR, Op::Or)),
@@ -176,7 +176,7 @@ fn joins(tok: Tok) -> Option<(u8, Op)>
     }
 }
 
-// The operator of the level, if one is the first token, and what stands behind it.
+// The operator of the level, if one is the first token, and what stands after it.
 pub(crate) fn operator(level: u8, tokens: &[Token]) -> Option<(Op, &[Token])>
     ensures found { option_map (λ p. (p.0, toks p.1.now)) result ≡ reading.operator level (toks tokens.now) }
     ensures shorter { IfSome result (λ p. length p.1.now < length tokens.now) }
@@ -184,13 +184,13 @@ pub(crate) fn operator(level: u8, tokens: &[Token]) -> Option<(Op, &[Token])>
     let Some((tok, rest)) = first(tokens) else {
         return None;
     };
-    match joins(tok) {
+    match infix_operator(tok) {
         Some((found, op)) if found == level => Some((op, rest)),
         _ => None,
     }
 }
 
-// The value, where nothing stands behind it.
+// The value, where nothing stands after it.
 pub(crate) fn whole<T: Drop>(value: T, rest: &[Token]) -> Result<T, SyntaxFault>
     ensures { Gives (λ x. x) result (reading.whole value (toks rest.now)) }
 {

@@ -11,7 +11,7 @@ use Rattle.poets_lex.proofs.CutTexts.{IsCutInto, cut_sign, cut_space}
 use Rattle.poets_grammar.specs.Lists.{ReadsList, ReadsBracketed}
 use Rattle.poets_print.specs.Texts.{bracketed, behind_commas, listed}
 
--- the text is tokens that are x by the rule, and then the tokens behind
+-- the text is tokens that are x by the rule, and then the tokens after
 pub record IsTextOf {A : Type 0} (table : Table) (Rule : List Tok → A → List Tok → Type 0) (text : List ℕ) (x : A) (behind : List Tok) : Type 0 where
   pub tokens : List Tok
   pub cut : IsCutInto table text tokens

@@ -50,7 +50,7 @@ four : {s r w d : Name} {ts rest : List Tok} → ReadsNames ts (s ∷ r ∷ w �
 four (ReadsList.More ReadsName.AName (ReadsList.More ReadsName.AName (ReadsList.More ReadsName.AName (ReadsList.One ReadsName.AName)))) = ReadsBinders.Four
 four (ReadsList.More ReadsName.AName (ReadsList.More ReadsName.AName (ReadsList.More ReadsName.AName (ReadsList.More _ none)))) = elim none [ ]
 
--- the pieces of the text of a transmit, one behind the other
+-- the pieces of the text of a transmit, one after the other
 transmit_shape : (b p c rest : List ℕ) → (codes "transmit(" ++ b ++ codes " | " ++ p ++ codes "). " ++ c) ++ rest ≡ codes "transmit(" ++ (b ++ (codes " | " ++ (p ++ (codes "). " ++ (c ++ rest)))))
 transmit_shape b p c rest = simp append_assoc
 

@@ -25,7 +25,7 @@ use Rattle.poets_lex.specs.declared.token.Tok.TheVariants as K
 use Rattle.poets_lex.specs.Texts.{word_text}
 use Rattle.poets_lex.specs.Table.{Table, IsTable}
 use Rattle.poets_lex.proofs.CutTexts.{IsCutInto, cut_space, cut_word, cut_name, cut_number, cut_day, cut_sign, cut_spaced}
-use Rattle.poets_grammar.specs.Tokens.{joins, type_of}
+use Rattle.poets_grammar.specs.Tokens.{infix_operator, type_of}
 use Rattle.poets_grammar.specs.Expressions.{Rule, Disjunction, Conjunction, Negation, Comparison, Sum, Product, Prefixed, Primary, ReadsExpression, begins_number}
 use Rattle.poets_print.specs.Levels.{op_level, level, left_in_brackets, right_in_brackets, negated_in_brackets, denied_in_brackets}
 use Rattle.poets_print.specs.Texts.{bracketed, op_text, type_text, value_text, expression_text}
@@ -108,7 +108,7 @@ right_grade o e h = level_grade e (suc (op_level o)) (omega (arith, op_low o)) (
 
 -- an operator with the spaces round it
 operator : {table : Table} {rest : List ℕ} {behind : List Tok} (o : Op) → IsCutInto table rest behind →
-    (t : Tok) × (joins t ≡ Some (op_level o, o)) × IsCutInto table (32 ∷ (op_text o ++ 32 ∷ rest)) (t ∷ behind)
+    (t : Tok) × (infix_operator t ≡ Some (op_level o, o)) × IsCutInto table (32 ∷ (op_text o ++ 32 ∷ rest)) (t ∷ behind)
 operator O.Add cut = (K.Sign S.Plus, refl, cut_space (cut_spaced S.Plus cut))
 operator O.Sub cut = (K.Sign S.Minus, refl, cut_space (cut_spaced S.Minus cut))
 operator O.Mul cut = (K.Sign S.Star, refl, cut_space (cut_spaced S.Star cut))
@@ -124,7 +124,7 @@ operator O.And cut = (K.Word W.And, refl, cut_space (cut_word W.And (cut_space c
 operator O.Or cut = (K.Word W.Or, refl, cut_space (cut_word W.Or (cut_space cut) refl))
 
 -- two operands of their levels
-binary : (o : Op) {a b : Expression} {ts mid rest : List Tok} {t : Tok} → joins t ≡ Some (op_level o, o) →
+binary : (o : Op) {a b : Expression} {ts mid rest : List Tok} {t : Tok} → infix_operator t ≡ Some (op_level o, o) →
     ReadsExpression (rule (left_level o)) ts a (t ∷ mid) → ReadsExpression (rule (suc (op_level o))) mid b rest → ReadsExpression (rule (op_level o)) ts (Binary o a b) rest
 unfolding rule left_level
 binary O.Or j r q = ReadsExpression.MoreConjunctions j r q

@@ -24,11 +24,11 @@ use Rattle.poets_print.specs.Laws.{IsListed, CanWriteRequest, IsWholeRequest, Co
 use Rattle.poets_print.proofs.Writing.{IsTextOf}
 use Rattle.poets_print.proofs.WritingContracts.{writes_call, writes_names, writes_contract}
 
--- the tokens are a command, and nothing is behind
+-- the tokens are a command, and nothing is after
 Says : List Tok → Request → List Tok → Type 0
 Says ts request rest = IsCommand ts request
 
--- the pieces of a text, one behind the other
+-- the pieces of a text, one after the other
 transmission_shape : (t p q x s r n k d rest : List ℕ) →
     (t ++ x ++ p ++ (s ++ p ++ r ++ p ++ (n ++ p ++ k) ++ q ++ d)) ++ rest ≡ t ++ (x ++ (p ++ (s ++ (p ++ (r ++ (p ++ (n ++ (p ++ (k ++ (q ++ (d ++ rest)))))))))))
 transmission_shape t p q x s r n k d rest = simp append_assoc

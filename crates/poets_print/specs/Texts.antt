@@ -26,7 +26,7 @@ abbrev pub bracketed : Bool → List ℕ → List ℕ
 bracketed true text = codes "(" ++ text ++ codes ")"
 bracketed false text = text
 
--- the text of each behind `, `
+-- the text of each after `, `
 abbrev pub behind_commas : {A : Type 0} → (A → List ℕ) → List A → List ℕ
 behind_commas text_of xs = flat_map (λ x. codes ", " ++ text_of x) xs
 

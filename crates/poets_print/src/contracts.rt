@@ -27,7 +27,7 @@ fn put_binders(out: &mut String, names: &Names, binders: &Binders) -> Result<(),
     put_name(out, names, binders.day)
 }
 
-// Puts each argument behind a comma.
+// Puts each argument after a comma.
 fn put_rest(out: &mut String, names: &Names, args: &[Expr]) -> Result<(), Memory>
     ensures { OnOk result (string_bytes out.new ≡ string_bytes out.old ++ behind_commas (expression_text names.now) (map expression_of args.now)) }
 {

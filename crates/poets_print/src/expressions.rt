@@ -93,7 +93,7 @@ fn put_part(out: &mut String, names: &Names, in_brackets: bool, part: &Expr) -> 
     put(out, ")")
 }
 
-// Puts a sign or a word, and the part behind it.
+// Puts a sign or a word, and the part after it.
 #[cycle(expression)]
 fn put_prefixed(
     out: &mut String,

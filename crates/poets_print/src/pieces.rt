@@ -23,7 +23,7 @@ pub(crate) fn put_name(out: &mut String, names: &Names, name: Name) -> Result<()
     put(out, name_text(names, name))
 }
 
-/// Puts a text, and a name behind it.
+/// Puts a text, and a name after it.
 pub(crate) fn put_named(
     out: &mut String,
     names: &Names,
@@ -43,7 +43,7 @@ pub(crate) fn put_count(out: &mut String, count: u64) -> Result<(), Memory>
     Ok(())
 }
 
-/// Puts a text, and a count behind it.
+/// Puts a text, and a count after it.
 pub(crate) fn put_counted(out: &mut String, text: &str, count: u64) -> Result<(), Memory>
     ensures { OnOk result (string_bytes out.new ≡ string_bytes out.old ++ (text.now ++ decimal count)) }
 {

@@ -34,7 +34,7 @@ fn put_row(out: &mut String, names: &Names, row: &Row) -> Result<(), Memory>
     put_optional(out, names, &row.1)
 }
 
-// Puts each row behind a comma.
+// Puts each row after a comma.
 fn put_rest(out: &mut String, names: &Names, rows: &[Row]) -> Result<(), Memory>
     ensures { OnOk result (string_bytes out.new ≡ string_bytes out.old ++ behind_commas (row_text names.now) rows.now) }
 {
@@ -92,7 +92,7 @@ fn put_part(out: &mut String, names: &Names, part: &(Name, Answer)) -> Result<()
     put_answer(out, names, &part.1)
 }
 
-// Puts each part behind a comma.
+// Puts each part after a comma.
 fn put_more_parts(out: &mut String, names: &Names, parts: &[(Name, Answer)]) -> Result<(), Memory>
     ensures { OnOk result (string_bytes out.new ≡ string_bytes out.old ++ behind_commas (part_text names.now) (map folio_row_of parts.now)) }
 {
@@ -138,7 +138,7 @@ fn put_total(out: &mut String, names: &Names, total: &Option<Option<Value>>) -> 
     }
 }
 
-// Puts what a contract's residual is, how many events it stands behind, and whether it may end or was ended.
+// Puts what a contract's residual is, how many events it stands after, and whether it may end or was ended.
 fn put_shown(
     out: &mut String,
     names: &Names,

@@ -33,7 +33,7 @@ fn put_event(out: &mut String, names: &Names, event: &Event) -> Result<(), Memor
     put_day(out, event.day)
 }
 
-// Puts each name behind a comma.
+// Puts each name after a comma.
 fn put_rest(out: &mut String, names: &Names, listed: &[Name]) -> Result<(), Memory>
     ensures { OnOk result (string_bytes out.new ≡ string_bytes out.old ++ behind_commas (name_text names.now) listed.now) }
 {

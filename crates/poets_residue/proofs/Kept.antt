@@ -1,28 +1,26 @@
 -- What the normal forms and the parts of a contract have, its residuals have.
-use Rattle.std.proofs.Common.{◌≡◌, ℕ, zero, suc, Bool, true, false, List, [], Option, Some, None, inl, inr, if◌then◌else◌, refl, sym, ◌∙◌, subst}
+use Rattle.std.proofs.Common.{◌≡◌, ℕ, zero, suc, Bool, true, false, List, [], Option, Some, None, inl, inr, if◌then◌else◌, refl, sym, subst}
 use Rattle.poets_value.specs.declared.value.Name.{Name}
 use Rattle.poets_value.specs.declared.event.Event.{Event}
 use Rattle.poets_expr.specs.Expression.{Expression}
 use Rattle.poets_expr.specs.Val.{val}
-use Rattle.poets_expr.specs.Subst.{Givens}
 use Rattle.poets_syntax.specs.declared.term.Binders.{Binders}
 use Rattle.poets_syntax.specs.Contract.{Contract, Success, Failure, Transmit, Plus, Par, Seq, App}
 use Rattle.poets_syntax.specs.Book.{Definitions, Definition, template_in, taken}
-use Rattle.poets_syntax.specs.Replace.{without, replace}
+use Rattle.poets_syntax.specs.Replace.{replace}
 use Rattle.poets_syntax.specs.Marks.{Marks, AreRight, nullable}
 use Rattle.poets_syntax.specs.Normal.{normal, par, seq}
 use Rattle.poets_syntax.specs.WellFormed.{IsWellFormed, IsDeclaredEvent, AreWellFormed}
 use Rattle.poets_syntax.specs.Residual.{event_givens, argument_givens, is_true, after_by, after_at, body_of}
-use Rattle.poets_syntax.proofs.Replacing.{args_count}
 use Rattle.poets_syntax.proofs.Givens.{HaveDeclaredNames-event, HaveDeclaredNames-arguments}
 use Rattle.poets_syntax.proofs.WellFormedness.{IsWellFormed-replace}
-use Rattle.poets_norm.specs.Laws.{CountsFit}
+use Rattle.poets_syntax.specs.Applied.{CountsFit}
 use Rattle.poets_norm.proofs.Parts.{IsOfParts, kept_by_plus, kept_by_par, kept_by_seq, FailureOr, IsKeptOrFailure}
 use Rattle.poets_norm.proofs.WellFormedness.{IsWellFormed-of_parts, IsWellFormed-normal}
-use Rattle.poets_norm.proofs.Counts.{CountsFit-of_parts, CountsFit-normal}
+use Rattle.poets_norm.proofs.Counts.{CountsFit-of_parts, CountsFit-normal, CountsFit-replace}
 use Rattle.poets_norm.proofs.Hope.{IsHopefulThroughout, IsFailureOrHopeful, IsHopefulThroughout-kept, IsFailureOrHopeful-normal}
 use Rattle.poets_norm.proofs.NormalForms.{IsBuilt, IsBuilt-kept, built-normal}
-use Rattle.poets_residue.specs.Unfolding.{BodiesCountsFit}
+use Rattle.poets_syntax.specs.Applied.{BodiesCountsFit}
 
 -- nothing is left of `Failure`
 pub after_at-failure : (d : ℕ) (book : Definitions) (marks : Marks) (e : Event) → after_at d book marks e Failure ≡ Failure
@@ -91,15 +89,6 @@ IsWellFormed-after_at book marks formed e declared =
     (λ t q. IsWellFormed-body book marks t args (formed f t q) h))
 
 -- the numbers of arguments in residuals fit
-pub CountsFit-replace : (book : Definitions) (given : Givens) (c : Contract) → CountsFit book c → CountsFit book (replace given c)
-CountsFit-replace book given Success h = tt
-CountsFit-replace book given Failure h = tt
-CountsFit-replace book given (Transmit b p c) h = CountsFit-replace book (without b given) c h
-CountsFit-replace book given (Plus a b) h = (CountsFit-replace book given a h.0, CountsFit-replace book given b h.1)
-CountsFit-replace book given (Par a b) h = (CountsFit-replace book given a h.0, CountsFit-replace book given b h.1)
-CountsFit-replace book given (Seq a b) h = (CountsFit-replace book given a h.0, CountsFit-replace book given b h.1)
-CountsFit-replace book given (App f args) h = λ t q. h t q ∙ sym (args_count given args)
-
 pub CountsFit-body : (book : Definitions) (marks : Marks) → BodiesCountsFit book → (f : Name) (args : List Expression) →
     CountsFit book (body_of book marks (template_in book.templates f) args)
 CountsFit-body book marks fit f args = of_body book marks (CountsFit book) tt (template_in book.templates f) args

@@ -1,8 +1,12 @@
+pub mod Studies
 pub mod Kept
 pub mod WholeResiduals
-pub mod Nullables
 pub mod Following
 pub mod Relation
 pub mod Unfoldings
 pub mod Traces
-pub mod NoTemplates
+pub mod Equations
+pub mod Widths
+pub mod Joined
+pub mod Arguments
+pub mod StudiedExample

@@ -13,7 +13,8 @@ use Rattle.poets_syntax.specs.Normal.{normal}
 use Rattle.poets_syntax.specs.WellFormed.{IsWellFormed, IsDeclaredEvent}
 use Rattle.poets_syntax.specs.Residual.{after, residual_after}
 use Rattle.poets_syntax.proofs.Granting.{May-Perf, Perf-May}
-use Rattle.poets_norm.specs.Laws.{CountsFit}
+use Rattle.poets_syntax.proofs.Unfolded.{unfolds-guarded}
+use Rattle.poets_syntax.specs.Applied.{CountsFit}
 use Rattle.poets_norm.proofs.Meaning.{normal_in, normal_out}
 use Rattle.poets_norm.proofs.WellFormedness.{IsWellFormed-normal}
 use Rattle.poets_norm.proofs.Counts.{CountsFit-normal}
@@ -56,7 +57,7 @@ module _ (book : Definitions) (marks : Marks) (study : IsStudied book marks) whe
   pub Follows-after : (e : Event) → IsDeclaredEvent book.declared e → (c : Contract) → IsWellFormed book.declared c → CountsFit book c →
       Follows book e c (after book marks e c)
   Follows-after e declared c h k =
-      Follows-after_at book marks study.right e declared study.formed (length book.templates) c (study.unfolds c h k) h
+      Follows-after_at book marks study.right e declared study.formed (length book.templates) c (unfolds-guarded book marks study.right study.guarded study.fit c k) h
 
   through_out : (s : List Event) (c : Contract) → IsWellFormed book.declared c → CountsFit book c → All (IsDeclaredEvent book.declared) s →
       (s' : List Event) (n : ℕ) → May book [] (through c s) s' n → May book [] c (s ++ s') n

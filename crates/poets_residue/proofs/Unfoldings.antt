@@ -13,13 +13,13 @@ use Rattle.poets_syntax.specs.WellFormed.{IsWellFormed, IsDeclaredEvent, AreWell
 use Rattle.poets_syntax.specs.Residual.{After, is_true, after_by, after_at, body_of}
 use Rattle.poets_syntax.specs.Exposed.{EachExposed}
 use Rattle.poets_syntax.proofs.Replacing.{truth}
-use Rattle.poets_syntax.proofs.Nullability.{nullable_in, true_holds, false_fails, EachExposed-weaker}
+use Rattle.poets_syntax.proofs.Nullability.{nullable_in, nullable_performed, true_holds, false_fails, EachExposed-weaker}
 use Rattle.poets_residue.specs.Unfolding.{UnfoldsWithin}
 use Rattle.poets_residue.proofs.Kept.{IsWellFormed-body, after_at-failure}
-use Rattle.poets_residue.proofs.Nullables.{FitsTemplate, nullable_performed}
+use Rattle.poets_syntax.specs.Applied.{FitsTemplate}
 use Rattle.poets_residue.proofs.Following.{Follows, Follows-success, Follows-failure, Follows-taken, Follows-refused, Follows-plus, Follows-par, Follows-over, Follows-seq, Follows-body, Follows-none}
 
-found : (o : Option Definition) → (o ≡ None) ⊎ ((t : Definition) × o ≡ Some t)
+pub found : (o : Option Definition) → (o ≡ None) ⊎ ((t : Definition) × o ≡ Some t)
 found None = inl refl
 found (Some t) = inr (t, refl)
 

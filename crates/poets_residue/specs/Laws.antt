@@ -2,17 +2,25 @@
 use Rattle.std.specs.Prelude.{◌≡◌, ◌≢◌, ℕ, List, [], ◌∷◌, ◌++◌, All, ◌↔◌}
 use Rattle.poets_value.specs.declared.event.Event.{Event}
 use Rattle.poets_value.specs.Whole.{IsWholeEvent, IsWholeTrace}
-use Rattle.poets_syntax.specs.Contract.{Contract, Failure}
-use Rattle.poets_syntax.specs.Book.{Definitions}
+use Rattle.poets_value.specs.declared.value.Name.{Name}
+use Rattle.poets_expr.specs.Expression.{Expression}
+use Rattle.poets_syntax.specs.declared.studied.Mark.{Mark}
+use Rattle.poets_syntax.specs.Contract.{Contract, Failure, App}
+use Rattle.poets_syntax.specs.Book.{Definitions, template_in}
 use Rattle.poets_syntax.specs.Whole.{IsWholeContract, AreWholeDefinitions}
 use Rattle.poets_syntax.specs.Perf.{Perf}
 use Rattle.poets_syntax.specs.May.{May}
 use Rattle.poets_syntax.specs.Marks.{Marks, AreRight}
 use Rattle.poets_syntax.specs.Normal.{normal}
 use Rattle.poets_syntax.specs.WellFormed.{IsWellFormed, IsDeclaredEvent, AreWellFormed}
-use Rattle.poets_syntax.specs.Residual.{After, after_at, residual_after}
-use Rattle.poets_norm.specs.Laws.{CountsFit}
+use Rattle.poets_syntax.specs.Residual.{After, after_at, after, body_of, residual_after}
+use Rattle.poets_syntax.specs.Applied.{CountsFit, BodiesCountsFit}
+use Rattle.poets_syntax.specs.Studied.{marks_in, IsStudiedBook}
 use Rattle.poets_residue.specs.Unfolding.{UnfoldsWithin, IsStudied}
+
+-- a book that was studied meets what these laws ask
+abbrev pub StudiedBooks : Type 0
+StudiedBooks = (book : Definitions) (marks : List Mark) → IsStudiedBook book marks → IsStudied book (marks_in book.templates marks)
 
 -- the residual is performed by what may follow the event
 abbrev pub ResidualFollows : Type 0
@@ -35,6 +43,12 @@ ResidualAt = (d : ℕ) (book : Definitions) (marks : Marks) (e : Event) (c : Con
     AreRight book marks → AreWellFormed book → IsDeclaredEvent book.declared e → IsWellFormed book.declared c →
     UnfoldsWithin d book marks c → May book [] (after_at d book marks e c) s n ↔ May book [] c (e ∷ s) n
 
+-- in a guarded book an application leaves what its body leaves
+abbrev pub ResidualOfApplication : Type 0
+ResidualOfApplication = (book : Definitions) (marks : Marks) (e : Event) (f : Name) (args : List Expression) →
+    IsStudied book marks → CountsFit book (App f args) →
+    after book marks e (App f args) ≡ after book marks e (body_of book marks (template_in book.templates f) args)
+
 -- it is well-formed
 abbrev pub ResidualWellFormed : Type 0
 ResidualWellFormed = (book : Definitions) (marks : Marks) (e : Event) (c r : Contract) →
@@ -43,6 +57,11 @@ ResidualWellFormed = (book : Definitions) (marks : Marks) (e : Event) (c r : Con
 abbrev pub ResidualAtWellFormed : Type 0
 ResidualAtWellFormed = (d : ℕ) (book : Definitions) (marks : Marks) (e : Event) (c : Contract) →
     AreWellFormed book → IsDeclaredEvent book.declared e → IsWellFormed book.declared c → IsWellFormed book.declared (after_at d book marks e c)
+
+-- the numbers of arguments in it fit
+abbrev pub ResidualAtCountsFit : Type 0
+ResidualAtCountsFit = (d : ℕ) (book : Definitions) (marks : Marks) (e : Event) (c : Contract) →
+    BodiesCountsFit book → CountsFit book c → CountsFit book (after_at d book marks e c)
 
 -- of a normal form it is a normal form
 abbrev pub ResidualAtNormal : Type 0

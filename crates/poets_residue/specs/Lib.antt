@@ -1,3 +1,3 @@
 pub mod Unfolding
 pub mod Laws
-pub mod PlainLaws
+pub mod Examples

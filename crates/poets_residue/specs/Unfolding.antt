@@ -1,19 +1,14 @@
--- How often the templates of a contract are unfolded before an event is met.
-use Rattle.std.specs.Prelude.{◌≡◌, ℕ, zero, suc, length, Some, None}
-use Rattle.poets_value.specs.declared.value.Name.{Name}
-use Rattle.poets_syntax.specs.Contract.{Contract}
-use Rattle.poets_syntax.specs.Book.{Definitions, Definition, template_in}
+-- What the laws of residuals ask of a book.
+use Rattle.poets_syntax.specs.Book.{Definitions}
 use Rattle.poets_syntax.specs.Marks.{Marks, AreRight}
-use Rattle.poets_syntax.specs.WellFormed.{IsWellFormed, AreWellFormed}
-use Rattle.poets_syntax.specs.Residual.{body_of}
+use Rattle.poets_syntax.specs.WellFormed.{AreWellFormed}
+use Rattle.poets_syntax.specs.Guarded.{IsGuarded}
 pub use Rattle.poets_syntax.specs.Exposed.{UnfoldsWithin}
 pub use Rattle.poets_syntax.specs.Applied.{BodiesCountsFit}
-use Rattle.poets_norm.specs.Laws.{CountsFit}
 
--- what a study of the book shows: the marks are right, the bodies are well-formed and fit,
--- and no more unfoldings than templates stand in a row
+-- the marks are right, the bodies of the templates are well-formed and their applications fit, and the book is guarded
 pub record IsStudied (book : Definitions) (marks : Marks) : Type 0 where
   pub right : AreRight book marks
   pub formed : AreWellFormed book
   pub fit : BodiesCountsFit book
-  pub unfolds : (c : Contract) → IsWellFormed book.declared c → CountsFit book c → UnfoldsWithin (length book.templates) book marks c
+  pub guarded : IsGuarded book

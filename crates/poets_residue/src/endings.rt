@@ -1,28 +1,42 @@
 //! Contracts that may end.
 ghost use Rattle.std.specs.Prelude.{◌≡◌, ◌↔◌, IsTrue, []};
-ghost use Rattle.poets_expr.specs.Env.{Declared};
+ghost use Rattle.poets_syntax.specs.Applied.{CountsFit};
+ghost use Rattle.poets_syntax.specs.Book.{definitions_of};
 ghost use Rattle.poets_syntax.specs.Contract.{contract_of};
 ghost use Rattle.poets_syntax.specs.Marks.{nullable as nullable_lem};
 ghost use Rattle.poets_syntax.specs.Perf.{Perf};
-ghost use Rattle.poets_syntax.specs.Plain.{plain, no_marks};
+ghost use Rattle.poets_syntax.specs.Studied.{marks_of};
 
-use poets_syntax::Term;
+use poets_norm::template_of;
+use poets_syntax::{Studied, Term};
+use poets_value::Name;
 
-/// Whether the empty trace performs the contract, in a book without templates.
-pub fn may_end(term: &Term) -> bool
-    ensures { (declared : Declared) → IsTrue result ↔ Perf (plain declared) [] (contract_of term.now) [] }
+/// Whether the empty trace performs the contract.
+pub fn may_end(studied: &Studied, term: &Term) -> bool
+    requires { CountsFit (definitions_of studied.now.book) (contract_of term.now) }
+    ensures { IsTrue result ↔ Perf (definitions_of studied.now.book) [] (contract_of term.now) [] }
 {
-    nullable(term)
+    // The marks are right.
+    let _book = studied.book();
+    nullable(studied, term)
 }
 
-// Whether the forms of the contract let it end.
-pub(crate) fn nullable(term: &Term) -> bool
-    ensures { result ≡ nullable_lem no_marks (contract_of term.now) }
+// Whether the mark of the template says that its body may end.
+fn is_marked(studied: &Studied, name: Name) -> bool
+    ensures { result ≡ (marks_of studied.now).nullable name }
+{
+    template_of(studied, name).is_some_and(|(_, mark)| mark.nullable)
+}
+
+// Whether the forms of the contract and the marks of its templates let it end.
+pub(crate) fn nullable(studied: &Studied, term: &Term) -> bool
+    ensures { result ≡ nullable_lem (marks_of studied.now) (contract_of term.now) }
 {
     match term {
         Term::Success => true,
-        Term::Failure | Term::Transmit { .. } | Term::App { .. } => false,
-        Term::Plus(a, b) => nullable(a) || nullable(b),
-        Term::Par(a, b) | Term::Seq(a, b) => nullable(a) && nullable(b),
+        Term::Failure | Term::Transmit { .. } => false,
+        Term::Plus(a, b) => nullable(studied, a) || nullable(studied, b),
+        Term::Par(a, b) | Term::Seq(a, b) => nullable(studied, a) && nullable(studied, b),
+        Term::App { name, .. } => is_marked(studied, *name),
     }
 }

@@ -1,6 +1,10 @@
 //! The laws of residuals, each carried by a function that does nothing.
-ghost use Rattle.poets_residue.specs.Laws.{ResidualFollows, ResidualOne, ResidualIs, ResidualAt, ResidualWellFormed, ResidualAtWellFormed, ResidualAtNormal, ResidualAtWhole, TraceFollowed, TracePerformed, TraceHopeless, TraceHopeful, TraceWellFormed, TraceNormal, TraceWhole};
-ghost use Rattle.poets_residue.specs.PlainLaws.{PlainStudied, PlainResidual, PlainTraceFollowed, PlainTracePerformed, PlainTraceHopeless, PlainTraceHopeful};
+ghost use Rattle.poets_residue.specs.Laws.{StudiedBooks, ResidualFollows, ResidualOne, ResidualIs, ResidualAt, ResidualOfApplication, ResidualWellFormed, ResidualAtWellFormed, ResidualAtCountsFit, ResidualAtNormal, ResidualAtWhole, TraceFollowed, TracePerformed, TraceHopeless, TraceHopeful, TraceWellFormed, TraceNormal, TraceWhole};
+
+/// A studied book meets the premises of these laws.
+pub fn studied_books()
+    ensures { StudiedBooks }
+{}
 
 /// The residual is performed by what may follow the event.
 pub fn residual_follows()
@@ -22,10 +26,17 @@ pub fn residual_at()
     ensures { ResidualAt }
 {}
 
+/// In a guarded book an application leaves what its body leaves.
+pub fn residual_of_application()
+    ensures { ResidualOfApplication }
+{}
+
 /// The residual of a well-formed contract is well-formed, that of a normal form a normal form, and that of a whole contract whole.
+/// Where the numbers of arguments fit, they fit in the residual.
 pub fn residual_well_formed()
     ensures formed { ResidualWellFormed }
     ensures formed_at { ResidualAtWellFormed }
+    ensures fit_at { ResidualAtCountsFit }
     ensures normal_at { ResidualAtNormal }
     ensures whole_at { ResidualAtWhole }
 {}
@@ -47,22 +58,4 @@ pub fn trace_well_formed()
     ensures formed { TraceWellFormed }
     ensures normal { TraceNormal }
     ensures whole { TraceWhole }
-{}
-
-/// A book without templates meets the premises of these laws.
-pub fn plain_studied()
-    ensures { PlainStudied }
-{}
-
-/// The law of residuals in a book without templates.
-pub fn plain_residual()
-    ensures { PlainResidual }
-{}
-
-/// The laws of traces in a book without templates.
-pub fn plain_traces()
-    ensures may { PlainTraceFollowed }
-    ensures performed { PlainTracePerformed }
-    ensures hopeless { PlainTraceHopeless }
-    ensures hopeful { PlainTraceHopeful }
 {}

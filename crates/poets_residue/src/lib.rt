@@ -1,6 +1,7 @@
 //! Residuals of contracts by events.
 #![tactic(auto)]
 
+mod bodies;
 mod endings;
 pub mod laws;
 mod residuals;

@@ -1,22 +1,26 @@
 //! Residuals.
 ghost use Rattle.std.specs.Prelude.{◌≡◌, ◌+◌, ◌≤◌, IfOk, IsTrue, reverse, []};
-ghost use Rattle.poets_expr.specs.Env.{Declared, declared_of};
+ghost use Rattle.poets_expr.specs.Env.{declared_of};
 ghost use Rattle.poets_expr.specs.Expression.{expression_of};
 ghost use Rattle.poets_expr.specs.Val.{val};
-ghost use Rattle.poets_syntax.specs.Book.{taken};
-ghost use Rattle.poets_syntax.specs.Contract.{contract_of};
+ghost use Rattle.poets_syntax.specs.Applied.{CountsFit};
+ghost use Rattle.poets_syntax.specs.Book.{definitions_of, taken};
+ghost use Rattle.poets_syntax.specs.Contract.{contract_of, Transmit};
 ghost use Rattle.poets_syntax.specs.Normal.{plus as plus_lem, par as par_lem, seq as seq_lem, normal as normal_lem};
-ghost use Rattle.poets_syntax.specs.Plain.{plain, no_marks};
 ghost use Rattle.poets_syntax.specs.Replace.{replace};
 ghost use Rattle.poets_syntax.specs.Residual.{event_givens as event_givens_lem, after, is_true};
-ghost use Rattle.poets_syntax.specs.Width.{width};
+ghost use Rattle.poets_syntax.specs.Studied.{marks_of};
+ghost use Rattle.poets_syntax.specs.Width.{size, width};
 ghost use Rattle.poets_value.specs.declared.event.Event.{Event as TheEvent};
 ghost use Rattle.poets_norm.specs.Choices.{distinct_choice as distinct_choice_lem, IsDistinctChoice};
+ghost use Rattle.poets_norm.specs.Questions.{questions};
+ghost use Rattle.poets_residue.specs.Unfolding.{IsStudied};
 
+use crate::bodies::unfold;
 use crate::endings::nullable;
 use poets_expr::{Asks, Decls, Env, Expr, Given, eval};
-use poets_norm::{distinct_choice, merge, normal, par, plus, seq};
-use poets_syntax::{Binders, Term, copy, subst};
+use poets_norm::{distinct_choice, merge, normal, par, plus, seq, template_of};
+use poets_syntax::{Binders, Studied, Term, copy, subst};
 use poets_value::{Event, Memory, Name, Ty, Value};
 use std::alloc::Global;
 
@@ -78,15 +82,13 @@ fn holds<L>(
     }
 }
 
-// Whether the residuals of the contract are choices of those of its parts, and so of distinct alternatives.
-fn is_joined(term: &Term) -> bool
-    ensures { IsTrue result → (declared : Declared) (e : TheEvent) → IsDistinctChoice (after (plain declared) no_marks e (contract_of term.now)) }
+// Whether the residuals of the contract are known to be choices of distinct alternatives.
+fn is_joined(studied: &Studied, term: &Term) -> bool
+    ensures { IsTrue result → (e : TheEvent) → IsDistinctChoice (after (definitions_of studied.now.book) (marks_of studied.now) e (contract_of term.now)) }
 {
     match term {
-        Term::Plus(..) => true,
-        Term::Par(..) => true,
-        Term::Seq(a, _) => nullable(a),
-        _ => false,
+        Term::Seq(a, _) => nullable(studied, a),
+        _ => true,
     }
 }
 
@@ -141,64 +143,108 @@ fn in_first(alloc: Global, after_a: Term, b: &Term) -> Result<Term, Memory>
 }
 
 // What a transmission that took the event leads to.
-fn taken_on(
+fn taken_on<L>(
     alloc: Global,
-    decls: &Decls,
+    studied: &Studied,
     binders: &Binders,
     then: &Term,
     event: &Event,
+    asks: &mut Asks<L>,
 ) -> Result<Term, Memory>
-    ensures { IfOk result (λ r. contract_of r ≡ normal_lem (plain (declared_of decls.now.names)) no_marks (replace (event_givens_lem binders.now event.now) (contract_of then.now))) }
+    ensures residual { IfOk result (λ r. contract_of r ≡ normal_lem (definitions_of studied.now.book) (marks_of studied.now) (replace (event_givens_lem binders.now event.now) (contract_of then.now))) }
+    ensures rises { asks.old ≤ asks.new }
+    ensures asks { asks.new ≤ asks.old + questions (contract_of then.now) }
 {
     let replaced = subst(alloc, then, &event_givens(binders, event))?;
-    normal(alloc, decls, &replaced)
+    normal(alloc, studied, &replaced, asks)
 }
 
-/// The residual of a contract by an event, in a book without templates, where nothing performs an application.
-/// It asks each predicate that could take the event at most once.
-pub fn residual<L>(
+// The residual of a transmission.
+fn after_transmit<L>(
     alloc: Global,
-    decls: &Decls,
+    studied: &Studied,
+    binders: &Binders,
+    when: &Expr,
+    then: &Term,
+    event: &Event,
+    asks: &mut Asks<L>,
+) -> Result<Term, Memory>
+    ensures residual { IfOk result (λ r. contract_of r ≡ after (definitions_of studied.now.book) (marks_of studied.now) event.now (Transmit binders.now (expression_of when.now) (contract_of then.now))) }
+    ensures rises { asks.old ≤ asks.new }
+    ensures asks { asks.new ≤ asks.old + questions (Transmit binders.now (expression_of when.now) (contract_of then.now)) }
+{
+    if !holds(&studied.book().decls, binders, when, event, asks) {
+        return Ok(Term::Failure);
+    }
+    taken_on(alloc, studied, binders, then, event, asks)
+}
+
+// The residual. What the contract asks counts, and the width of the bodies that it exposes.
+fn residual_of<L>(
+    alloc: Global,
+    studied: &Studied,
     term: &Term,
     event: &Event,
     asks: &mut Asks<L>,
 ) -> Result<Term, Memory>
-    ensures residual { IfOk result (λ r. contract_of r ≡ after (plain (declared_of decls.now.names)) no_marks event.now (contract_of term.now)) }
+    requires studied { IsStudied (definitions_of studied.now.book) (marks_of studied.now) }
+    requires fits { CountsFit (definitions_of studied.now.book) (contract_of term.now) }
+    ensures residual { IfOk result (λ r. contract_of r ≡ after (definitions_of studied.now.book) (marks_of studied.now) event.now (contract_of term.now)) }
     ensures rises { asks.old ≤ asks.new }
-    ensures asks { asks.new ≤ asks.old + width (plain (declared_of decls.now.names)) no_marks (contract_of term.now) }
+    ensures asks { asks.new + size (contract_of term.now) ≤ asks.old + questions (contract_of term.now) + width (definitions_of studied.now.book) (marks_of studied.now) (contract_of term.now) }
 {
     match term {
-        Term::Success => Ok(Term::Failure),
-        Term::Failure => Ok(Term::Failure),
+        Term::Success | Term::Failure => Ok(Term::Failure),
         Term::Transmit {
             binders,
             when,
             then,
-        } => {
-            if !holds(decls, binders, when, event, asks) {
-                return Ok(Term::Failure);
-            }
-            taken_on(alloc, decls, binders, then, event)
-        }
+        } => after_transmit(alloc, studied, binders, when, then, event, asks),
         Term::Plus(a, b) => {
-            let after_a = residual(alloc, decls, a, event, asks)?;
-            let after_b = residual(alloc, decls, b, event, asks)?;
-            either(alloc, after_a, is_joined(a), after_b, is_joined(b))
+            let after_a = residual_of(alloc, studied, a, event, asks)?;
+            let after_b = residual_of(alloc, studied, b, event, asks)?;
+            let is_a_known = is_joined(studied, a);
+            either(alloc, after_a, is_a_known, after_b, is_joined(studied, b))
         }
         Term::Par(a, b) => {
-            let after_a = residual(alloc, decls, a, event, asks)?;
-            let after_b = residual(alloc, decls, b, event, asks)?;
+            let after_a = residual_of(alloc, studied, a, event, asks)?;
+            let after_b = residual_of(alloc, studied, b, event, asks)?;
             either_side(alloc, a, b, after_a, after_b)
         }
         Term::Seq(a, b) => {
-            let after_a = residual(alloc, decls, a, event, asks)?;
+            let after_a = residual_of(alloc, studied, a, event, asks)?;
             let first = in_first(alloc, after_a, b)?;
-            if !nullable(a) {
+            if !nullable(studied, a) {
                 return Ok(first);
             }
-            let after_b = residual(alloc, decls, b, event, asks)?;
-            either(alloc, first, false, after_b, is_joined(b))
+            let after_b = residual_of(alloc, studied, b, event, asks)?;
+            either(alloc, first, false, after_b, is_joined(studied, b))
         }
-        Term::App { .. } => Ok(Term::Failure),
+        Term::App { name, args } => {
+            let Some((template, _)) = template_of(studied, *name) else {
+                return Ok(Term::Failure);
+            };
+            let body = unfold(alloc, studied, template, args.as_slice(), asks)?;
+            residual_of(alloc, studied, &body, event, asks)
+        }
     }
+}
+
+/// The residual of a contract by an event.
+/// It asks each predicate that could take the event, and each argument that it meets, at most once.
+pub fn residual<L>(
+    alloc: Global,
+    studied: &Studied,
+    term: &Term,
+    event: &Event,
+    asks: &mut Asks<L>,
+) -> Result<Term, Memory>
+    requires { CountsFit (definitions_of studied.now.book) (contract_of term.now) }
+    ensures residual { IfOk result (λ r. contract_of r ≡ after (definitions_of studied.now.book) (marks_of studied.now) event.now (contract_of term.now)) }
+    ensures rises { asks.old ≤ asks.new }
+    ensures asks { asks.new ≤ asks.old + width (definitions_of studied.now.book) (marks_of studied.now) (contract_of term.now) }
+{
+    // The book is checked and guarded, and the marks are right.
+    let _book = studied.book();
+    residual_of(alloc, studied, term, event, asks)
 }

@@ -1,151 +1,256 @@
-//! Residuals worked out by hand, and each call once with memory.
+//! Residuals in a book of one template, worked out by hand, and each call once with memory.
+ghost use Rattle.std.specs.Prelude.{◌≡◌, ◌∷◌, [], IfOk};
+ghost use Rattle.poets_expr.specs.Expression.{expression_of};
+ghost use Rattle.poets_syntax.specs.Applied.{CountsFit};
+ghost use Rattle.poets_syntax.specs.Book.{definition_of, definitions_of};
+ghost use Rattle.poets_syntax.specs.Contract.{contract_of, App};
+ghost use Rattle.poets_residue.specs.Examples.{of_amount as of_amount_lem, one_more as one_more_lem, counting as counting_lem, marks as marks_lem};
 
 use crate::{may_end, residual};
 use poets_expr::{Asks, Decls, Expr, Op, build as make};
-use poets_syntax::{Binders, Term, build, same};
+use poets_syntax::{Binders, Book, Mark, Param, Studied, Template, Term, build, same};
 use poets_value::{Day, Event, List, Memory, Name, Resource, Ty};
 use std::alloc::Global;
 use std::collections::BTreeMap;
 
-const ANN: Name = Name { id: 0 };
+const F: Name = Name { id: 0 };
 
-const BOB: Name = Name { id: 1 };
+const N: Name = Name { id: 1 };
 
-const OIL: Name = Name { id: 2 };
-
-const USD: Name = Name { id: 3 };
-
-const A: Name = Name { id: 4 };
-
-const R: Name = Name { id: 6 };
+const R: Name = Name { id: 4 };
 
 // The binders (a, b, r, t).
 const BINDERS: Binders = Binders {
-    sender: A,
-    receiver: Name { id: 5 },
+    sender: Name { id: 2 },
+    receiver: Name { id: 3 },
     what: R,
-    day: Name { id: 7 },
+    day: Name { id: 5 },
 };
 
-// The agents ann and bob, and the kinds Oil and USD.
-fn declared(alloc: Global) -> Result<Decls, Memory> {
-    let names = BTreeMap::from_array(
-        alloc,
-        [
-            (ANN, Ty::Agent),
-            (BOB, Ty::Agent),
-            (OIL, Ty::Kind),
-            (USD, Ty::Kind),
-        ],
-    )?;
-    Ok(Decls { names })
+const ANN: Name = Name { id: 6 };
+
+const BOB: Name = Name { id: 7 };
+
+const OIL: Name = Name { id: 8 };
+
+// transmit(a, b, r, t | amount(r) = number). then
+fn of_amount(alloc: Global, number: Expr, then: Term) -> Result<Term, Memory>
+    ensures { IfOk result (λ c. contract_of c ≡ of_amount_lem BINDERS (expression_of number) (contract_of then)) }
+{
+    let found = Expr::Amount(make::boxed(alloc, Expr::Name(R))?);
+    let found = make::boxed(alloc, found)?;
+    let when = Expr::Op(Op::Eq, found, make::boxed(alloc, number)?);
+    build::transmit(alloc, BINDERS, when, then)
 }
 
-// Ann gives bob one of the kind.
-fn given(kind: Name) -> Event {
+// number + 1
+fn one_more(alloc: Global, number: Expr) -> Result<Expr, Memory>
+    ensures { IfOk result (λ e. expression_of e ≡ one_more_lem (expression_of number)) }
+{
+    let number = make::boxed(alloc, number)?;
+    Ok(Expr::Op(Op::Add, number, make::boxed(alloc, Expr::Int(1))?))
+}
+
+// f(number)
+fn counted(alloc: Global, number: Expr) -> Result<Term, Memory>
+    ensures contract { IfOk result (λ c. contract_of c ≡ App F (expression_of number ∷ [])) }
+    ensures fits { IfOk result (λ c. CountsFit (counting_lem BINDERS F N) (contract_of c)) }
+{
+    let mut args = List::new(alloc);
+    build::push(&mut args, number)?;
+    Ok(Term::App { name: F, args })
+}
+
+// template f(n : Int) = Success + (transmit(a, b, r, t | amount(r) = n). f(n + 1));;
+fn template(alloc: Global) -> Result<Template, Memory>
+    ensures { IfOk result (λ t. definition_of t ∷ [] ≡ (counting_lem BINDERS F N).templates) }
+{
+    let mut params = List::new(alloc);
+    let number = Param {
+        name: N,
+        ty: Ty::Int,
+    };
+    build::push(&mut params, number)?;
+    let next = counted(alloc, one_more(alloc, Expr::Name(N))?)?;
+    let step = of_amount(alloc, Expr::Name(N), next)?;
+    let body = build::plus(alloc, Term::Success, step)?;
+    Ok(Template {
+        name: F,
+        params,
+        body,
+    })
+}
+
+fn book(alloc: Global) -> Result<Book, Memory>
+    ensures { IfOk result (λ b. definitions_of b ≡ counting_lem BINDERS F N) }
+{
+    let mut templates = List::new(alloc);
+    build::push(&mut templates, template(alloc)?)?;
+    let decls = Decls {
+        names: BTreeMap::new(alloc),
+    };
+    Ok(Book { decls, templates })
+}
+
+fn marks(alloc: Global) -> Result<List<Mark>, Memory>
+    ensures { IfOk result (λ r. r.items ≡ marks_lem) }
+{
+    let mut marks = List::new(alloc);
+    let mark = Mark {
+        nullable: true,
+        hopeful: true,
+        wide: 11,
+    };
+    build::push(&mut marks, mark)?;
+    Ok(marks)
+}
+
+fn studied(alloc: Global) -> Result<Studied, Memory>
+    ensures { IfOk result (λ s. definitions_of s.book ≡ counting_lem BINDERS F N) }
+{
+    let book = book(alloc)?;
+    Ok(Studied::of(book, marks(alloc)?))
+}
+
+// Ann gives bob so much.
+fn given(amount: i64) -> Event {
     let Some(day) = Day::from_number(13_149) else {
         unreachable!();
     };
     Event {
         sender: ANN,
         receiver: BOB,
-        what: Resource { kind, amount: 1 },
+        what: Resource { kind: OIL, amount },
         day,
     }
 }
 
-// transmit(a, b, r, t | kind(r) = kind). then
-fn of_kind(alloc: Global, kind: Name, then: Term) -> Result<Term, Memory> {
-    let found = Expr::KindOf(make::boxed(alloc, Expr::Name(R))?);
-    let found = make::boxed(alloc, found)?;
-    let when = Expr::Op(Op::Eq, found, make::boxed(alloc, Expr::Name(kind))?);
-    build::transmit(alloc, BINDERS, when, then)
+// The residual by an event of that amount, and how much was asked.
+fn after(alloc: Global, term: &Term, amount: i64) -> Result<(Term, u64), Memory>
+    requires { CountsFit (counting_lem BINDERS F N) (contract_of term.now) }
+    ensures { IfOk result (λ r. CountsFit (counting_lem BINDERS F N) (contract_of r.0)) }
+{
+    let studied = studied(alloc)?;
+    let mut asks = Asks::new(());
+    let left = residual(alloc, &studied, term, &given(amount), &mut asks)?;
+    Ok((left, asks.count()))
 }
 
-fn oil(alloc: Global, then: Term) -> Result<Term, Memory> {
-    of_kind(alloc, OIL, then)
+// Whether the contract may end.
+fn ends(alloc: Global, term: &Term) -> Result<bool, Memory>
+    requires { CountsFit (counting_lem BINDERS F N) (contract_of term.now) }
+{
+    Ok(may_end(&studied(alloc)?, term))
 }
 
-fn usd(alloc: Global, then: Term) -> Result<Term, Memory> {
-    of_kind(alloc, USD, then)
+// transmit(a, b, r, t | amount(r) = 5). Success
+fn five(alloc: Global) -> Result<Term, Memory>
+    ensures { IfOk result (λ c. CountsFit (counting_lem BINDERS F N) (contract_of c)) }
+{
+    of_amount(alloc, Expr::Int(5), Term::Success)
 }
 
-// The residual by an event of that kind.
-fn after(alloc: Global, term: &Term, kind: Name) -> Result<Term, Memory> {
-    let decls = declared(alloc)?;
-    residual(alloc, &decls, term, &given(kind), &mut Asks::new(()))
+// f(first) || f(second)
+fn beside(alloc: Global, first: i64, second: i64) -> Result<Term, Memory>
+    ensures { IfOk result (λ c. CountsFit (counting_lem BINDERS F N) (contract_of c)) }
+{
+    let first = counted(alloc, Expr::Int(first))?;
+    build::par(alloc, first, counted(alloc, Expr::Int(second))?)
 }
 
-// O. Success || O. U. Success
-fn side_by_side(alloc: Global) -> Result<Term, Memory> {
-    let left = oil(alloc, Term::Success)?;
-    let then = usd(alloc, Term::Success)?;
-    build::par(alloc, left, oil(alloc, then)?)
-}
-
-// O. U. Success + O. Success || U. Success
-fn either_taken(alloc: Global) -> Result<Term, Memory> {
-    let then = usd(alloc, Term::Success)?;
-    let first = oil(alloc, then)?;
-    let left = oil(alloc, Term::Success)?;
-    let second = build::par(alloc, left, usd(alloc, Term::Success)?)?;
-    build::plus(alloc, first, second)
+// f(number) ; (transmit(a, b, r, t | amount(r) = 5). Success)
+fn before_five(alloc: Global, number: i64) -> Result<Term, Memory>
+    ensures { IfOk result (λ c. CountsFit (counting_lem BINDERS F N) (contract_of c)) }
+{
+    let first = counted(alloc, Expr::Int(number))?;
+    build::seq(alloc, first, five(alloc)?)
 }
 
 #[test]
-fn either_side_may_take_the_event(rt: HostRuntime) -> Result<(), Memory> {
-    let contract = side_by_side(rt.alloc())?;
-    let left = after(rt.alloc(), &contract, OIL)?;
-    let wanted = either_taken(rt.alloc())?;
+fn a_recursive_template_counts_on(rt: HostRuntime) -> Result<(), Memory> {
+    let contract = counted(rt.alloc(), Expr::Int(1))?;
+    let (left, asked) = after(rt.alloc(), &contract, 1)?;
+    let wanted = counted(rt.alloc(), Expr::Int(2))?;
     assert!(rt; same(&left, &wanted));
-    assert!(rt; !may_end(&left));
+    // The argument 1 + 1 in the body, and the predicate.
+    assert_eq!(rt; asked, 2);
     Ok(())
 }
 
 #[test]
-fn the_last_event_leaves_success(rt: HostRuntime) -> Result<(), Memory> {
-    let contract = oil(rt.alloc(), Term::Success)?;
-    assert!(rt; !may_end(&contract));
-    let left = after(rt.alloc(), &contract, OIL)?;
-    assert!(rt; matches!(left, Term::Success));
-    assert!(rt; may_end(&left));
+fn an_argument_is_asked_once(rt: HostRuntime) -> Result<(), Memory> {
+    let sum = one_more(rt.alloc(), Expr::Int(1))?;
+    let contract = counted(rt.alloc(), sum)?;
+    let (left, asked) = after(rt.alloc(), &contract, 2)?;
+    let wanted = counted(rt.alloc(), Expr::Int(3))?;
+    assert!(rt; same(&left, &wanted));
+    // The argument 1 + 1, the argument 2 + 1 in the body, and the predicate.
+    assert_eq!(rt; asked, 3);
     Ok(())
 }
 
 #[test]
 fn a_refused_event_leaves_failure(rt: HostRuntime) -> Result<(), Memory> {
-    let contract = side_by_side(rt.alloc())?;
-    let left = after(rt.alloc(), &contract, USD)?;
+    let contract = beside(rt.alloc(), 1, 2)?;
+    let (left, asked) = after(rt.alloc(), &contract, 3)?;
     assert!(rt; matches!(left, Term::Failure));
-    assert!(rt; !may_end(&left));
-    Ok(())
-}
-
-// (O. Success || O. U. Success) ; U. Success
-fn in_sequence(alloc: Global) -> Result<Term, Memory> {
-    let first = side_by_side(alloc)?;
-    build::seq(alloc, first, usd(alloc, Term::Success)?)
-}
-
-#[test]
-fn each_predicate_is_asked_once(rt: HostRuntime) -> Result<(), Memory> {
-    let decls = declared(rt.alloc())?;
-    let mut asks = Asks::new(());
-    // The second part of `;` is not asked where the first may not end.
-    let contract = in_sequence(rt.alloc())?;
-    residual(rt.alloc(), &decls, &contract, &given(OIL), &mut asks)?;
-    assert_eq!(rt; asks.count(), 2);
+    assert!(rt; !ends(rt.alloc(), &left)?);
+    // Of each side the argument in the body, and the predicate.
+    assert_eq!(rt; asked, 4);
     Ok(())
 }
 
 #[test]
-fn without_templates_an_application_takes_nothing(rt: HostRuntime) -> Result<(), Memory> {
+fn either_side_may_take_the_event(rt: HostRuntime) -> Result<(), Memory> {
+    let contract = beside(rt.alloc(), 1, 1)?;
+    let (left, _) = after(rt.alloc(), &contract, 1)?;
+    let first = beside(rt.alloc(), 2, 1)?;
+    let wanted = build::plus(rt.alloc(), first, beside(rt.alloc(), 1, 2)?)?;
+    assert!(rt; same(&left, &wanted));
+    assert!(rt; ends(rt.alloc(), &left)?);
+    Ok(())
+}
+
+#[test]
+fn an_event_passes_a_first_part_that_may_end(rt: HostRuntime) -> Result<(), Memory> {
+    let contract = before_five(rt.alloc(), 1)?;
+    assert!(rt; !ends(rt.alloc(), &contract)?);
+    let (left, asked) = after(rt.alloc(), &contract, 5)?;
+    assert!(rt; matches!(left, Term::Success));
+    assert!(rt; ends(rt.alloc(), &left)?);
+    // The argument in the body, and both predicates.
+    assert_eq!(rt; asked, 3);
+    Ok(())
+}
+
+#[test]
+fn the_first_part_may_go_on(rt: HostRuntime) -> Result<(), Memory> {
+    let contract = before_five(rt.alloc(), 1)?;
+    let (left, _) = after(rt.alloc(), &contract, 1)?;
+    let wanted = before_five(rt.alloc(), 2)?;
+    assert!(rt; same(&left, &wanted));
+    Ok(())
+}
+
+#[test]
+fn a_second_part_that_is_not_next_is_not_asked(rt: HostRuntime) -> Result<(), Memory> {
+    let first = five(rt.alloc())?;
+    let contract = build::seq(rt.alloc(), first, five(rt.alloc())?)?;
+    let (left, asked) = after(rt.alloc(), &contract, 5)?;
+    let wanted = five(rt.alloc())?;
+    assert!(rt; same(&left, &wanted));
+    assert_eq!(rt; asked, 1);
+    Ok(())
+}
+
+#[test]
+fn without_a_template_an_application_takes_nothing(rt: HostRuntime) -> Result<(), Memory> {
     let applied = Term::App {
-        name: A,
+        name: N,
         args: List::new(rt.alloc()),
     };
-    assert!(rt; !may_end(&applied));
-    let left = after(rt.alloc(), &applied, OIL)?;
+    assert!(rt; !ends(rt.alloc(), &applied)?);
+    let (left, _) = after(rt.alloc(), &applied, 1)?;
     assert!(rt; matches!(left, Term::Failure));
     Ok(())
 }

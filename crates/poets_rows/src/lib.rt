@@ -2,6 +2,22 @@
 #![tactic(auto)]
 
 #[cfg(test)]
+mod books;
+#[cfg(test)]
+mod limits;
+#[cfg(test)]
 mod names;
 #[cfg(test)]
+mod owed;
+#[cfg(test)]
+mod program;
+#[cfg(test)]
+mod refusals;
+#[cfg(test)]
 mod sessions;
+#[cfg(test)]
+mod steps;
+#[cfg(test)]
+mod streams;
+#[cfg(test)]
+mod templates;

@@ -1,11 +1,11 @@
 -- Tokens cut into statements.
-use Rattle.std.proofs.Common.{◌≡◌, ◌≢◌, ℕ, suc, ◌+◌, ◌<◌, ◌≤◌, true, false, List, [], ◌∷◌, ◌++◌, map, length, take, drop, get_or, All, refl, sym, ap, subst, ◌∙◌, arith}
+use Rattle.std.proofs.Common.{◌≡◌, ◌≢◌, ℕ, suc, ◌+◌, ◌<◌, ◌≤◌, true, false, List, [], ◌∷◌, ◌++◌, length, take, drop, get_or, refl, sym, ap, subst, ◌∙◌, arith}
 use Rattle.std.proofs.Math.Seq.{take-suc, drop-cons}
 use Rattle.std.proofs.lemmas.List.{take-append-drop, take_all, map-append}
 use Rattle.poets_lex.specs.declared.token.Tok.{Tok}
 use Rattle.poets_lex.specs.declared.token.Token.{Token}
 use Rattle.poets_grammar.specs.Tokens.{toks}
-use Rattle.poets_session.specs.Pieces.{Piece, pieces_of, with_token, is_end}
+use Rattle.poets_session.specs.Pieces.{pieces_of, is_end}
 use Rattle.poets_session.specs.Splitting.{piece}
 
 -- none of the tokens ends a statement
@@ -28,12 +28,12 @@ pieces_unended (x ∷ y ∷ ts) n (Next f h) = rw (f, pieces_unended (y ∷ ts) 
 
 -- ---- in the list of tokens
 
--- the tokens up to a place, the token there, and those behind it
+-- the tokens up to a place, the token there, and those after it
 pub toks_at : (l : List Token) (i : ℕ) (t : Token) → i < length l → t ≡ get_or l i t → toks l ≡ toks (take i l) ++ t.what ∷ toks (drop (i + 1) l)
 toks_at l i t h e =
-    let behind : drop i l ≡ t ∷ drop (suc i) l = drop-cons l i t h ∙ ap (λ x. x ∷ drop (suc i) l) (sym e) in
+    let after : drop i l ≡ t ∷ drop (suc i) l = drop-cons l i t h ∙ ap (λ x. x ∷ drop (suc i) l) (sym e) in
     let suc_is : suc i ≡ i + 1 = omega arith in
-    sym (ap toks (take-append-drop i l)) ∙ map-append (λ t. t.what) (take i l) (drop i l) ∙ ap (λ r. toks (take i l) ++ toks r) (behind ∙ ap (λ n. t ∷ drop n l) suc_is)
+    sym (ap toks (take-append-drop i l)) ∙ map-append (λ t. t.what) (take i l) (drop i l) ∙ ap (λ r. toks (take i l) ++ toks r) (after ∙ ap (λ n. t ∷ drop n l) suc_is)
 
 pub ahead_more : (l : List Token) (i : ℕ) (t : Token) → i < length l → t ≡ get_or l i t → AreInside (toks (take i l)) → is_end t.what ≡ false → AreInside (toks (take (i + 1) l))
 ahead_more l i t h e inside f =

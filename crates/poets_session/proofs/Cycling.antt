@@ -1,12 +1,10 @@
 -- The statement that declares the first template of a cycle.
-use Rattle.std.proofs.Common.{◌≡◌, ℕ, zero, suc, ◌+◌, ◌<◌, ◌≤◌, true, false, Bool, List, [], ◌∷◌, ◌++◌, ◌⊎◌, inl, inr, Some, None, All, map, length, get_or, slice_get, option_map, refl, sym, ap, subst, ◌∙◌, arith}
+use Rattle.std.proofs.Common.{◌≡◌, ℕ, suc, ◌+◌, ◌<◌, true, false, List, [], ◌∷◌, ◌++◌, inr, Some, None, All, length, get_or, slice_get, option_map, refl, sym, ap, subst, ◌∙◌, arith}
 use Rattle.std.specs.List.{flat_map}
 use Rattle.std.proofs.lemmas.Option.{none-some, slice_get-map, slice_get-get_or}
 use Rattle.std.proofs.lemmas.List.Elements.{All-head, All-tail}
 use Rattle.poets_expr.proofs.SameTrees.{name_one}
-use Rattle.poets_syntax.specs.Marks.{BodyIs}
 use Rattle.poets_value.specs.declared.value.Name.{Name}
-use Rattle.poets_expr.specs.Env.{same_name}
 use Rattle.poets_syntax.specs.Book.{Definition, Definitions, template_in}
 use Rattle.poets_syntax.specs.Guarded.{IsPath, IsCycle, UnguardedEdge}
 use Rattle.poets_guard.specs.FirstCycle.{IsFirstCycle}
@@ -18,12 +16,12 @@ use Rattle.poets_call.specs.Declarations.{template_in_statement, book_of}
 use Rattle.poets_call.specs.declared.statement.Statement.{Statement}
 use Rattle.poets_session.specs.Checking.{declares, IsGuardRefusal}
 use Rattle.poets_session.specs.Refusals.{Unguarded, IsTemplateAt}
-use Rattle.poets_session.specs.Causes.{Tells, first_name, refusal_of}
+use Rattle.poets_session.specs.Causes.{IsCauseOf}
 use Rattle.poets_session.specs.declared.fault.SessionCause.TheVariants as C
 use Rattle.poets_value.specs.Listed.{Listed}
 
 -- a sentence that declares the template
-at_sentence : (statements : List Sentence) (place : ℕ) (name : Name) (s : Sentence) → slice_get statements place ≡ Some s → declares name s ≡ true → IsTemplateAt statements (suc place) name
+pub at_sentence : (statements : List Sentence) (place : ℕ) (name : Name) (s : Sentence) → slice_get statements place ≡ Some s → declares name s ≡ true → IsTemplateAt statements (suc place) name
 at_sentence statements place name (Template t) e d = record { place = place; template = t; counted = refl; stands = e; named = name_one t.name name d }
 at_sentence statements place name (Agents names) e d = absurd cc
 at_sentence statements place name (Kinds names) e d = absurd cc
@@ -40,7 +38,7 @@ template_at l i s name h e d =
     subst (λ n. IsTemplateAt (sentences_of l) n name) suc_is (at_sentence (sentences_of l) i name (sentence_of s) found d)
 
 -- no statement declares the template
-not_declared : (name : Name) (s : Sentence) (rest : List Definition) → declares name s ≡ false → template_in (template_in_statement s ++ rest) name ≡ template_in rest name
+pub not_declared : (name : Name) (s : Sentence) (rest : List Definition) → declares name s ≡ false → template_in (template_in_statement s ++ rest) name ≡ template_in rest name
 not_declared name (Template t) rest d = rw d refl
 not_declared name (Agents names) rest d = refl
 not_declared name (Kinds names) rest d = refl
@@ -61,7 +59,7 @@ from_first : (Edge : Name → Name → Type 0) (from : Name) (names : List Name)
 from_first Edge from [] goal h = (goal, h)
 from_first Edge from (f ∷ names) goal h = (f, h.0)
 
-first_declared : (statements : List Sentence) (f : Name) (others : List Name) → IsCycle (UnguardedEdge (book_of statements)) (f ∷ others) → (t : Definition) × (template_in (book_of statements).templates f ≡ Some t)
+pub first_declared : (statements : List Sentence) (f : Name) (others : List Name) → IsCycle (UnguardedEdge (book_of statements)) (f ∷ others) → (t : Definition) × (template_in (book_of statements).templates f ≡ Some t)
 first_declared statements f others h = let e = from_first (UnguardedEdge (book_of statements)) f others f h in (e.1.0, e.1.1)
 
 first_is : (cycle : List Name) (f x : Name) (others : List Name) → slice_get cycle 0 ≡ Some x → cycle ≡ f ∷ others → f ≡ x
@@ -75,14 +73,13 @@ cycle_declared l cycle x h e none =
     none-some t.0 (sym (none_declared x l none) ∙ ap (template_in (book_of (sentences_of l)).templates) (sym same) ∙ t.1)
 
 pub cycle_told : (statements : List Sentence) (number : ℕ) (cycle : Listed Name) (x : Name) → IsFirstCycle (book_of statements) cycle.items → slice_get cycle.items 0 ≡ Some x →
-    IsTemplateAt statements number x → Tells (IsGuardRefusal statements) (C.Guard number (G.Unguarded cycle))
+    IsTemplateAt statements number x → IsCauseOf (IsGuardRefusal statements) (C.Guard number (G.Unguarded cycle))
 cycle_told statements number cycle x h e at =
     let same = first_is cycle.items h.first x h.others e h.begins in
-    let begins = h.begins ∙ ap (λ f. f ∷ h.others) same in
     inr (
-      Unguarded number x,
-      ap (λ c. option_map (Unguarded number) (first_name c)) begins,
-      record { number = number; template = x; others = h.others; told = refl; cycle = subst (IsFirstCycle (book_of statements)) begins h; declared = at },
+      Unguarded number cycle.items,
+      refl,
+      record { number = number; cycle = cycle.items; told = refl; found = h; declared = subst (IsTemplateAt statements number) (sym same) at },
     )
 
 pub unguarded_cycle : (book book' : Definitions) (fault : GuardFault) (cycle : Listed Name) → book ≡ book' → fault ≡ G.Unguarded cycle → IsFaultOf book fault → IsFirstCycle book' cycle.items

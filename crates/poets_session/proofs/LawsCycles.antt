@@ -1,20 +1,20 @@
 -- The first cycle of a book, and the statement that declares its first template.
-use Rattle.std.proofs.Common.{◌≡◌, ℕ, zero, suc, ◌+◌, Bool, true, false, List, [], ◌∷◌, ◌++◌, All, Some, None, refl, sym, ap, subst, ◌∙◌}
-use Rattle.std.specs.Prelude.{◌||◌, slice_get, if◌then◌else◌}
+use Rattle.std.proofs.Common.{◌≡◌, ℕ, zero, suc, ◌+◌, true, false, List, [], ◌∷◌, ◌++◌, All, Some, None, refl, sym, ap, subst, ◌∙◌}
+use Rattle.std.specs.Prelude.{slice_get}
 use Rattle.std.proofs.lemmas.Bool.{or_parts}
 use Rattle.std.proofs.lemmas.List.Elements.{All-head, All-tail}
 use Rattle.std.proofs.lemmas.List.Folds.{list_any-append}
 use Rattle.poets_value.specs.declared.value.Name.{Name}
 use Rattle.poets_expr.specs.Env.{same_name}
 use Rattle.poets_syntax.specs.Book.{Definition, Definitions}
-use Rattle.poets_syntax.specs.Guarded.{UnguardedEdge}
-use Rattle.poets_syntax.specs.TypeOf.{Twice, Checked, Passes, Fails}
+use Rattle.poets_syntax.specs.Guarded.{IsCycle, UnguardedEdge}
 use Rattle.poets_syntax.specs.Typed.{is_among, check_new}
 use Rattle.poets_guard.specs.FirstCycle.{LiesOnCycle, IsFirstCycle}
+use Rattle.poets_types.proofs.CheckedBooks.{or_else-none, check_new-one}
 use Rattle.poets_types.proofs.Scopes.{same_name_laws}
 use Rattle.poets_call.specs.Sentences.{Sentence, Template}
 use Rattle.poets_call.specs.Declarations.{names_declared, book_of, reports_of}
-use Rattle.poets_call.specs.TypedSentences.{FirstFault, or_else, twice_from, mistyped_from, first_of, first_fault}
+use Rattle.poets_call.specs.TypedSentences.{NumberedFault, twice_from, mistyped_from, first_of, first_fault}
 use Rattle.poets_session.specs.Refusals.{IsTemplateAt}
 
 -- ---- the first template on a cycle
@@ -28,36 +28,26 @@ first_once P [] (z ∷ back) x y rest others e h k m n =
 first_once P (z ∷ front) [] x y rest others e h k m n =
     let same : y ≡ z = cc in absurd (All-head (λ z. ¬ (P z)) z front m (subst P same k))
 first_once P (z ∷ front) (w ∷ back) x y rest others e h k m n =
-    let behind : front ++ x ∷ rest ≡ back ++ y ∷ others = cc in
-    first_once P front back x y rest others behind h k (All-tail (λ z. ¬ (P z)) z front m) (All-tail (λ z. ¬ (P z)) w back n)
+    let after : front ++ x ∷ rest ≡ back ++ y ∷ others = cc in
+    first_once P front back x y rest others after h k (All-tail (λ z. ¬ (P z)) z front m) (All-tail (λ z. ¬ (P z)) w back n)
 
-pub cycle_begins_once : (book : Definitions) (f g : Name) (fs gs : List Name) → IsFirstCycle book (f ∷ fs) → IsFirstCycle book (g ∷ gs) → f ≡ g
-cycle_begins_once book f g fs gs h k =
-    let a : f ≡ h.first = (let e = h.begins in cc) in
-    let b : g ≡ k.first = (let e = k.begins in cc) in
-    let P : Name → Type 0 = λ x. LiesOnCycle (UnguardedEdge book) x in
-    let same = first_once P h.earlier k.earlier h.first k.first h.later k.later (sym h.split ∙ k.split)
-    (subst P a (fs, h.is_cycle)) (subst P b (gs, k.is_cycle)) h.none k.none in
-    a ∙ same ∙ sym b
+-- its first template lies on it
+first_on_cycle : {book : Definitions} {cycle : List Name} (h : IsFirstCycle book cycle) → LiesOnCycle (UnguardedEdge book) h.first
+first_on_cycle {book = book} h = (h.others, subst (IsCycle (UnguardedEdge book)) h.begins h.is_cycle)
+
+pub cycle_begins_once : {book : Definitions} {cycle other : List Name} (h : IsFirstCycle book cycle) (k : IsFirstCycle book other) → h.first ≡ k.first
+cycle_begins_once {book = book} h k =
+    first_once (LiesOnCycle (UnguardedEdge book)) h.earlier k.earlier h.first k.first h.later k.later (sym h.split ∙ k.split) (first_on_cycle h) (first_on_cycle k) h.none k.none
 
 -- ---- templates whose names stand once
 
--- no fault at the first statement, and none after it
-none_at : (check : Checked (Unit {0})) (n : ℕ) (others : FirstFault) → or_else check n others ≡ None → (check ≡ Passes tt) × (others ≡ None)
-none_at (Passes _) n others e = (refl, e)
-none_at (Fails f) n others e = absurd cc
-
-not_taken : (b : Bool) (x : Name) (next : Checked (Unit {0})) → (if b || false then Fails (Twice x) else next) ≡ Passes tt → b ≡ false
-not_taken true x next e = absurd cc
-not_taken false x next e = refl
-
--- none behind the first statement
-none_behind :
+-- none after the first statement
+none_after :
     (n : ℕ) (earlier : List Name) (s : Sentence) (statements : List Sentence) → twice_from n earlier (s ∷ statements) ≡ None →
     twice_from (n + 1) (names_declared s ++ earlier) statements ≡ None
-none_behind n earlier s statements e = (none_at (check_new (is_among earlier) [] (names_declared s)) n (twice_from (n + 1) (names_declared s ++ earlier) statements) e).1
+none_after n earlier s statements e = (or_else-none (check_new (is_among earlier) [] (names_declared s)) n (twice_from (n + 1) (names_declared s ++ earlier) statements) e).1
 
-first_none : (first later : FirstFault) → first_of first later ≡ None → first ≡ None
+first_none : (first later : NumberedFault) → first_of first later ≡ None → first ≡ None
 first_none None later e = refl
 first_none (Some fault) later e = absurd cc
 
@@ -69,20 +59,20 @@ new_at n earlier [] place t e h = absurd cc
 new_at n earlier (s ∷ statements) zero t e h =
     let is : s ≡ Template t = cc in
     let none : twice_from n earlier (Template t ∷ statements) ≡ None = subst (λ (x : Sentence). twice_from n earlier (x ∷ statements) ≡ None) is e in
-    not_taken (is_among earlier t.name) t.name (Passes tt)
-    (none_at (check_new (is_among earlier) [] (t.name ∷ [])) n (twice_from (n + 1) (t.name ∷ earlier) statements) none).0
+    check_new-one (is_among earlier) t.name
+    (or_else-none (check_new (is_among earlier) [] (t.name ∷ [])) n (twice_from (n + 1) (t.name ∷ earlier) statements) none).0
 new_at n earlier (s ∷ statements) (suc place) t e h =
     let names = names_declared s in
-    let new = new_at (n + 1) (names ++ earlier) statements place t (none_behind n earlier s statements e) h in
+    let new = new_at (n + 1) (names ++ earlier) statements place t (none_after n earlier s statements e) h in
     (or_parts (is_among names t.name) (is_among earlier t.name) (sym (list_any-append (same_name t.name) names earlier) ∙ new)).1
 
--- no template behind another has its name
+-- no template after another has its name
 not_again :
     (n : ℕ) (earlier : List Name) (s : Sentence) (statements : List Sentence) (place : ℕ) (t u : Definition) → twice_from n earlier (s ∷ statements) ≡ None →
     Some s ≡ Some (Template t) → slice_get statements place ≡ Some (Template u) → t.name ≡ u.name → ⊥
 not_again n earlier s statements place t u e h k same =
     let is : s ≡ Template t = cc in
-    let later = new_at (n + 1) (names_declared s ++ earlier) statements place u (none_behind n earlier s statements e) k in
+    let later = new_at (n + 1) (names_declared s ++ earlier) statements place u (none_after n earlier s statements e) k in
     let new : is_among (t.name ∷ earlier) u.name ≡ false = subst (λ (x : Sentence). is_among (names_declared x ++ earlier) u.name ≡ false) is later in
     let apart : same_name u.name t.name ≡ false = (or_parts (same_name u.name t.name) (is_among earlier u.name) new).0 in
     let one : same_name u.name t.name ≡ true = subst (λ x. same_name u.name x ≡ true) (sym same) (same_name_laws.refl u.name) in
@@ -96,7 +86,7 @@ declared_once n earlier (s ∷ statements) zero zero t u e h k same = refl
 declared_once n earlier (s ∷ statements) zero (suc j) t u e h k same = absurd (not_again n earlier s statements j t u e h k same)
 declared_once n earlier (s ∷ statements) (suc i) zero t u e h k same = absurd (not_again n earlier s statements i u t e k h (sym same))
 declared_once n earlier (s ∷ statements) (suc i) (suc j) t u e h k same =
-    ap suc (declared_once (n + 1) (names_declared s ++ earlier) statements i j t u (none_behind n earlier s statements e) h k same)
+    ap suc (declared_once (n + 1) (names_declared s ++ earlier) statements i j t u (none_after n earlier s statements e) h k same)
 
 -- where no name stands twice, one statement declares a template
 pub template_at_once : (statements : List Sentence) (m n : ℕ) (f : Name) → first_fault statements ≡ None → IsTemplateAt statements m f → IsTemplateAt statements n f → m ≡ n

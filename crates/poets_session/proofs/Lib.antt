@@ -3,9 +3,11 @@ pub mod Cutting
 pub mod Saying
 pub mod Typing
 pub mod Cycling
-pub mod Natural
 pub mod Scripting
 pub mod Refusing
 pub mod LawsSaid
 pub mod LawsCycles
 pub mod LawsRefused
+pub mod LawsEveryLexed
+pub mod LawsEvery
+pub mod LawsFitting

@@ -1,5 +1,5 @@
 -- Statements one by one, each in its place.
-use Rattle.std.proofs.Common.{◌≡◌, ℕ, suc, ◌+◌, ◌<◌, ◌≤◌, true, false, List, [], ◌∷◌, ◌++◌, Some, None, map, length, take, drop, get_or, not, is_some, fold, refl, sym, ap, subst, ◌∙◌, arith, append-nil, option_and_then}
+use Rattle.std.proofs.Common.{◌≡◌, ℕ, suc, ◌+◌, ◌<◌, ◌≤◌, true, false, List, [], ◌∷◌, ◌++◌, Some, None, length, take, drop, get_or, refl, sym, ap, subst, ◌∙◌, arith, option_and_then}
 use Rattle.std.proofs.Math.Seq.{take-suc, drop-cons}
 use Rattle.std.proofs.lemmas.List.{map-append, length-map, length-take-le, take_all, drop_all}
 use Rattle.std.proofs.lemmas.List.Sums.{fold-append}
@@ -9,56 +9,56 @@ use Rattle.poets_session.specs.declared.form.Form.{Form}
 use Rattle.poets_session.specs.declared.counting.Part.{Part}
 use Rattle.poets_session.specs.declared.counting.Counts.{Counts}
 use Rattle.poets_session.specs.Places as P
-use Rattle.poets_session.specs.Places.{part_with, part_behind, is_misplaced, is_too_many, lacks_journal, Misplaced, TooMany, PlaceFault, place_fault, place_fault_behind}
+use Rattle.poets_session.specs.Places.{next_part, part_after, is_misplaced, is_too_many, lacks_journal, Misplaced, TooMany, PlaceFault, place_fault, place_fault_after}
 use Rattle.poets_session.specs.Counting.{part_of, AreCounted}
 
 -- the statements before may stand in their places and are not too many, and the rest decides
 pub record Placed (form : Form) (statements : List Sentence) (part : Part) (counts : Counts) (before rest : List Sentence) : Type 0 where
-  pub fault : place_fault_behind form before rest ≡ place_fault form statements
-  pub behind : part_behind form before ≡ Some (part_of part)
+  pub fault : place_fault_after form before rest ≡ place_fault form statements
+  pub after : part_after form before ≡ Some (part_of part)
   pub counting : AreCounted before counts
 
-pub part_more : (form : Form) (before : List Sentence) (s : Sentence) (p : P.Part) → part_behind form before ≡ Some p → part_behind form (before ++ s ∷ []) ≡ part_with form p s
-part_more form before s p e = fold-append (λ part s. option_and_then (λ p. part_with form p s) part) (Some P.OfBook) before (s ∷ []) ∙ ap (option_and_then (λ p. part_with form p s)) e
+pub part_more : (form : Form) (before : List Sentence) (s : Sentence) (p : P.Part) → part_after form before ≡ Some p → part_after form (before ++ s ∷ []) ≡ next_part form p s
+part_more form before s p e = fold-append (λ part s. option_and_then (λ p. next_part form p s) part) (Some P.OfBook) before (s ∷ []) ∙ ap (option_and_then (λ p. next_part form p s)) e
 
-pub may_stand : (form : Form) (before : List Sentence) (s : Sentence) (p next : P.Part) → part_behind form before ≡ Some p → part_with form p s ≡ Some next → is_misplaced form before s ≡ false
+pub may_stand : (form : Form) (before : List Sentence) (s : Sentence) (p next : P.Part) → part_after form before ≡ Some p → next_part form p s ≡ Some next → is_misplaced form before s ≡ false
 may_stand form before s p next e f = rw (part_more form before s p e, f) refl
 
-pub may_not_stand : (form : Form) (before : List Sentence) (s : Sentence) (p : P.Part) → part_behind form before ≡ Some p → part_with form p s ≡ None → is_misplaced form before s ≡ true
+pub may_not_stand : (form : Form) (before : List Sentence) (s : Sentence) (p : P.Part) → part_after form before ≡ Some p → next_part form p s ≡ None → is_misplaced form before s ≡ true
 may_not_stand form before s p e f = rw (part_more form before s p e, f) refl
 
 pub placed_more :
     (form : Form) (statements : List Sentence) (part next : Part) (counts more : Counts) (before rest : List Sentence) (s : Sentence) →
-    Placed form statements part counts before (s ∷ rest) → Some (part_of next) ≡ part_with form (part_of part) s → is_too_many before s ≡ false →
+    Placed form statements part counts before (s ∷ rest) → Some (part_of next) ≡ next_part form (part_of part) s → is_too_many before s ≡ false →
     AreCounted (before ++ s ∷ []) more → Placed form statements next more (before ++ s ∷ []) rest
 placed_more form statements part next counts more before rest s p e f counted = record {
-  fault = sym (rw (may_stand form before s (part_of part) (part_of next) p.behind (sym e), f) refl) ∙ p.fault;
-  behind = part_more form before s (part_of part) p.behind ∙ sym e;
+  fault = sym (rw (may_stand form before s (part_of part) (part_of next) p.after (sym e), f) refl) ∙ p.fault;
+  after = part_more form before s (part_of part) p.after ∙ sym e;
   counting = counted;
 }
 
 pub misplaced :
     (form : Form) (statements : List Sentence) (part : Part) (counts : Counts) (before rest : List Sentence) (s : Sentence) →
-    Placed form statements part counts before (s ∷ rest) → None ≡ part_with form (part_of part) s → place_fault form statements ≡ Some (Misplaced (length before + 1))
+    Placed form statements part counts before (s ∷ rest) → None ≡ next_part form (part_of part) s → place_fault form statements ≡ Some (Misplaced (length before + 1))
 misplaced form statements part counts before rest s p e =
-    sym p.fault ∙ rw (may_not_stand form before s (part_of part) p.behind (sym e)) refl
+    sym p.fault ∙ rw (may_not_stand form before s (part_of part) p.after (sym e)) refl
 
 pub too_many :
     (form : Form) (statements : List Sentence) (part next : Part) (counts : Counts) (before rest : List Sentence) (s : Sentence) →
-    Placed form statements part counts before (s ∷ rest) → Some (part_of next) ≡ part_with form (part_of part) s → is_too_many before s ≡ true →
+    Placed form statements part counts before (s ∷ rest) → Some (part_of next) ≡ next_part form (part_of part) s → is_too_many before s ≡ true →
     place_fault form statements ≡ Some (TooMany (length before + 1))
 too_many form statements part next counts before rest s p e f =
-    sym p.fault ∙ rw (may_stand form before s (part_of part) (part_of next) p.behind (sym e), f) refl
+    sym p.fault ∙ rw (may_stand form before s (part_of part) (part_of next) p.after (sym e), f) refl
 
 pub at_end :
     (form : Form) (statements : List Sentence) (part : Part) (counts : Counts) (before : List Sentence) →
     Placed form statements part counts before [] → lacks_journal form (Some (part_of part)) ≡ false → place_fault form statements ≡ None
-at_end form statements part counts before p e = sym p.fault ∙ rw (p.behind, e) refl
+at_end form statements part counts before p e = sym p.fault ∙ rw (p.after, e) refl
 
 pub journal_missing :
     (form : Form) (statements : List Sentence) (part : Part) (counts : Counts) (before : List Sentence) →
     Placed form statements part counts before [] → lacks_journal form (Some (part_of part)) ≡ true → place_fault form statements ≡ Some (Misplaced (length before + 1))
-journal_missing form statements part counts before p e = sym p.fault ∙ rw (p.behind, e) refl
+journal_missing form statements part counts before p e = sym p.fault ∙ rw (p.after, e) refl
 
 -- ---- places in the list of statements
 

@@ -1,5 +1,5 @@
 -- What the statements of a text say, one by one.
-use Rattle.std.proofs.Common.{◌≡◌, ℕ, arith, suc, true, false, ◌+◌, List, [], ◌∷◌, ◌++◌, ◌==◌, ◌⊎◌, inl, inr, map, length, refl, sym, ap, subst, ◌∙◌, append-nil}
+use Rattle.std.proofs.Common.{◌≡◌, ℕ, arith, suc, true, false, ◌+◌, List, [], ◌∷◌, ◌++◌, ◌==◌, inl, inr, length, refl, sym, ap, subst, ◌∙◌, append-nil}
 use Rattle.std.proofs.lemmas.Bool.Decides.{nat_tests}
 use Rattle.std.specs.List.{AllZip}
 use Rattle.std.proofs.lemmas.List.{append_assoc}
@@ -15,58 +15,58 @@ use Rattle.poets_session.specs.declared.fault.SessionCause.TheVariants as C
 use Rattle.poets_lex.specs.declared.token.Token.{Token}
 use Rattle.poets_grammar.specs.Tokens.{toks}
 use Rattle.poets_session.specs.Pieces.{Piece, pieces_of}
-use Rattle.poets_session.specs.Sessions.{Says}
-use Rattle.poets_session.specs.Refusals.{Refusal, TooDeep, NoSentence, IsUnread, IsStopped}
-use Rattle.poets_session.specs.Causes.{Tells, refusal_of, syntax_cause}
+use Rattle.poets_session.specs.Sessions.{IsStatement}
+use Rattle.poets_session.specs.Refusals.{TooDeep, NoSentence, IsUnread, IsStopped}
+use Rattle.poets_session.specs.Causes.{IsCauseOf, syntax_cause}
 use Rattle.poets_session.specs.declared.fault.SessionCause.{SessionCause}
 
 -- the pieces up to the rest say this
 pub record Standing (pieces rest : List Piece) (found : List Sentence) : Type 0 where
   pub front : List Piece
   pub cut : pieces ≡ front ++ rest
-  pub says : AllZip Says front found
+  pub says : AllZip IsStatement front found
 
 pub standing_first : (pieces : List Piece) → Standing pieces pieces []
 standing_first pieces = record { front = []; cut = refl; says = tt }
 
-pub standing_more : (pieces rest : List Piece) (p : Piece) (found : List Sentence) (s : Sentence) → Standing pieces (p ∷ rest) found → Says p s → Standing pieces rest (found ++ s ∷ [])
+pub standing_more : (pieces rest : List Piece) (p : Piece) (found : List Sentence) (s : Sentence) → Standing pieces (p ∷ rest) found → IsStatement p s → Standing pieces rest (found ++ s ∷ [])
 standing_more pieces rest p found s h say = record {
   front = h.front ++ p ∷ [];
   cut = h.cut ∙ sym (append_assoc h.front (p ∷ []) rest);
-  says = all_zipped_more Says h.front found p s h.says say;
+  says = all_zipped_more IsStatement h.front found p s h.says say;
 }
 
 -- as many statements as pieces
-same_number : (pieces : List Piece) (found : List Sentence) → AllZip Says pieces found → length found + 1 ≡ suc (length pieces)
+same_number : (pieces : List Piece) (found : List Sentence) → AllZip IsStatement pieces found → length found + 1 ≡ suc (length pieces)
 same_number [] [] h = refl
 same_number [] (s ∷ found) h = absurd h
 same_number (p ∷ pieces) [] h = absurd h
 same_number (p ∷ pieces) (s ∷ found) h = let e = same_number pieces found h.1 in omega (arith, e)
 
 pub standing_stops : (pieces rest : List Piece) (p : Piece) (found : List Sentence) (cause : SessionCause) → Standing pieces (p ∷ rest) found →
-    Tells (IsUnread p (length found + 1)) cause → Tells (IsStopped pieces) cause
+    IsCauseOf (IsUnread p (length found + 1)) cause → IsCauseOf (IsStopped pieces) cause
 standing_stops pieces rest p found cause h (inl e) = inl e
 standing_stops pieces rest p found cause h (inr (r, e, u)) =
     inr (r, e, record { front = h.front; said = found; piece = p; rest = rest; cut = h.cut; says = h.says; unread = subst (λ n. IsUnread p n r) (same_number h.front found h.says) u })
 
 -- ---- what cannot be read
 
-pub unended_deep : (ts : List Tok) → IsTooDeep ts → (number : ℕ) → Tells (IsUnread (piece ts false) number) (C.Syntax number F.TooDeep)
+pub unended_deep : (ts : List Tok) → IsTooDeep ts → (number : ℕ) → IsCauseOf (IsUnread (piece ts false) number) (C.Syntax number F.TooDeep)
 unended_deep ts h number = inr (TooDeep number, refl, IsUnread.IsDeep h)
 
-pub unended_none : (ts : List Tok) → ¬ (IsTooDeep ts) → (number : ℕ) → Tells (IsUnread (piece ts false) number) (C.Syntax number F.NoSentence)
-unended_none ts h number = inr (NoSentence number, refl, IsUnread.IsNone h (λ e. absurd cc))
+pub unended_none : (ts : List Tok) → ¬ (IsTooDeep ts) → (number : ℕ) → IsCauseOf (IsUnread (piece ts false) number) (C.Syntax number F.NoSentence)
+unended_none ts h number = inr (NoSentence number, refl, IsUnread.IsNoSentence h (λ e. absurd cc))
 
 pub tells_unread : (ts : List Tok) (number : ℕ) (fault : SyntaxFault) →
     (fault ≡ F.TooDeep → IsTooDeep ts) → (fault ≡ F.NoSentence → ¬ (IsTooDeep ts) × ((s : Sentence) → ¬ (IsSentence ts s))) →
-    Tells (IsUnread (piece ts true) number) (syntax_cause number fault)
+    IsCauseOf (IsUnread (piece ts true) number) (syntax_cause number fault)
 tells_unread ts number F.TooDeep deep none = inr (TooDeep number, refl, IsUnread.IsDeep (deep refl))
-tells_unread ts number F.NoSentence deep none = inr (NoSentence number, refl, IsUnread.IsNone (none refl).0 (λ _. (none refl).1))
+tells_unread ts number F.NoSentence deep none = inr (NoSentence number, refl, IsUnread.IsNoSentence (none refl).0 (λ _. (none refl).1))
 tells_unread ts number F.Memory deep none = inl refl
 
 -- nothing is left
-pub standing_end : (pieces rest : List Piece) (found : List Sentence) → Standing pieces rest found → rest ≡ [] → AllZip Says pieces found
-standing_end pieces rest found h e = subst (λ p. AllZip Says p found) (sym (h.cut ∙ ap (λ r. h.front ++ r) e ∙ append-nil h.front)) h.says
+pub standing_end : (pieces rest : List Piece) (found : List Sentence) → Standing pieces rest found → rest ≡ [] → AllZip IsStatement pieces found
+standing_end pieces rest found h e = subst (λ p. AllZip IsStatement p found) (sym (h.cut ∙ ap (λ r. h.front ++ r) e ∙ append-nil h.front)) h.says
 
 -- no tokens are no statements
 pub nothing_left : (l : List Token) → true ≡ (length l == 0) → pieces_of (toks l) ≡ []

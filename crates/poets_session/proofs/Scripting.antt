@@ -14,7 +14,7 @@ use Rattle.poets_call.specs.Sentences.{Sentence, Clerk, Command, Numbered, sente
 use Rattle.poets_call.specs.declared.statement.Statement.{Statement}
 use Rattle.poets_call.specs.declared.statement.Statement.TheVariants as S
 use Rattle.poets_session.specs.declared.form.Form.{Form}
-use Rattle.poets_session.specs.Places.{PlaceFault, is_misplaced, is_too_many, place_fault, place_fault_behind}
+use Rattle.poets_session.specs.Places.{PlaceFault, is_misplaced, is_too_many, place_fault, place_fault_after}
 use Rattle.poets_session.specs.Scripts.{HasShortNumber}
 use Rattle.poets_session.specs.Sessions.{commands_ahead, scripts_of, requests_of, numbered_call}
 
@@ -103,12 +103,12 @@ no_fault true b m t rest e = absurd cc
 no_fault false true m t rest e = absurd cc
 no_fault false false m t rest e = (refl, e)
 
-numbers_fit_behind : (form : Form) (before statements : List Sentence) → place_fault_behind form before statements ≡ None → All HasShortNumber statements
-numbers_fit_behind form before [] e = All-nil HasShortNumber
-numbers_fit_behind form before (s ∷ statements) e =
+numbers_fit_after : (form : Form) (before statements : List Sentence) → place_fault_after form before statements ≡ None → All HasShortNumber statements
+numbers_fit_after form before [] e = All-nil HasShortNumber
+numbers_fit_after form before (s ∷ statements) e =
     let h = no_fault (is_misplaced form before s) (is_too_many before s) _ _ _ e in
-    All-cons HasShortNumber s statements (number_fits before s h.0) (numbers_fit_behind form (before ++ s ∷ []) statements h.1)
+    All-cons HasShortNumber s statements (number_fits before s h.0) (numbers_fit_after form (before ++ s ∷ []) statements h.1)
 
 -- statements that stand in their places have short numbers
 pub numbers_fit : (form : Form) (statements : List Sentence) → place_fault form statements ≡ None → All HasShortNumber statements
-numbers_fit form statements e = numbers_fit_behind form [] statements e
+numbers_fit form statements e = numbers_fit_after form [] statements e

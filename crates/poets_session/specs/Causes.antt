@@ -1,16 +1,13 @@
 -- What a fault tells.
-use Rattle.std.specs.Prelude.{◌≡◌, ℕ, ◌⊎◌, List, [], ◌∷◌, Option, Some, None, option_map}
-use Rattle.poets_value.specs.declared.value.Name.{Name}
+use Rattle.std.specs.Prelude.{◌≡◌, ℕ, ◌⊎◌, Option, Some, None, option_map}
 use Rattle.poets_lex.specs.declared.fault.LexFault.{LexFault}
 use Rattle.poets_lex.specs.declared.fault.LexFault.TheVariants as L
-use Rattle.poets_lex.specs.Table.{Table}
 use Rattle.poets_parse.specs.declared.fault.SyntaxFault.{SyntaxFault}
 use Rattle.poets_parse.specs.declared.fault.SyntaxFault.TheVariants as S
 use Rattle.poets_types.specs.declared.cause.TypeCause.{TypeCause}
 use Rattle.poets_types.specs.declared.cause.TypeFault.{TypeFault}
 use Rattle.poets_types.specs.declared.cause.TypeCause.TheVariants as T
 use Rattle.poets_types.specs.Faults.{fault_of}
-use Rattle.poets_guard.specs.declared.guard.GuardFault.{GuardFault}
 use Rattle.poets_guard.specs.declared.guard.GuardFault.TheVariants as G
 use Rattle.poets_session.specs.Places.{Misplaced, TooMany}
 use Rattle.poets_session.specs.declared.counting.PlaceFault.{PlaceFault}
@@ -42,10 +39,6 @@ cause_by fault cause = C.Types fault
 abbrev pub type_cause : TypeFault → SessionCause
 type_cause fault = cause_by fault fault.cause
 
-abbrev pub first_name : List Name → Option Name
-first_name [] = None
-first_name (x ∷ names) = Some x
-
 -- the refusal that a cause tells; want of memory is none
 abbrev pub refusal_of : SessionCause → Option Refusal
 refusal_of (C.Lex fault) = refusal_at_byte fault
@@ -55,14 +48,14 @@ refusal_of (C.Syntax number S.Memory) = None
 refusal_of (C.Misplaced number) = Some (Place (Misplaced number))
 refusal_of (C.TooMany number) = Some (Place (TooMany number))
 refusal_of (C.Types fault) = option_map (Mistyped fault.statement) (fault_of fault.cause)
-refusal_of (C.Guard number (G.Unguarded cycle)) = option_map (Unguarded number) (first_name cycle.items)
+refusal_of (C.Guard number (G.Unguarded cycle)) = Some (Unguarded number cycle.items)
 refusal_of (C.Guard number G.Memory) = None
 refusal_of C.Memory = None
 
 -- the cause tells such a refusal, or want of memory
-abbrev pub Tells : (Refusal → Type 0) → SessionCause → Type 0
-Tells Is cause = (cause ≡ C.Memory) ⊎ ((r : Refusal) × (refusal_of cause ≡ Some r) × Is r)
+abbrev pub IsCauseOf : (Refusal → Type 0) → SessionCause → Type 0
+IsCauseOf Is cause = (cause ≡ C.Memory) ⊎ ((r : Refusal) × (refusal_of cause ≡ Some r) × Is r)
 
 -- the fault is the first of the text, or want of memory
 abbrev pub IsFirstFault : Text → Form → SessionFault → Type 0
-IsFirstFault text form fault = Tells (IsRefused text form fault.names) fault.what
+IsFirstFault text form fault = IsCauseOf (IsRefused text form fault.names) fault.what

@@ -1,5 +1,5 @@
 -- What the code counts.
-use Rattle.std.specs.Prelude.{◌≡◌, ℕ, List, count_by}
+use Rattle.std.specs.Prelude.{◌≡◌, List, count_by}
 use Rattle.poets_call.specs.Sentences.{Sentence}
 use Rattle.poets_session.specs.Places as P
 use Rattle.poets_session.specs.declared.counting.Part.{Part}

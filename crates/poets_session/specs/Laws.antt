@@ -1,10 +1,12 @@
 -- The laws of sessions, as statements.
-use Rattle.std.specs.Prelude.{◌≡◌, List}
-use Rattle.poets_lex.specs.Table.{Table}
+use Rattle.std.specs.Prelude.{◌≡◌, ℕ, List, ◌∷◌, All}
+use Rattle.poets_value.specs.declared.value.Name.{Name}
+use Rattle.poets_lex.specs.Table.{Table, IsTable}
 use Rattle.poets_call.specs.Sentences.{Sentence}
-use Rattle.poets_session.specs.Sessions.{Text, IsSession}
-use Rattle.poets_session.specs.Refusals.{Refusal, IsRefused}
+use Rattle.poets_session.specs.Sessions.{Text, IsReadAs, IsSession, IsNoSession, scripts_of, journal_of}
+use Rattle.poets_session.specs.Refusals.{Refusal, Unguarded, IsRefused}
 use Rattle.poets_session.specs.Texts.{refusal_text}
+use Rattle.poets_session.specs.Written.{IsWrittenRequest, IsWritten}
 use Rattle.poets_session.specs.declared.form.Form.{Form}
 
 -- a text is one session at most
@@ -19,8 +21,36 @@ NoSessionRefused =
     (text : Text) (form : Form) (names others : Table) (r : Refusal) (statements : List Sentence)
     → IsRefused text form names r → ¬ (IsSession text form others statements)
 
--- a text is refused by one line at most
+-- the same refusal, or cycles that begin with one template
+pub data AreAlike : Refusal → Refusal → Type 0 where
+  Same : {r : Refusal} → AreAlike r r
+  Cycles : {number : ℕ} {f : Name} {others more : List Name} → AreAlike (Unguarded number (f ∷ others)) (Unguarded number (f ∷ more))
+
+-- a text is refused in one way at most, but for how the first cycle goes on
 abbrev pub OneRefusal : Type 0
 OneRefusal =
     (text : Text) (form : Form) (names others : Table) (r s : Refusal)
+    → IsRefused text form names r → IsRefused text form others s → AreAlike r s
+
+-- a text is refused by one line at most
+abbrev pub OneLine : Type 0
+OneLine =
+    (text : Text) (form : Form) (names others : Table) (r s : Refusal)
     → IsRefused text form names r → IsRefused text form others s → refusal_text names r ≡ refusal_text others s
+
+-- a text that is no session of the form is refused: it cannot be that no refusal holds of it
+abbrev pub EveryTextIsRead : Type 0
+EveryTextIsRead = (text : Text) (form : Form) → IsNoSession text form → ¬ ((names : Table) (r : Refusal) → ¬ (IsRefused text form names r))
+
+-- the names of a text make a table, and what the text says is written with them
+abbrev pub SessionsAreWritten : Type 0
+SessionsAreWritten =
+    (text : Text) (names : Table) (statements : List Sentence)
+    → IsReadAs text names statements → IsTable names × All (IsWritten names) statements
+
+-- so are the commands of its scripts and of its journal: each can be printed, and reads back
+abbrev pub CommandsAreWritten : Type 0
+CommandsAreWritten =
+    (text : Text) (names : Table) (statements : List Sentence)
+    → IsReadAs text names statements
+    → All (All (IsWrittenRequest names)) (scripts_of statements) × All (λ call. IsWrittenRequest names call.1) (journal_of statements)

@@ -10,3 +10,4 @@ pub mod Splitting
 pub mod Checking
 pub mod Parts
 pub mod Scripts
+pub mod Written

@@ -11,25 +11,25 @@ pub data Part : Type 0 where
   OfJournal : Part
 
 -- the part in which a statement stands that follows one of a part; none where it may not stand there
-abbrev pub part_with : Form → Part → Sentence → Option Part
-part_with form OfBook (Agents names) = Some OfBook
-part_with form OfBook (Kinds names) = Some OfBook
-part_with form OfBook (Template t) = Some OfBook
-part_with form OfBook (Report q) = Some OfBook
-part_with F.Clerks OfBook Clerk = Some OfClerk
-part_with F.Clerks OfClerk Clerk = Some OfClerk
-part_with F.Clerks OfClerk (Command request) = Some OfClerk
-part_with F.Journal OfBook Journal = Some OfJournal
-part_with F.Journal OfJournal (Numbered clerk request) = Some OfJournal
-part_with form part s = None
+abbrev pub next_part : Form → Part → Sentence → Option Part
+next_part form OfBook (Agents names) = Some OfBook
+next_part form OfBook (Kinds names) = Some OfBook
+next_part form OfBook (Template t) = Some OfBook
+next_part form OfBook (Report q) = Some OfBook
+next_part F.Clerks OfBook Clerk = Some OfClerk
+next_part F.Clerks OfClerk Clerk = Some OfClerk
+next_part F.Clerks OfClerk (Command request) = Some OfClerk
+next_part F.Journal OfBook Journal = Some OfJournal
+next_part F.Journal OfJournal (Numbered clerk request) = Some OfJournal
+next_part form part s = None
 
--- the part behind statements, none where one of them may not stand in its place; a session begins with its book
-abbrev pub part_behind : Form → List Sentence → Option Part
-part_behind form statements = fold (λ part s. option_and_then (λ p. part_with form p s) part) (Some OfBook) statements
+-- the part after statements, none where one of them may not stand in its place; a session begins with its book
+abbrev pub part_after : Form → List Sentence → Option Part
+part_after form statements = fold (λ part s. option_and_then (λ p. next_part form p s) part) (Some OfBook) statements
 
--- the statement may not stand behind those before it
+-- the statement may not stand after those before it
 abbrev pub is_misplaced : Form → (before : List Sentence) → Sentence → Bool
-is_misplaced form before s = not (is_some (part_behind form (before ++ s ∷ [])))
+is_misplaced form before s = not (is_some (part_after form (before ++ s ∷ [])))
 
 -- a journal's session has its `journal`
 abbrev pub lacks_journal : Form → Option Part → Bool
@@ -53,12 +53,15 @@ is_command (Command request) = true
 is_command (Numbered clerk request) = true
 is_command s = false
 
--- the most clerks, the most templates and as many reports, the most commands
+-- the most clerks, templates, reports and commands
 abbrev pub most_clerks : ℕ
 most_clerks = 64
 
 abbrev pub most_templates : ℕ
 most_templates = 256
+
+abbrev pub most_reports : ℕ
+most_reports = 256
 
 abbrev pub most_commands : ℕ
 most_commands = 65_536
@@ -67,11 +70,11 @@ most_commands = 65_536
 abbrev pub has_all : ℕ → (Sentence → Bool) → List Sentence → Bool
 has_all most is_one before = nat_le most (count_by is_one before)
 
--- the statement is one too many behind those before it, or has the number of no clerk
+-- the statement is one too many after those before it, or has the number of no clerk
 abbrev pub is_too_many : (before : List Sentence) → Sentence → Bool
 is_too_many before Clerk = has_all most_clerks is_clerk before
 is_too_many before (Template t) = has_all most_templates is_template before
-is_too_many before (Report q) = has_all most_templates is_report before
+is_too_many before (Report q) = has_all most_reports is_report before
 is_too_many before (Command request) = has_all most_commands is_command before
 is_too_many before (Numbered clerk request) = nat_lt clerk 1 || nat_lt most_clerks clerk || has_all most_commands is_command before
 is_too_many before s = false
@@ -81,14 +84,14 @@ pub data PlaceFault : Type 0 where
   Misplaced : (statement : ℕ) → PlaceFault
   TooMany : (statement : ℕ) → PlaceFault
 
--- the first such statement behind those before; where `journal` is missing, it is the one after the last
-abbrev pub place_fault_behind : Form → (before statements : List Sentence) → Option PlaceFault
-place_fault_behind form before [] =
-    if lacks_journal form (part_behind form before) then Some (Misplaced (length before + 1)) else None
-place_fault_behind form before (s ∷ statements) =
+-- the first such statement after those before; where `journal` is missing, it is the one after the last
+abbrev pub place_fault_after : Form → (before statements : List Sentence) → Option PlaceFault
+place_fault_after form before [] =
+    if lacks_journal form (part_after form before) then Some (Misplaced (length before + 1)) else None
+place_fault_after form before (s ∷ statements) =
     if is_misplaced form before s then Some (Misplaced (length before + 1))
     else if is_too_many before s then Some (TooMany (length before + 1))
-    else place_fault_behind form (before ++ s ∷ []) statements
+    else place_fault_after form (before ++ s ∷ []) statements
 
 abbrev pub place_fault : Form → List Sentence → Option PlaceFault
-place_fault form statements = place_fault_behind form [] statements
+place_fault form statements = place_fault_after form [] statements

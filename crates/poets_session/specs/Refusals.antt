@@ -1,7 +1,6 @@
--- Why a text is no session: its first fault, and the line that says so.
-use Rattle.std.specs.Prelude.{◌≡◌, ℕ, suc, List, [], ◌∷◌, ◌++◌, length, Option, Some, None, IsTrue, codes, slice_get}
+-- Why a text is no session: its first fault.
+use Rattle.std.specs.Prelude.{◌≡◌, ℕ, suc, List, [], ◌∷◌, ◌++◌, length, Option, Some, None, IsTrue, slice_get}
 use Rattle.std.specs.List.{AllZip}
-use Rattle.std.specs.Fmt.{decimal}
 use Rattle.poets_value.specs.declared.value.Name.{Name}
 use Rattle.poets_lex.specs.declared.token.Token.{Token}
 use Rattle.poets_lex.specs.declared.fault.LexFault.{LexFault}
@@ -9,18 +8,17 @@ use Rattle.poets_lex.specs.declared.fault.LexFault.TheVariants as L
 use Rattle.poets_lex.specs.Table.{Table}
 use Rattle.poets_lex.specs.Lexes.{Lexes, FirstFault}
 use Rattle.poets_syntax.specs.Book.{Definition}
-use Rattle.poets_syntax.specs.TypeOf.{Fault, Twice, Unknown, WrongCount, WrongType}
+use Rattle.poets_syntax.specs.TypeOf.{Fault}
 use Rattle.poets_guard.specs.FirstCycle.{IsFirstCycle}
 use Rattle.poets_grammar.specs.Tokens.{toks}
 use Rattle.poets_grammar.specs.Statements.{IsSentence}
 use Rattle.poets_grammar.specs.TooDeep.{IsTooDeep}
-use Rattle.poets_print.specs.Texts.{name_text, type_text}
 use Rattle.poets_call.specs.Sentences.{Sentence, Template}
 use Rattle.poets_call.specs.Declarations.{book_of}
 use Rattle.poets_call.specs.TypedSentences.{first_fault}
 use Rattle.poets_session.specs.Pieces.{Piece, pieces_of}
-use Rattle.poets_session.specs.Places.{PlaceFault, Misplaced, TooMany, place_fault}
-use Rattle.poets_session.specs.Sessions.{Text, Says, IsReadAs}
+use Rattle.poets_session.specs.Places.{PlaceFault, place_fault}
+use Rattle.poets_session.specs.Sessions.{Text, IsStatement, IsReadAs}
 use Rattle.poets_session.specs.declared.form.Form.{Form}
 
 -- why a text is no session; bytes count from 0 and statements from 1
@@ -32,8 +30,8 @@ pub data Refusal : Type 0 where
   NoSentence : (statement : ℕ) → Refusal
   Place : PlaceFault → Refusal
   Mistyped : (statement : ℕ) → Fault → Refusal
-  -- the template begins the first cycle of unguarded edges
-  Unguarded : (statement : ℕ) → (template : Name) → Refusal
+  -- the cycle of unguarded edges, which begins with the template of the statement
+  Unguarded : (statement : ℕ) → (cycle : List Name) → Refusal
 
 -- want of memory is no refusal
 abbrev pub refusal_at_byte : LexFault → Option Refusal
@@ -45,7 +43,7 @@ refusal_at_byte L.Memory = None
 -- the statement with the number is too deep, or no sentence; one that is not ended is none
 pub data IsUnread (piece : Piece) (number : ℕ) : Refusal → Type 0 where
   IsDeep : IsTooDeep piece.tokens → IsUnread piece number (TooDeep number)
-  IsNone : ¬ (IsTooDeep piece.tokens) → (IsTrue piece.ended → (s : Sentence) → ¬ (IsSentence piece.tokens s)) → IsUnread piece number (NoSentence number)
+  IsNoSentence : ¬ (IsTooDeep piece.tokens) → (IsTrue piece.ended → (s : Sentence) → ¬ (IsSentence piece.tokens s)) → IsUnread piece number (NoSentence number)
 
 -- all statements up to this one say something, and this one does not
 pub record IsStopped (pieces : List Piece) (r : Refusal) : Type 0 where
@@ -54,7 +52,7 @@ pub record IsStopped (pieces : List Piece) (r : Refusal) : Type 0 where
   pub piece : Piece
   pub rest : List Piece
   pub cut : pieces ≡ front ++ piece ∷ rest
-  pub says : AllZip Says front said
+  pub says : AllZip IsStatement front said
   pub unread : IsUnread piece (suc (length front)) r
 
 -- the statement with the number declares the template
@@ -72,12 +70,13 @@ pub data IsRefused (text : Text) (form : Form) (names : Table) : Refusal → Typ
   -- a statement that is too deep or no sentence
   IsUnreadable : {tokens : List Token} {r : Refusal} → Lexes [] text 0 tokens names → IsStopped (pieces_of (toks tokens)) r → IsRefused text form names r
   -- one that may not stand in its place, or is one too many
-  IsOut : {statements : List Sentence} {fault : PlaceFault} → IsReadAs text names statements → place_fault form statements ≡ Some fault → IsRefused text form names (Place fault)
+  IsOutOfPlace : {statements : List Sentence} {fault : PlaceFault} → IsReadAs text names statements → place_fault form statements ≡ Some fault → IsRefused text form names (Place fault)
   -- one that is not typed
   IsMistyped :
       {statements : List Sentence} {number : ℕ} {fault : Fault} → IsReadAs text names statements → place_fault form statements ≡ None →
       first_fault statements ≡ Some (number, fault) → IsRefused text form names (Mistyped number fault)
-  -- a book with a cycle of unguarded edges
+  -- a book with a cycle of unguarded edges: one that begins with the first template that lies on any
   IsUnguarded :
-      {statements : List Sentence} {number : ℕ} {f : Name} (others : List Name) → IsReadAs text names statements → place_fault form statements ≡ None →
-      first_fault statements ≡ None → IsFirstCycle (book_of statements) (f ∷ others) → IsTemplateAt statements number f → IsRefused text form names (Unguarded number f)
+      {statements : List Sentence} {number : ℕ} {cycle : List Name} → IsReadAs text names statements → place_fault form statements ≡ None →
+      first_fault statements ≡ None → (found : IsFirstCycle (book_of statements) cycle) → IsTemplateAt statements number found.first →
+      IsRefused text form names (Unguarded number cycle)

@@ -29,7 +29,7 @@ abbrev pub Text : Type 0
 Text = List ℕ
 
 -- a statement that is ended, is not too deep, and says this
-pub record Says (piece : Piece) (s : Sentence) : Type 0 where
+pub record IsStatement (piece : Piece) (s : Sentence) : Type 0 where
   pub ended : IsTrue piece.ended
   pub shallow : ¬ (IsTooDeep piece.tokens)
   pub sentence : IsSentence piece.tokens s
@@ -38,7 +38,7 @@ pub record Says (piece : Piece) (s : Sentence) : Type 0 where
 pub record IsReadAs (text : Text) (names : Table) (statements : List Sentence) : Type 0 where
   pub tokens : List Token
   pub lexed : Lexes [] text 0 tokens names
-  pub said : AllZip Says (pieces_of (toks tokens)) statements
+  pub said : AllZip IsStatement (pieces_of (toks tokens)) statements
 
 -- the text is a session of the form
 pub record IsSession (text : Text) (form : Form) (names : Table) (statements : List Sentence) : Type 0 where
@@ -57,7 +57,7 @@ commands_ahead (Clerk ∷ statements) = []
 commands_ahead (Command request ∷ statements) = request ∷ commands_ahead statements
 commands_ahead (s ∷ statements) = commands_ahead statements
 
--- the scripts of the clerks: the commands behind each `clerk`
+-- the scripts of the clerks: the commands after each `clerk`
 abbrev pub scripts_of : List Sentence → List (List Request)
 scripts_of [] = []
 scripts_of (Clerk ∷ statements) = commands_ahead statements ∷ scripts_of statements

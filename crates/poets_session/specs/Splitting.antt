@@ -1,10 +1,10 @@
 -- Statements as the code reads them.
-use Rattle.std.specs.Prelude.{ℕ, Bool, List}
+use Rattle.std.specs.Prelude.{Bool, List}
 use Rattle.std.specs.List.{AllZip}
 use Rattle.poets_lex.specs.declared.token.Tok.{Tok}
 use Rattle.poets_call.specs.Sentences.{Sentence}
 use Rattle.poets_session.specs.Pieces.{Piece}
-use Rattle.poets_session.specs.Sessions.{Says}
+use Rattle.poets_session.specs.Sessions.{IsStatement}
 
 -- a statement of these tokens
 abbrev pub piece : List Tok → Bool → Piece
@@ -12,4 +12,4 @@ piece tokens ended = record { tokens = tokens; ended = ended }
 
 -- the statements say this, one by one
 abbrev pub AreSaid : List Piece → List Sentence → Type 0
-AreSaid pieces statements = AllZip Says pieces statements
+AreSaid pieces statements = AllZip IsStatement pieces statements

@@ -9,7 +9,7 @@ ghost use Rattle.poets_call.specs.Declarations.{book_of, reports_of};
 ghost use Rattle.poets_call.specs.TypedSentences.{first_fault};
 ghost use Rattle.poets_session.specs.Checking.{IsTypeRefusal, IsGuardRefusal, declares as declares_lem};
 ghost use Rattle.poets_session.specs.Refusals.{IsTemplateAt};
-ghost use Rattle.poets_session.specs.Causes.{Tells, type_cause};
+ghost use Rattle.poets_session.specs.Causes.{IsCauseOf, type_cause};
 
 use crate::SessionCause;
 use poets_call::Statement;
@@ -35,7 +35,7 @@ pub(crate) fn check_types(alloc: Global, statements: &[Statement]) -> Result<Che
     ensures book { IfOk result (λ c. definitions_of c.book ≡ book_of (sentences_of statements.now)) }
     ensures reports { IfOk result (λ c. map query_of c.reports.items ≡ reports_of (sentences_of statements.now)) }
     ensures checked { IfOk result (λ c. IsChecked (definitions_of c.book)) }
-    ensures fault { IfErr result (Tells (IsTypeRefusal (first_fault (sentences_of statements.now)))) }
+    ensures fault { IfErr result (IsCauseOf (IsTypeRefusal (first_fault (sentences_of statements.now)))) }
 {
     match check_book(alloc, statements) {
         Ok(checked) => Ok(checked),
@@ -76,7 +76,7 @@ pub(crate) fn study_book(
     requires book { definitions_of book ≡ book_of (sentences_of statements.now) }
     ensures book { IfOk result (λ s. s.book ≡ book) }
     ensures guarded { IfOk result (λ _. IsGuarded (book_of (sentences_of statements.now))) }
-    ensures unguarded { IfErr result (Tells (IsGuardRefusal (sentences_of statements.now))) }
+    ensures unguarded { IfErr result (IsCauseOf (IsGuardRefusal (sentences_of statements.now))) }
 {
     let cycle = match study(alloc, book) {
         Ok(studied) => return Ok(studied),

@@ -1,7 +1,7 @@
 //! Whether each statement may stand in its place, and whether there are too many.
 ghost use Rattle.std.specs.Prelude.{◌≡◌, ◌≤◌, ◌++◌, ◌∷◌, [], List, true, false, None, Some, IfErr, OnOk, IfSome, IfNone, option_map};
 ghost use Rattle.poets_call.specs.Sentences.{Sentence, sentence_of, sentences_of};
-ghost use Rattle.poets_session.specs.Places.{place_fault, part_with as part_with_lem, lacks_journal as lacks_journal_lem, is_too_many};
+ghost use Rattle.poets_session.specs.Places.{place_fault, next_part as next_part_lem, lacks_journal as lacks_journal_lem, is_too_many};
 ghost use Rattle.poets_session.specs.Counting.{part_of, fault_of, AreCounted};
 
 use crate::Form;
@@ -10,6 +10,8 @@ use poets_call::Statement;
 const MOST_CLERKS: u64 = 64;
 
 const MOST_TEMPLATES: u64 = 256;
+
+const MOST_REPORTS: u64 = 256;
 
 const MOST_COMMANDS: u64 = 65_536;
 
@@ -37,9 +39,9 @@ pub(crate) struct Counts {
     commands: u64,
 }
 
-// The part in which the statement stands behind one of the part, if it may stand there.
-fn part_with(form: Form, part: Part, statement: &Statement) -> Option<Part>
-    ensures { option_map part_of result ≡ part_with_lem form (part_of part) (sentence_of statement.now) }
+// The part in which the statement stands after one of the part, if it may stand there.
+fn next_part(form: Form, part: Part, statement: &Statement) -> Option<Part>
+    ensures { option_map part_of result ≡ next_part_lem form (part_of part) (sentence_of statement.now) }
 {
     match statement {
         Statement::Agents(_) | Statement::Kinds(_) | Statement::Template(_) | Statement::Report(_)
@@ -57,8 +59,8 @@ fn part_with(form: Form, part: Part, statement: &Statement) -> Option<Part>
 impl Counts {
     // The counts with the statement, if it is not one too many.
     fn with(self, statement: &Statement) -> Option<Counts>
-        requires { (self.clerks ≤ MOST_CLERKS) × (self.templates ≤ MOST_TEMPLATES) × (self.reports ≤ MOST_TEMPLATES) × (self.commands ≤ MOST_COMMANDS) }
-        ensures bound { IfSome result (λ c. (c.clerks ≤ MOST_CLERKS) × (c.templates ≤ MOST_TEMPLATES) × (c.reports ≤ MOST_TEMPLATES) × (c.commands ≤ MOST_COMMANDS)) }
+        requires { (self.clerks ≤ MOST_CLERKS) × (self.templates ≤ MOST_TEMPLATES) × (self.reports ≤ MOST_REPORTS) × (self.commands ≤ MOST_COMMANDS) }
+        ensures bound { IfSome result (λ c. (c.clerks ≤ MOST_CLERKS) × (c.templates ≤ MOST_TEMPLATES) × (c.reports ≤ MOST_REPORTS) × (c.commands ≤ MOST_COMMANDS)) }
         ensures counted { (before : List Sentence) → AreCounted before self → IfSome result (AreCounted (before ++ sentence_of statement.now ∷ [])) }
         ensures few { (before : List Sentence) → AreCounted before self → IfSome result (λ _. is_too_many before (sentence_of statement.now) ≡ false) }
         ensures many { (before : List Sentence) → AreCounted before self → IfNone result (is_too_many before (sentence_of statement.now) ≡ true) }
@@ -67,7 +69,7 @@ impl Counts {
         match statement {
             Statement::Clerk if counts.clerks < MOST_CLERKS => counts.clerks += 1,
             Statement::Template(_) if counts.templates < MOST_TEMPLATES => counts.templates += 1,
-            Statement::Report(_) if counts.reports < MOST_TEMPLATES => counts.reports += 1,
+            Statement::Report(_) if counts.reports < MOST_REPORTS => counts.reports += 1,
             Statement::Command(_) if counts.commands < MOST_COMMANDS => counts.commands += 1,
             Statement::Numbered(clerk, _)
                 if 1 <= *clerk && *clerk <= MOST_CLERKS && counts.commands < MOST_COMMANDS => {
@@ -101,7 +103,7 @@ pub(crate) fn check_places(form: Form, statements: &[Statement]) -> Result<(), P
     };
     for (place, statement) in statements.iter().enumerate() {
         let number = place as u64 + 1;
-        let Some(next) = part_with(form, part, statement) else {
+        let Some(next) = next_part(form, part, statement) else {
             return Err(PlaceFault::Misplaced { statement: number });
         };
         let Some(more) = counts.with(statement) else {

@@ -1,5 +1,5 @@
 //! The laws of sessions.
-ghost use Rattle.poets_session.specs.Laws.{OneSession, NoSessionRefused, OneRefusal};
+ghost use Rattle.poets_session.specs.Laws.{OneSession, NoSessionRefused, OneRefusal, OneLine, EveryTextIsRead, SessionsAreWritten, CommandsAreWritten};
 
 /// A text is one session at most.
 pub fn one_session()
@@ -11,7 +11,19 @@ pub fn no_session_refused()
     ensures { NoSessionRefused }
 {}
 
-/// A text is refused by one line at most.
+/// A text is refused in one way at most, but for how the first cycle goes on, and by one line.
 pub fn one_refusal()
-    ensures { OneRefusal }
+    ensures refusal { OneRefusal }
+    ensures line { OneLine }
+{}
+
+/// A text that is no session of a form is refused by it.
+pub fn every_text_is_read()
+    ensures { EveryTextIsRead }
+{}
+
+/// What a text says has its names in the text's table, and its numbers and days are those of the language.
+pub fn sessions_are_written()
+    ensures statements { SessionsAreWritten }
+    ensures commands { CommandsAreWritten }
 {}

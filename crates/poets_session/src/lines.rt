@@ -1,8 +1,8 @@
 //! The lines of texts that are no sessions.
 ghost use Rattle.std.specs.Prelude.{◌≡◌, Some, IfOk, option_map, string_bytes};
 ghost use Rattle.poets_types.specs.Faults.{fault_of};
-ghost use Rattle.poets_guard.specs.declared.guard.GuardFault.TheVariants as G;
-ghost use Rattle.poets_session.specs.Texts.{at_byte as at_byte_lem, in_statement as in_statement_lem, fault_text as fault_text_lem, refusal_text};
+ghost use Rattle.poets_session.specs.Texts.{at_byte as at_byte_lem, in_statement as in_statement_lem, fault_text as fault_text_lem, first_text as first_text_lem, refusal_text};
+ghost use Rattle.poets_session.specs.Refusals.{Unguarded};
 ghost use Rattle.poets_session.specs.Causes.{refusal_of};
 ghost use Rattle.poets_session.specs.declared.fault.SessionCause.TheVariants as C;
 
@@ -67,26 +67,33 @@ fn type_line(alloc: Global, names: &Names, fault: TypeFault) -> Result<String, M
     in_statement(alloc, fault.statement, &what)
 }
 
-// The line of a cycle, which tells its first name. No cycle is empty.
+// The text of the first name, and nothing where there is none.
+fn first_text<'a>(names: &'a Names, cycle: &[Name]) -> &'a str
+    ensures { result.now ≡ first_text_lem names.now cycle.now }
+{
+    match cycle {
+        [] => "",
+        [first, ..] => name_text(names, *first),
+    }
+}
+
+// The line of a cycle, which tells its first name.
 fn cycle_line(
     alloc: Global,
     names: &Names,
     number: u64,
     cycle: &List<Name>,
 ) -> Result<String, Memory>
-    ensures { IfOk result (λ text. option_map (refusal_text names.now) (refusal_of (C.Guard number (G.Unguarded cycle.now))) ≡ Some (string_bytes text)) }
+    ensures { IfOk result (λ text. refusal_text names.now (Unguarded number cycle.now.items) ≡ string_bytes text) }
 {
-    let Some(first) = cycle.as_slice().first() else {
-        return Err(Memory);
-    };
-    let name = name_text(names, *first);
-    let what = format!(in alloc; "Unguarded {name}")?;
+    let first = first_text(names, cycle.as_slice());
+    let what = format!(in alloc; "Unguarded {first}")?;
     in_statement(alloc, number, &what)
 }
 
 /// The line that tells why a text is no session, with its LF, by `docs/LANGUAGE.md`, "Refused texts".
 ///
-/// A fault that is want of memory has no line, and is answered as it is.
+/// A fault that is want of memory has no line, and is answered as it is. No fault that `read` hands out has a cycle without a name.
 pub fn fault_text(alloc: Global, fault: &SessionFault) -> Result<String, Memory>
     ensures line { IfOk result (λ text. option_map (refusal_text fault.now.names) (refusal_of fault.now.what) ≡ Some (string_bytes text)) }
 {
@@ -120,83 +127,5 @@ pub fn fault_text(alloc: Global, fault: &SessionFault) -> Result<String, Memory>
             ..
         }
         | SessionCause::Memory => Err(Memory),
-    }
-}
-
-#[cfg(test)]
-mod tests {
-    use super::*;
-    use poets_lex::tokens;
-    use poets_syntax::build::push;
-    use poets_value::Ty;
-    use std::process::Abort;
-
-    const F: Name = Name { id: 0 };
-
-    const G: Name = Name { id: 1 };
-
-    // The line of a fault, where `f` and `g` are the names.
-    fn line(alloc: Global, what: SessionCause) -> Result<String, Memory> {
-        let mut names = Names::new(alloc);
-        match tokens(alloc, b"f g", &mut names) {
-            Ok(_) => fault_text(alloc, &SessionFault { names, what }),
-            Err(_) => Err(Memory),
-        }
-    }
-
-    fn type_fault(cause: TypeCause) -> SessionCause {
-        SessionCause::Types(TypeFault {
-            statement: 1,
-            cause,
-        })
-    }
-
-    // The cycle of `template f() = Success;; template g() = g();;`.
-    fn unguarded(alloc: Global) -> Result<SessionCause, Memory> {
-        let mut cycle = List::new(alloc);
-        push(&mut cycle, G)?;
-        Ok(SessionCause::Guard {
-            statement: 2,
-            fault: GuardFault::Unguarded { cycle },
-        })
-    }
-
-    #[test]
-    fn lines_of_places_and_cycles(rt: HostRuntime) -> Result<(), Memory> {
-        let byte = line(rt.alloc(), SessionCause::Lex(LexFault::BadByte { at: 13 }))?;
-        assert_eq!(rt; byte.as_str(), "refused at byte 13: BadByte\n");
-        let deep = SessionCause::Syntax {
-            statement: 4,
-            fault: SyntaxFault::TooDeep,
-        };
-        let deep = line(rt.alloc(), deep)?;
-        assert_eq!(rt; deep.as_str(), "refused in statement 4: TooDeep\n");
-        let cycle = line(rt.alloc(), unguarded(rt.alloc())?)?;
-        assert_eq!(rt; cycle.as_str(), "refused in statement 2: Unguarded g\n");
-        Ok(())
-    }
-
-    #[test]
-    fn lines_of_types(rt: HostRuntime) -> Result<(), Memory> {
-        let count = TypeCause::WrongCount {
-            name: F,
-            wanted: 1,
-            found: 2,
-        };
-        let count = line(rt.alloc(), type_fault(count))?;
-        assert_eq!(rt;
-            count.as_str(),
-            "refused in statement 1: WrongCount f: wanted 1, found 2\n"
-        );
-        let ty = TypeCause::WrongType {
-            wanted: Ty::Int,
-            found: Ty::Day,
-        };
-        let ty = line(rt.alloc(), type_fault(ty))?;
-        assert_eq!(rt;
-            ty.as_str(),
-            "refused in statement 1: WrongType: wanted Int, found Day\n"
-        );
-        Ok(())
     }
 }

@@ -6,7 +6,7 @@ ghost use Rattle.poets_call.specs.Sentences.{Sentence};
 ghost use Rattle.poets_grammar.specs.Tokens.{AreNatural};
 ghost use Rattle.poets_session.specs.Sessions.{IsSession, Holds, Text};
 ghost use Rattle.poets_session.specs.Refusals.{IsRefused};
-ghost use Rattle.poets_session.specs.Causes.{IsFirstFault, Tells};
+ghost use Rattle.poets_session.specs.Causes.{IsFirstFault, IsCauseOf};
 ghost use Rattle.poets_session.specs.Parts.{HoldParts};
 
 use crate::checking::{check_types, study_book};
@@ -33,7 +33,7 @@ pub(crate) struct Parts {
 fn parts_of(alloc: Global, form: Form, tokens: &[Token]) -> Result<Parts, SessionCause>
     requires { AreNatural tokens.now }
     ensures session { (text : Text) (names : Table) → Lexes [] text 0 tokens.now names → IfOk result (λ p. (statements : AnttList Sentence) × IsSession text form names statements × HoldParts statements p) }
-    ensures refused { (text : Text) (names : Table) → Lexes [] text 0 tokens.now names → IfErr result (Tells (IsRefused text form names)) }
+    ensures refused { (text : Text) (names : Table) → Lexes [] text 0 tokens.now names → IfErr result (IsCauseOf (IsRefused text form names)) }
 {
     let statements = statements(alloc, tokens)?;
     check_places(form, statements.as_slice())?;

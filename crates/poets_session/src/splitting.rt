@@ -3,9 +3,9 @@ ghost use Rattle.std.specs.Prelude.{◌≡◌, ℕ, ◌≢◌, ◌∷◌, [], tr
 ghost use Rattle.poets_grammar.specs.Tokens.{toks, AreNatural};
 ghost use Rattle.poets_call.specs.Sentences.{sentence_of, sentences_of};
 ghost use Rattle.poets_session.specs.Pieces.{pieces_of, is_end as is_end_lem};
-ghost use Rattle.poets_session.specs.Sessions.{Says};
+ghost use Rattle.poets_session.specs.Sessions.{IsStatement};
 ghost use Rattle.poets_session.specs.Refusals.{IsUnread, IsStopped};
-ghost use Rattle.poets_session.specs.Causes.{Tells, syntax_cause};
+ghost use Rattle.poets_session.specs.Causes.{IsCauseOf, syntax_cause};
 ghost use Rattle.poets_session.specs.declared.fault.SessionCause.{SessionCause};
 ghost use Rattle.poets_session.specs.Splitting.{piece, AreSaid};
 
@@ -40,7 +40,7 @@ fn tokens_ahead(tokens: &[Token]) -> Option<usize>
     None
 }
 
-// The tokens of the first statement, whether a `;;` ends it, and the tokens behind it.
+// The tokens of the first statement, whether a `;;` ends it, and the tokens after it.
 fn first_piece(tokens: &[Token]) -> (&[Token], bool, &[Token])
     requires { tokens.now ≢ [] }
     ensures piece { pieces_of (toks tokens.now) ≡ piece (toks result.0.now) result.1 ∷ pieces_of (toks result.2.now) }
@@ -55,7 +55,7 @@ fn first_piece(tokens: &[Token]) -> (&[Token], bool, &[Token])
 
 // Why a statement without a `;;` is none.
 fn unended(tokens: &[Token]) -> SyntaxFault
-    ensures { (number : ℕ) → Tells (IsUnread (piece (toks tokens.now) false) number) (SessionCause.Syntax number result) }
+    ensures { (number : ℕ) → IsCauseOf (IsUnread (piece (toks tokens.now) false) number) (SessionCause.Syntax number result) }
 {
     if is_too_deep(tokens) {
         SyntaxFault::TooDeep
@@ -85,8 +85,8 @@ fn read_statement(
     ended: bool,
 ) -> Result<Statement, SessionCause>
     requires { AreNatural tokens.now }
-    ensures said { IfOk result (λ s. Says (piece (toks tokens.now) ended) (sentence_of s)) }
-    ensures unread { IfErr result (Tells (IsUnread (piece (toks tokens.now) ended) number)) }
+    ensures said { IfOk result (λ s. IsStatement (piece (toks tokens.now) ended) (sentence_of s)) }
+    ensures unread { IfErr result (IsCauseOf (IsUnread (piece (toks tokens.now) ended) number)) }
 {
     if !ended {
         return Err(SessionCause::Syntax {
@@ -104,15 +104,15 @@ fn read_statement(
 pub(crate) fn statements(alloc: Global, tokens: &[Token]) -> Result<List<Statement>, SessionCause>
     requires { AreNatural tokens.now }
     ensures said { IfOk result (λ found. AreSaid (pieces_of (toks tokens.now)) (sentences_of found.items)) }
-    ensures stopped { IfErr result (Tells (IsStopped (pieces_of (toks tokens.now)))) }
+    ensures stopped { IfErr result (IsCauseOf (IsStopped (pieces_of (toks tokens.now)))) }
 {
     let mut found = List::new(alloc);
     let mut rest = tokens;
     while !rest.is_empty() {
-        let (piece, ended, behind) = first_piece(rest);
+        let (piece, ended, after) = first_piece(rest);
         let number = found.len() as u64 + 1;
         push(&mut found, read_statement(alloc, number, piece, ended)?)?;
-        rest = behind;
+        rest = after;
     }
     Ok(found)
 }

@@ -1,9 +1,11 @@
-//! Sessions read with ample memory.
+//! Texts read with ample memory.
 ghost use Rattle.std.specs.Prelude.{◌≤◌, length};
 
-use crate::{Form, SessionCause, SessionFault, read};
+use crate::{Form, SessionFault, fault_text, read};
 use poets_value::Memory;
 use std::alloc::Global;
+use std::process::Abort;
+use std::test::Fail;
 
 const TWO_CLERKS: &[u8] = b"agents a;; clerk;; register x = Success;; show x;; clerk;;";
 
@@ -25,22 +27,96 @@ fn each_clerk_has_a_script(rt: HostRuntime) -> Result<(), Memory> {
     }
 }
 
-// The number of the statement that is misplaced in the text of a book, or 0.
-fn misplaced_in(alloc: Global, text: &[u8]) -> u64
-    requires { length text.now ≤ 16_777_216 }
-{
-    match read(alloc, text, Form::Book) {
-        Err(
-            SessionFault {
-                what: SessionCause::Misplaced { statement },
-                ..
-            },
-        ) => statement,
-        _ => 0,
+// The line of the text's first fault, and no bytes for a session of the form.
+fn line_of(alloc: Global, text: &[u8], form: Form) -> Result<String, Memory> {
+    if text.len() > 16_777_216 {
+        return Ok(String::new(alloc));
+    }
+    match read(alloc, text, form) {
+        Ok(_) => Ok(String::new(alloc)),
+        Err(fault) => fault_text(alloc, &fault),
     }
 }
 
+// Each of the texts is refused by its line.
+fn refused(
+    rt: &impl Abort,
+    alloc: Global,
+    form: Form,
+    cases: &[(&[u8], &str)],
+) -> Result<(), Fail> {
+    for (text, line) in cases {
+        let found = line_of(alloc, text, form)?;
+        assert_eq!(rt; found.as_str(), *line);
+    }
+    Ok(())
+}
+
+const BOOKS: [(&[u8], &str); 13] = [
+    (b"agents ann;; !", "refused at byte 13: BadByte\n"),
+    (
+        b"agents ann;; 9223372036854775808",
+        "refused at byte 13: LongNumber\n",
+    ),
+    (&[b'a'; 65], "refused at byte 0: LongName\n"),
+    (&[b'('; 201], "refused in statement 1: TooDeep\n"),
+    (
+        b"agents ann;; kinds",
+        "refused in statement 2: NoSentence\n",
+    ),
+    (
+        b"agents ann;; agents;;",
+        "refused in statement 2: NoSentence\n",
+    ),
+    (
+        b"agents ann;; clerk;;",
+        "refused in statement 2: Misplaced\n",
+    ),
+    (
+        b"kinds Oil;; agents ann, ann;;",
+        "refused in statement 2: Twice ann\n",
+    ),
+    (
+        b"template f() = g();;",
+        "refused in statement 1: Unknown g\n",
+    ),
+    (
+        b"template f(n: Int) = Success;; template g() = f(1, 2);;",
+        "refused in statement 2: WrongCount f: wanted 1, found 2\n",
+    ),
+    (
+        b"template f(n: Int) = Success;; template g() = f(@2006-05-03);;",
+        "refused in statement 2: WrongType: wanted Int, found Day\n",
+    ),
+    (
+        b"template f() = g();; template g() = g();;",
+        "refused in statement 2: Unguarded g\n",
+    ),
+    (
+        b"template f() = g();; template g() = f();;",
+        "refused in statement 1: Unguarded f\n",
+    ),
+];
+
 #[test]
-fn a_clerk_is_misplaced_in_a_book(rt: HostRuntime) {
-    assert_eq!(rt; misplaced_in(rt.alloc(), TWO_CLERKS), 2);
+fn a_text_that_is_no_book_is_refused_by_its_line(rt: HostRuntime) -> Result<(), Fail> {
+    refused(&rt, rt.alloc(), Form::Book, &BOOKS)
+}
+
+const JOURNALS: [(&[u8], &str); 4] = [
+    (b"", "refused in statement 1: Misplaced\n"),
+    (b"agents ann;;", "refused in statement 2: Misplaced\n"),
+    (
+        b"journal;; 0: show x;;",
+        "refused in statement 2: TooMany\n",
+    ),
+    (
+        b"journal;; 64: show x;; 65: show x;;",
+        "refused in statement 3: TooMany\n",
+    ),
+];
+
+#[test]
+fn a_text_that_is_no_journal_is_refused_by_its_line(rt: HostRuntime) -> Result<(), Fail> {
+    refused(&rt, rt.alloc(), Form::Journal, &JOURNALS)
 }

@@ -17,11 +17,11 @@ use Rattle.poets_syntax.specs.Book.{Definitions, Definition, template_in}
 use Rattle.poets_syntax.specs.Replace.{AreUndeclared}
 use Rattle.poets_syntax.specs.Applied.{Takes, ApplicationsFit, BodiesFit}
 use Rattle.poets_syntax.specs.WellFormed.{HaveDeclaredLiterals, IsWellFormed}
-use Rattle.poets_syntax.specs.TypeOf.{Fault, Twice, WrongCount, Checked, Passes, Fails, ◌>>=◌, Scope, must_be, unary_type, binary_type, make_type, if_type, resource_type, literal_type, type_of}
+use Rattle.poets_syntax.specs.TypeOf.{Fault, Twice, WrongCount, Verdict, Passes, Fails, ◌>>=◌, Scope, must_be, unary_type, binary_type, make_type, if_type, resource_type, literal_type, type_of}
 use Rattle.poets_syntax.specs.Typed.{is_among, in_use, check_new, check_type, check_args, check_application, check_contract, names_bound, types_bound, scope_of, IsTyped, IsTypedBook}
 
 -- what passes two checks passes each
-pub passed : {A B : Type 0} (x : Checked A) (next : A → Checked B) (b : B) → (x >>= next) ≡ Passes b → (a : A) × (x ≡ Passes a) × (next a ≡ Passes b)
+pub passed : {A B : Type 0} (x : Verdict A) (next : A → Verdict B) (b : B) → (x >>= next) ≡ Passes b → (a : A) × (x ≡ Passes a) × (next a ≡ Passes b)
 passed (Passes a) next b h = (a, refl, h)
 passed (Fails f) next b h = absurd cc
 
@@ -74,7 +74,7 @@ HaveDeclaredLiterals-typed declared scope (p ∷ params) (a ∷ args) e h =
     let rest : length params ≡ length args = cc in
     (HasDeclaredLiterals-typed declared scope a typed.0 typed.1, HaveDeclaredLiterals-typed declared scope params args rest here.2)
 
-undeclared : (used among : Bool) (x : Name) (next : Checked (Unit {0})) → (if used || among then Fails (Twice x) else next) ≡ Passes tt → (used ≡ false) × (next ≡ Passes tt)
+undeclared : (used among : Bool) (x : Name) (next : Verdict (Unit {0})) → (if used || among then Fails (Twice x) else next) ≡ Passes tt → (used ≡ false) × (next ≡ Passes tt)
 undeclared true among x next h = absurd cc
 undeclared false true x next h = absurd cc
 undeclared false false x next h = (refl, h)
@@ -100,7 +100,7 @@ AreUndeclared-typed book reports b h =
     let day = new_undeclared book reports (b.what ∷ b.receiver ∷ b.sender ∷ []) b.day [] what.1 in
     record { sender = sender.0; receiver = receiver.0; what = what.0; day = day.0 }
 
-as_many : (m n : ℕ) (f : Fault) (next : Checked (Unit {0})) → (if nat_eq m n then next else Fails f) ≡ Passes tt → (m ≡ n) × (next ≡ Passes tt)
+as_many : (m n : ℕ) (f : Fault) (next : Verdict (Unit {0})) → (if nat_eq m n then next else Fails f) ≡ Passes tt → (m ≡ n) × (next ≡ Passes tt)
 as_many m n f next h = by (nat_eq m n) refl h
   where
     by : (b : Bool) → nat_eq m n ≡ b → (if b then next else Fails f) ≡ Passes tt → (m ≡ n) × (next ≡ Passes tt)

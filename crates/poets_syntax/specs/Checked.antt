@@ -1,15 +1,24 @@
 -- Books that were checked.
-use Rattle.std.specs.Prelude.{List, map}
+use Rattle.std.specs.Prelude.{◌≡◌, ◌⊎◌, List, ◌++◌, All, Some, None, map}
 use Rattle.std.specs.List.{IsDistinct}
 use Rattle.poets_value.specs.declared.value.Name.{Name}
+use Rattle.poets_value.specs.declared.value.Ty.{Ty}
+use Rattle.poets_value.specs.declared.value.Ty.TheVariants as T
 use Rattle.poets_expr.specs.Env.{same_name}
 use Rattle.poets_syntax.specs.Book.{Definitions}
 use Rattle.poets_syntax.specs.Typed.{IsTypedBook}
 
--- each template is typed, and no two have one name
+-- the names of the templates, and those of reports beside them
+abbrev pub names_of_templates_and : Definitions → (reports : List Name) → List Name
+names_of_templates_and book reports = map (λ t. t.name) book.templates ++ reports
+
+-- each template is typed, no two templates or reports have one name, and none has the name of an agent or a kind
 pub record IsCheckedBook (book : Definitions) (reports : List Name) : Type 0 where
   pub typed : IsTypedBook book reports
-  pub distinct : IsDistinct same_name (map (λ t. t.name) book.templates)
+  pub distinct : IsDistinct same_name (names_of_templates_and book reports)
+  pub undeclared : All (λ f. book.declared f ≡ None) (names_of_templates_and book reports)
+  -- what is declared beside them is an agent or a kind
+  pub agent_or_kind : (x : Name) (ty : Ty) → book.declared x ≡ Some ty → (ty ≡ T.Agent) ⊎ (ty ≡ T.Kind)
 
 -- the same, beside reports of some names
 abbrev pub IsChecked : Definitions → Type 0

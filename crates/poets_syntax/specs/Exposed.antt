@@ -1,4 +1,4 @@
--- Exposed applications: those outside every transmit, and not behind a part that is not nullable.
+-- Exposed applications: those outside every transmit, and not after a part that is not nullable.
 use Rattle.std.specs.Prelude.{◌≡◌, ℕ, zero, suc, true, List, length, Some, None}
 use Rattle.poets_value.specs.declared.value.Name.{Name}
 use Rattle.poets_expr.specs.Expression.{Expression}

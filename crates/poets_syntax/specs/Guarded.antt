@@ -4,7 +4,7 @@ use Rattle.poets_value.specs.declared.value.Name.{Name}
 use Rattle.poets_expr.specs.Expression.{Expression}
 use Rattle.poets_syntax.specs.Contract.{Contract}
 use Rattle.poets_syntax.specs.Book.{Definitions}
-use Rattle.poets_syntax.specs.Marks.{Nullable, BodyIs}
+use Rattle.poets_syntax.specs.Marks.{Nullable, BodySatisfies}
 
 -- the contract applies the name outside every transmit, and not in the second part of a `;` whose first part is not nullable
 pub data Exposes (book : Definitions) : Contract → Name → Type 0 where
@@ -18,7 +18,7 @@ pub data Exposes (book : Definitions) : Contract → Name → Type 0 where
 
 -- there is an unguarded edge from a template to each name that its body exposes
 abbrev pub UnguardedEdge : Definitions → Name → Name → Type 0
-UnguardedEdge book f g = BodyIs book (λ c. Exposes book c g) f
+UnguardedEdge book f g = BodySatisfies book (λ c. Exposes book c g) f
 
 -- a path of edges: from the first name to the head of the list, from each of the list to the next, and from its last to the goal
 abbrev pub IsPath : (Edge : Name → Name → Type 0) → (from : Name) → List Name → (goal : Name) → Type 0

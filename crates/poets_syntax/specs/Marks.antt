@@ -20,13 +20,13 @@ abbrev pub Hopeful : Definitions → Contract → Type 0
 Hopeful book c = (n : ℕ) × May book [] c [] n
 
 -- there is a template of that name, and its body is so
-abbrev pub BodyIs : Definitions → (Contract → Type 0) → Name → Type 0
-BodyIs book Is f = (t : Definition) × (template_in book.templates f ≡ Some t) × Is t.body
+abbrev pub BodySatisfies : Definitions → (Contract → Type 0) → Name → Type 0
+BodySatisfies book Is f = (t : Definition) × (template_in book.templates f ≡ Some t) × Is t.body
 
 -- each mark is right: a template has it exactly where its body is so
 pub record AreRight (book : Definitions) (marks : Marks) : Type 0 where
-  pub nullable : (f : Name) → IsTrue (marks.nullable f) ↔ BodyIs book (Nullable book) f
-  pub hopeful : (f : Name) → IsTrue (marks.hopeful f) ↔ BodyIs book (Hopeful book) f
+  pub nullable : (f : Name) → IsTrue (marks.nullable f) ↔ BodySatisfies book (Nullable book) f
+  pub hopeful : (f : Name) → IsTrue (marks.hopeful f) ↔ BodySatisfies book (Hopeful book) f
 
 -- whether the empty trace performs a contract, by the marks of its templates
 abbrev pub nullable : Marks → Contract → Bool

@@ -18,13 +18,13 @@ pub data Fault : Type 0 where
   WrongType : (wanted found : Ty) → Fault
 
 -- what passes a check, or the first fault
-pub data Checked (A : Type 0) : Type 0 where
-  Passes : A → Checked A
-  Fails : Fault → Checked A
+pub data Verdict (A : Type 0) : Type 0 where
+  Passes : A → Verdict A
+  Fails : Fault → Verdict A
 
 -- one check after the other
 infixl 10 ◌>>=◌
-abbrev pub ◌>>=◌ : {A B : Type 0} → Checked A → (A → Checked B) → Checked B
+abbrev pub ◌>>=◌ : {A B : Type 0} → Verdict A → (A → Verdict B) → Verdict B
 (Passes a) >>= next = next a
 (Fails fault) >>= next = Fails fault
 
@@ -41,59 +41,59 @@ abbrev pub same_type : Ty → Ty → Bool
 same_type s t = nat_eq (ty_place s) (ty_place t)
 
 -- what is found has the wanted type
-abbrev pub must_be : (wanted found : Ty) → Checked (Unit {0})
+abbrev pub must_be : (wanted found : Ty) → Verdict (Unit {0})
 must_be wanted found = if same_type wanted found then Passes tt else Fails (WrongType wanted found)
 
 -- what is found is a number or a day
-abbrev pub must_be_measure : Ty → Checked (Unit {0})
-must_be_measure T.Int = Passes tt
-must_be_measure T.Day = Passes tt
-must_be_measure found = Fails (WrongType T.Int found)
+abbrev pub must_be_number_or_day : Ty → Verdict (Unit {0})
+must_be_number_or_day T.Int = Passes tt
+must_be_number_or_day T.Day = Passes tt
+must_be_number_or_day found = Fails (WrongType T.Int found)
 
 -- a node of one part, which must have the type
-abbrev pub of_one : (wanted x node : Ty) → Checked Ty
+abbrev pub of_one : (wanted x node : Ty) → Verdict Ty
 of_one wanted x node = do
   _ ← must_be wanted x
   Passes node
 
 -- a node of two parts, which must both have the type
-abbrev pub of_two : (wanted x y node : Ty) → Checked Ty
+abbrev pub of_two : (wanted x y node : Ty) → Verdict Ty
 of_two wanted x y node = do
   _ ← must_be wanted x
   _ ← must_be wanted y
   Passes node
 
-abbrev pub unary_type : UnaryOp → Ty → Checked Ty
+abbrev pub unary_type : UnaryOp → Ty → Verdict Ty
 unary_type Minus x = of_one T.Int x T.Int
 unary_type Not x = of_one T.Bool x T.Bool
 unary_type AmountOf x = of_one T.Resource x T.Int
 unary_type KindOf x = of_one T.Resource x T.Kind
 
 -- a number or a day, and a number that is added or taken away
-abbrev pub moved_type : Ty → Ty → Checked Ty
-moved_type x y = do
-  _ ← must_be_measure x
+abbrev pub sum_type : Ty → Ty → Verdict Ty
+sum_type x y = do
+  _ ← must_be_number_or_day x
   _ ← must_be T.Int y
   Passes x
 
-abbrev pub difference_type : Ty → Ty → Checked Ty
+abbrev pub difference_type : Ty → Ty → Verdict Ty
 difference_type T.Day T.Day = Passes T.Int
-difference_type x y = moved_type x y
+difference_type x y = sum_type x y
 
 -- two parts of one type
-abbrev pub equal_type : Ty → Ty → Checked Ty
+abbrev pub equal_type : Ty → Ty → Verdict Ty
 equal_type x y = do
   _ ← must_be x y
   Passes T.Bool
 
 -- two numbers or two days
-abbrev pub order_type : Ty → Ty → Checked Ty
+abbrev pub order_type : Ty → Ty → Verdict Ty
 order_type x y = do
-  _ ← must_be_measure x
+  _ ← must_be_number_or_day x
   equal_type x y
 
-abbrev pub binary_type : Op → Ty → Ty → Checked Ty
-binary_type O.Add x y = moved_type x y
+abbrev pub binary_type : Op → Ty → Ty → Verdict Ty
+binary_type O.Add x y = sum_type x y
 binary_type O.Sub x y = difference_type x y
 binary_type O.Mul x y = of_two T.Int x y T.Int
 binary_type O.Div x y = of_two T.Int x y T.Int
@@ -107,29 +107,29 @@ binary_type O.Ge x y = order_type x y
 binary_type O.And x y = of_two T.Bool x y T.Bool
 binary_type O.Or x y = of_two T.Bool x y T.Bool
 
-abbrev pub make_type : Ty → Ty → Checked Ty
+abbrev pub make_type : Ty → Ty → Verdict Ty
 make_type x y = do
   _ ← must_be T.Int x
   _ ← must_be T.Kind y
   Passes T.Resource
 
-abbrev pub if_type : Ty → Ty → Ty → Checked Ty
+abbrev pub if_type : Ty → Ty → Ty → Verdict Ty
 if_type x y z = do
   _ ← must_be T.Bool x
   _ ← must_be y z
   Passes y
 
-abbrev pub name_type : Name → Option Ty → Checked Ty
+abbrev pub name_type : Name → Option Ty → Verdict Ty
 name_type x None = Fails (Unknown x)
 name_type x (Some t) = Passes t
 
 -- the kind of a resource literal is declared as one
-abbrev pub resource_type : Name → Option Ty → Checked Ty
+abbrev pub resource_type : Name → Option Ty → Verdict Ty
 resource_type kind None = Fails (Unknown kind)
 resource_type kind (Some t) = of_one T.Kind t T.Resource
 
 -- an agent or a kind stands in an expression as a name, and not as a literal
-abbrev pub literal_type : Declared → Value → Checked Ty
+abbrev pub literal_type : Declared → Value → Verdict Ty
 literal_type declared (V.Int n) = Passes T.Int
 literal_type declared (V.Bool b) = Passes T.Bool
 literal_type declared (V.Day d) = Passes T.Day
@@ -138,7 +138,7 @@ literal_type declared (V.Agent x) = Fails (Unknown x)
 literal_type declared (V.Kind x) = Fails (Unknown x)
 
 -- the type of an expression, or its first fault: its parts from left to right, then the node
-abbrev pub type_of : Declared → Scope → Expression → Checked Ty
+abbrev pub type_of : Declared → Scope → Expression → Verdict Ty
 type_of declared scope (Literal v) = literal_type declared v
 type_of declared scope (Undefined t) = Passes t
 type_of declared scope (Named x) = name_type x (type_in declared scope x)

@@ -10,7 +10,7 @@ use Rattle.poets_syntax.specs.declared.term.Binders.{Binders}
 use Rattle.poets_syntax.specs.declared.term.Param.{Param}
 use Rattle.poets_syntax.specs.Contract.{Contract, Success, Failure, Transmit, Plus, Par, Seq, App}
 use Rattle.poets_syntax.specs.Book.{Definitions, Definition, template_in}
-use Rattle.poets_syntax.specs.TypeOf.{Twice, Unknown, WrongCount, Checked, Passes, Fails, ◌>>=◌, Scope, must_be, type_of}
+use Rattle.poets_syntax.specs.TypeOf.{Twice, Unknown, WrongCount, Verdict, Passes, Fails, ◌>>=◌, Scope, must_be, type_of}
 
 -- the name is one of these
 abbrev pub is_among : List Name → Name → Bool
@@ -21,7 +21,7 @@ abbrev pub in_use : Definitions → List Name → Name → Bool
 in_use book reports x = is_some (book.declared x) || is_some (template_in book.templates x) || is_among reports x
 
 -- the first name from the left that is in use, or stands earlier in the same list, is a fault
-abbrev pub check_new : (Name → Bool) → (earlier names : List Name) → Checked (Unit {0})
+abbrev pub check_new : (Name → Bool) → (earlier names : List Name) → Verdict (Unit {0})
 check_new used earlier [] = Passes tt
 check_new used earlier (x ∷ names) = if used x || is_among earlier x then Fails (Twice x) else check_new used (x ∷ earlier) names
 
@@ -35,30 +35,30 @@ abbrev pub scope_of : List Param → Scope
 scope_of params = map (λ p. (p.name, p.ty)) params
 
 -- the expression has the wanted type
-abbrev pub check_type : Declared → Scope → Ty → Expression → Checked (Unit {0})
+abbrev pub check_type : Declared → Scope → Ty → Expression → Verdict (Unit {0})
 check_type declared scope wanted e = do
   found ← type_of declared scope e
   must_be wanted found
 
 -- each argument has the type of its parameter
-abbrev pub check_args : Declared → Scope → List Param → List Expression → Checked (Unit {0})
+abbrev pub check_args : Declared → Scope → List Param → List Expression → Verdict (Unit {0})
 check_args declared scope (p ∷ params) (a ∷ args) = do
   _ ← check_type declared scope p.ty a
   check_args declared scope params args
 check_args declared scope _ _ = Passes tt
 
 -- as many arguments as parameters, each with the type of its parameter
-abbrev pub check_arguments : Declared → Scope → Name → List Param → List Expression → Checked (Unit {0})
+abbrev pub check_arguments : Declared → Scope → Name → List Param → List Expression → Verdict (Unit {0})
 check_arguments declared scope x params args =
     if nat_eq (length params) (length args) then check_args declared scope params args
     else Fails (WrongCount x (length params) (length args))
 
-abbrev pub check_application : Declared → Scope → Name → Option Definition → List Expression → Checked (Unit {0})
+abbrev pub check_application : Declared → Scope → Name → Option Definition → List Expression → Verdict (Unit {0})
 check_application declared scope f None args = Fails (Unknown f)
 check_application declared scope f (Some t) args = check_arguments declared scope f t.params args
 
 -- the first fault of a contract in the scope
-abbrev pub check_contract : Definitions → (reports : List Name) → Scope → Contract → Checked (Unit {0})
+abbrev pub check_contract : Definitions → (reports : List Name) → Scope → Contract → Verdict (Unit {0})
 check_contract book reports scope Success = Passes tt
 check_contract book reports scope Failure = Passes tt
 check_contract book reports scope (Transmit b p c) = do

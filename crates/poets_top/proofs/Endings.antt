@@ -1,14 +1,26 @@
 -- How runs end.
-use Rattle.std.proofs.Common.{◌≡◌, ℕ, ◌+◌, ◌<◌, ◌≤◌, List, [], length, Option, Some, refl, sym, ap, subst, ◌⊎◌, inl, inr, arith}
+use Rattle.std.proofs.Common.{◌≡◌, ℕ, ◌+◌, ◌<◌, ◌≤◌, true, false, List, [], length, Option, Some, None, refl, sym, ◌∙◌, ap, subst, ◌⊎◌, inl, inr, arith}
+use Rattle.std.specs.Prelude.{option_map}
 use Rattle.std.specs.Io.KnownBytes.{Appends}
 use Rattle.poets_io.specs.Causes.{Rose}
 use Rattle.poets_io.specs.Streams.{AppendsPart, LosesFront}
 use Rattle.poets_io.proofs.Transfers.{IfSome-loses_more}
 use Rattle.poets_lex.specs.Table.{Table}
-use Rattle.poets_form.specs.FirstForm.{FirstForm}
 use Rattle.poets_call.specs.Calls.{HistoryEntry}
-use Rattle.poets_top.specs.Sessions.{IsSession, IsNoSession}
+use Rattle.poets_call.specs.Sentences.{Sentence}
+use Rattle.poets_session.specs.declared.form.Form.TheVariants as F
+use Rattle.poets_session.specs.Sessions.{Text, IsSession, IsNoSession}
+use Rattle.poets_session.specs.declared.fault.SessionFault.{SessionFault}
+use Rattle.poets_session.specs.Causes.{refusal_of, IsFirstFault}
+use Rattle.poets_session.specs.Refusals.{IsRefused}
+use Rattle.poets_session.specs.Texts.{refusal_text}
 use Rattle.poets_top.specs.Runs.{block, longest, IsAnswerTo, IsResult, IsEnding, IsStatusOrMemory}
+use Rattle.poets_top.specs.Sessions.{all_built}
+use Rattle.poets_top.specs.Words.{Asks, form_of}
+use Rattle.poets_top.specs.declared.words.Task.{Task}
+use Rattle.poets_top.specs.declared.words.Task.TheVariants as T
+use Rattle.poets_session.proofs.LawsSaid.{read_once}
+use Rattle.poets_session.proofs.LawsRefused.{session_unrefused}
 
 -- a line was written, or a front of it up to a fault
 pub IsEnding-line : (Answers : ℕ → List HistoryEntry → List ℕ → Type 0) (held held' : Option (List ℕ)) (faults faults' wanted status : ℕ) (h : List HistoryEntry) (line : List ℕ) →
@@ -35,12 +47,14 @@ IsEnding-weaker A B held held' faults faults' f (IsEnding.WriteFailed {status = 
 IsEnding-weaker A B held held' faults faults' f (IsEnding.MemoryWhileWriting {h = g} {text = t} a w) = IsEnding.MemoryWhileWriting (f 0 g t a) w
 IsEnding-weaker A B held held' faults faults' f (IsEnding.MemoryBeforeWriting e) = IsEnding.MemoryBeforeWriting e
 
-answer_status : {text : List ℕ} {s : ℕ} {h : List HistoryEntry} {w : List ℕ} → IsAnswerTo text s h w → s ≤ 1
-answer_status (IsAnswerTo.Session a b) = omega arith
-answer_status (IsAnswerTo.Refused a b) = omega arith
+answer_status : {text : List ℕ} {task : Task} {s : ℕ} {h : List HistoryEntry} {w : List ℕ} → IsAnswerTo text task s h w → s ≤ 1
+answer_status (IsAnswerTo.Checked a) = omega arith
+answer_status (IsAnswerTo.Ran a b c) = omega arith
+answer_status (IsAnswerTo.NotBuilt a b) = omega arith
+answer_status (IsAnswerTo.Refused a) = omega arith
 
 -- what a source asks for has one of three statuses
-IsResult-status : {left left' : Option (List ℕ)} {s : ℕ} {h : List HistoryEntry} {w : List ℕ} → IsResult left left' s h w → (s ≤ 1) ⊎ (s ≡ 6)
+IsResult-status : {task : Task} {left left' : Option (List ℕ)} {s : ℕ} {h : List HistoryEntry} {w : List ℕ} → IsResult task left left' s h w → (s ≤ 1) ⊎ (s ≡ 6)
 IsResult-status (IsResult.Read g l a) = inl (answer_status a)
 IsResult-status (IsResult.TooLong l) = inr refl
 
@@ -49,12 +63,12 @@ not_five s (inl h) e = omega (arith, h, e)
 not_five s (inr h) e = omega (arith, h, e)
 
 -- the sink's count rose where the status is that of its fault
-pub Rose-IsEnding : (left left' held held' : Option (List ℕ)) (faults faults' status : ℕ) (h : List HistoryEntry) →
-    IsEnding (IsResult left left') held held' faults faults' status h → status ≡ 5 → Rose faults faults'
-Rose-IsEnding left left' held held' faults faults' status h (IsEnding.WroteAll b w) e = absurd (not_five status (IsResult-status b) e)
-Rose-IsEnding left left' held held' faults faults' status h (IsEnding.WriteFailed b w r) e = r
-Rose-IsEnding left left' held held' faults faults' status h (IsEnding.MemoryWhileWriting b w) e = absurd (omega (arith, e))
-Rose-IsEnding left left' held held' faults faults' status h (IsEnding.MemoryBeforeWriting q) e = absurd (omega (arith, e))
+pub Rose-IsEnding : (task : Task) (left left' held held' : Option (List ℕ)) (faults faults' status : ℕ) (h : List HistoryEntry) →
+    IsEnding (IsResult task left left') held held' faults faults' status h → status ≡ 5 → Rose faults faults'
+Rose-IsEnding task left left' held held' faults faults' status h (IsEnding.WroteAll b w) e = absurd (not_five status (IsResult-status b) e)
+Rose-IsEnding task left left' held held' faults faults' status h (IsEnding.WriteFailed b w r) e = r
+Rose-IsEnding task left left' held held' faults faults' status h (IsEnding.MemoryWhileWriting b w) e = absurd (omega (arith, e))
+Rose-IsEnding task left left' held held' faults faults' status h (IsEnding.MemoryBeforeWriting q) e = absurd (omega (arith, e))
 
 -- without a fault of the sink only want of memory keeps a run from its status
 IsStatusOrMemory-ends : (A : ℕ → List HistoryEntry → List ℕ → Type 0) (held held' : Option (List ℕ)) (faults faults' wanted : ℕ) {status : ℕ} {h : List HistoryEntry} →
@@ -71,47 +85,86 @@ not_short text left' short l =
     let more : longest < length text = IfSome-loses_more longest (longest + block) (Some text) left' l in
     omega (arith, short, more)
 
-of_session : (text : List ℕ) (form : FirstForm) (names : Table) → IsSession text form names → {bs : List ℕ} → text ≡ bs →
-    {s : ℕ} {h : List HistoryEntry} {w : List ℕ} → IsAnswerTo bs s h w → s ≡ 0
-of_session text form names session e (IsAnswerTo.Session a b) = refl
-of_session text form names session e (IsAnswerTo.Refused absent r) = absurd (absent form names (subst (λ t. IsSession t form names) e session))
+-- ---- a text that the source told
 
-of_no_session : (text : List ℕ) → IsNoSession text → {bs : List ℕ} → text ≡ bs → {s : ℕ} {h : List HistoryEntry} {w : List ℕ} → IsAnswerTo bs s h w → s ≡ 1
-of_no_session text absent e (IsAnswerTo.Session {form = form} {names = names} a b) = absurd (absent form names (subst (λ t. IsSession t form names) (sym e) a))
-of_no_session text absent e (IsAnswerTo.Refused a b) = refl
+-- words ask for one task
+pub asked_once : (words : List (List ℕ)) (a b : Task) → Asks words a → Asks words b → a ≡ b
+asked_once words T.Check T.Check h k = refl
+asked_once words T.Check T.Run h k = absurd cc
+asked_once words T.Run T.Check h k = absurd cc
+asked_once words T.Run T.Run h k = refl
 
-session_status : (text : List ℕ) (left' : Option (List ℕ)) (form : FirstForm) (names : Table) → length text ≤ longest → IsSession text form names →
-    {s : ℕ} {h : List HistoryEntry} {w : List ℕ} → IsResult (Some text) left' s h w → s ≡ 0
-session_status text left' form names short session (IsResult.Read g l a) = of_session text form names session g.0 a
-session_status text left' form names short session (IsResult.TooLong l) = absurd (not_short text left' short l)
+-- every answer to the task has the status
+abbrev pub IsAnsweredBy : Text → Task → (wanted : ℕ) → Type 0
+IsAnsweredBy text task wanted = (s : ℕ) (h : List HistoryEntry) (w : List ℕ) → IsAnswerTo text task s h w → s ≡ wanted
 
-refusal_status : (text : List ℕ) (left' : Option (List ℕ)) → length text ≤ longest → IsNoSession text →
-    {s : ℕ} {h : List HistoryEntry} {w : List ℕ} → IsResult (Some text) left' s h w → s ≡ 1
-refusal_status text left' short absent (IsResult.Read g l a) = of_no_session text absent g.0 a
-refusal_status text left' short absent (IsResult.TooLong l) = absurd (not_short text left' short l)
-
-too_long_status : (text : List ℕ) (left' : Option (List ℕ)) → longest < length text → {s : ℕ} {h : List HistoryEntry} {w : List ℕ} → IsResult (Some text) left' s h w → s ≡ 6
-too_long_status text left' long (IsResult.Read g l a) = absurd (let e = ap length g.0 in omega (arith, long, l, e))
-too_long_status text left' long (IsResult.TooLong l) = refl
+told_status : (text : Text) (task : Task) (left' : Option (List ℕ)) (wanted : ℕ) → length text ≤ longest → IsAnsweredBy text task wanted →
+    {s : ℕ} {h : List HistoryEntry} {w : List ℕ} → IsResult task (Some text) left' s h w → s ≡ wanted
+told_status text task left' wanted short f (IsResult.Read {text = read} {written = w} {status = s} {h = h} g l a) = f s h w (subst (λ t. IsAnswerTo t task s h w) (sym g.0) a)
+told_status text task left' wanted short f (IsResult.TooLong l) = absurd (not_short text left' short l)
 
 -- the source told its text, and neither it nor the sink failed
-pub complete-ends : (text : List ℕ) (left left' held held' : Option (List ℕ)) (faults faults' status : ℕ) (h : List HistoryEntry) (form : FirstForm) (names : Table) →
-    left ≡ Some text → length text ≤ longest → IsSession text form names → (Rose faults faults' → ⊥) →
-    IsEnding (IsResult left left') held held' faults faults' status h → IsStatusOrMemory 0 status
-complete-ends text left left' held held' faults faults' status h form names told short session n ends =
-    IsStatusOrMemory-ends (IsResult (Some text) left') held held' faults faults' 0 (λ s g t a. session_status text left' form names short session a) n
-    (subst (λ l. IsEnding (IsResult l left') held held' faults faults' status h) told ends)
+pub told-ends : (text : Text) (task asked : Task) (left left' held held' : Option (List ℕ)) (faults faults' wanted status : ℕ) (h : List HistoryEntry) →
+    asked ≡ task → left ≡ Some text → length text ≤ longest → IsAnsweredBy text task wanted → (Rose faults faults' → ⊥) →
+    IsEnding (IsResult asked left left') held held' faults faults' status h → IsStatusOrMemory wanted status
+told-ends text task asked left left' held held' faults faults' wanted status h same told short f n ends =
+    IsStatusOrMemory-ends (IsResult task (Some text) left') held held' faults faults' wanted (λ s g t a. told_status text task left' wanted short f a) n
+    (subst (λ t. IsEnding (IsResult t (Some text) left') held held' faults faults' status h) same (subst (λ l. IsEnding (IsResult asked l left') held held' faults faults' status h) told ends))
 
-pub refused-ends : (text : List ℕ) (left left' held held' : Option (List ℕ)) (faults faults' status : ℕ) (h : List HistoryEntry) →
-    left ≡ Some text → length text ≤ longest → IsNoSession text → (Rose faults faults' → ⊥) →
-    IsEnding (IsResult left left') held held' faults faults' status h → IsStatusOrMemory 1 status
-refused-ends text left left' held held' faults faults' status h told short absent n ends =
-    IsStatusOrMemory-ends (IsResult (Some text) left') held held' faults faults' 1 (λ s g t a. refusal_status text left' short absent a) n
-    (subst (λ l. IsEnding (IsResult l left') held held' faults faults' status h) told ends)
+-- ---- the answers to one text
 
-pub too_long-ends : (text : List ℕ) (left left' held held' : Option (List ℕ)) (faults faults' status : ℕ) (h : List HistoryEntry) →
-    left ≡ Some text → longest < length text → (Rose faults faults' → ⊥) →
-    IsEnding (IsResult left left') held held' faults faults' status h → IsStatusOrMemory 6 status
-too_long-ends text left left' held held' faults faults' status h told long n ends =
-    IsStatusOrMemory-ends (IsResult (Some text) left') held held' faults faults' 6 (λ s g t a. too_long_status text left' long a) n
-    (subst (λ l. IsEnding (IsResult l left') held held' faults faults' status h) told ends)
+ran : (text : Text) (names : Table) (statements : List Sentence) (task : Task) → task ≡ T.Run → IsSession text F.Clerks names statements → all_built statements ≡ true → IsAnsweredBy text task 0
+ran text names statements task e session built s h w (IsAnswerTo.Checked a) = absurd cc
+ran text names statements task e session built s h w (IsAnswerTo.Ran a b c) = refl
+ran text names statements task e session built s h w (IsAnswerTo.NotBuilt {names = others} {statements = found} a none) =
+    let same = (read_once text names others statements found session.read a.read).1 in
+    let here : all_built statements ≡ false = ap all_built same ∙ none in
+    absurd cc
+ran text names statements task e session built s h w (IsAnswerTo.Refused {names = others} {r = r} a) =
+    absurd (session_unrefused text F.Clerks others names r statements (subst (λ t. IsRefused text (form_of t) others r) e a) session)
+
+-- a session that the engine takes
+pub IsAnsweredBy-built : (text : Text) (names : Table) (statements : List Sentence) → IsSession text F.Clerks names statements → all_built statements ≡ true → IsAnsweredBy text T.Run 0
+IsAnsweredBy-built text names statements session built = ran text names statements T.Run refl session built
+
+checked : (text : Text) (names : Table) (statements : List Sentence) (task : Task) → task ≡ T.Check → IsSession text F.Book names statements → IsAnsweredBy text task 0
+checked text names statements task e session s h w (IsAnswerTo.Checked a) = refl
+checked text names statements task e session s h w (IsAnswerTo.Ran a b c) = refl
+checked text names statements task e session s h w (IsAnswerTo.NotBuilt a none) = absurd cc
+checked text names statements task e session s h w (IsAnswerTo.Refused {names = others} {r = r} a) =
+    absurd (session_unrefused text F.Book others names r statements (subst (λ t. IsRefused text (form_of t) others r) e a) session)
+
+-- a book
+pub IsAnsweredBy-book : (text : Text) (names : Table) (statements : List Sentence) → IsSession text F.Book names statements → IsAnsweredBy text T.Check 0
+IsAnsweredBy-book text names statements session = checked text names statements T.Check refl session
+
+left_out : (text : Text) (names : Table) (statements : List Sentence) (task : Task) → task ≡ T.Run → IsSession text F.Clerks names statements → all_built statements ≡ false → IsAnsweredBy text task 1
+left_out text names statements task e session none s h w (IsAnswerTo.Checked a) = absurd cc
+left_out text names statements task e session none s h w (IsAnswerTo.Ran {names = others} {statements = found} a built c) =
+    let same = (read_once text names others statements found session.read a.read).1 in
+    let here : all_built statements ≡ true = ap all_built same ∙ built in
+    absurd cc
+left_out text names statements task e session none s h w (IsAnswerTo.NotBuilt a b) = refl
+left_out text names statements task e session none s h w (IsAnswerTo.Refused a) = refl
+
+-- a session that it does not take yet
+pub IsAnsweredBy-not_built : (text : Text) (names : Table) (statements : List Sentence) → IsSession text F.Clerks names statements → all_built statements ≡ false → IsAnsweredBy text T.Run 1
+IsAnsweredBy-not_built text names statements session none = left_out text names statements T.Run refl session none
+
+-- no session
+pub IsAnsweredBy-none : (text : Text) (task : Task) → IsNoSession text (form_of task) → IsAnsweredBy text task 1
+IsAnsweredBy-none text task none s h w (IsAnswerTo.Checked {names = names} {statements = statements} a) = absurd (none names statements a)
+IsAnsweredBy-none text task none s h w (IsAnswerTo.Ran {names = names} {statements = statements} a b c) = absurd (none names statements a)
+IsAnsweredBy-none text task none s h w (IsAnswerTo.NotBuilt a b) = refl
+IsAnsweredBy-none text task none s h w (IsAnswerTo.Refused a) = refl
+
+-- the line of a fault that is not want of memory
+pub IsAnswerTo-fault : (text : Text) (task : Task) (fault : SessionFault) (line : List ℕ) → option_map (refusal_text fault.names) (refusal_of fault.what) ≡ Some line →
+    IsFirstFault text (form_of task) fault → IsAnswerTo text task 1 [] line
+IsAnswerTo-fault text task fault line told (inl memory) =
+    let none : option_map (refusal_text fault.names) (refusal_of fault.what) ≡ None = ap (λ cause. option_map (refusal_text fault.names) (refusal_of cause)) memory in
+    absurd cc
+IsAnswerTo-fault text task fault line told (inr found) =
+    let some : Some (refusal_text fault.names found.0) ≡ Some line = sym (ap (option_map (refusal_text fault.names)) found.1) ∙ told in
+    let same : refusal_text fault.names found.0 ≡ line = cc in
+    subst (IsAnswerTo text task 1 []) same (IsAnswerTo.Refused found.2)

@@ -1,5 +1,7 @@
-pub mod OneWord
 pub mod Noting
 pub mod Lines
-pub mod Sessions
+pub mod Taking
+pub mod Fewness
+pub mod Making
+pub mod Owning
 pub mod Endings

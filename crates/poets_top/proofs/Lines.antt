@@ -40,7 +40,7 @@ front_text-more names i entries e lt at =
     ∙ lines_from-append names 1 front (entry_of e ∷ [])
     ∙ ap (λ l. history_text names front ++ l) (append-nil (line_text names (1 + length front) (entry_of e)) ∙ ap (λ n. line_text names n (entry_of e)) place)
 
--- the first lines, and those behind them
+-- the first lines, and those after them
 front_text-rest : (names : Table) (i : ℕ) (entries : List Entry) →
     history_text names (history_of entries) ≡ front_text names i entries ++ lines_from names (1 + length (history_of (take i entries))) (history_of (drop i entries))
 front_text-rest names i entries =
@@ -48,7 +48,7 @@ front_text-rest names i entries =
     ∙ ap (history_text names) (map-append entry_of (take i entries) (drop i entries))
     ∙ lines_from-append names 1 (history_of (take i entries)) (history_of (drop i entries))
 
--- a front was written, and then a part of what stands behind it
+-- a front was written, and then a part of what stands after it
 AppendsPart-behind : (a b c : Option (List ℕ)) (front line rest whole : List ℕ) → whole ≡ (front ++ line) ++ rest → Appends a b front → AppendsPart b c line → AppendsPart a c whole
 AppendsPart-behind a b c front line rest whole e p q = record {
   taken = length front + q.taken;

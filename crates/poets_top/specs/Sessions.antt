@@ -1,45 +1,28 @@
--- Texts that are sessions of the first form, and their histories.
-use Rattle.std.specs.Prelude.{◌≡◌, ℕ, List, [], ◌∷◌, map}
-use Rattle.poets_lex.specs.declared.token.Token.{Token}
-use Rattle.poets_lex.specs.Table.{Table}
-use Rattle.poets_lex.specs.Lexes.{Lexes}
-use Rattle.poets_form.specs.Gives.{toks}
-use Rattle.poets_form.specs.FirstForm.{FirstForm, OfContract, IsFirstForm}
-use Rattle.poets_form.specs.ReadAs.{names_declared}
-use Rattle.poets_call.specs.Calls.{Request, HistoryEntry, Call, calls_of}
+-- Sessions that the engine takes, and their histories.
+use Rattle.std.specs.Prelude.{◌≡◌, ℕ, suc, ◌≤◌, Bool, true, false, List, length, All, Some, slice_get}
+use Rattle.std.specs.List.{list_all}
+use Rattle.poets_call.specs.Calls.{Request, HistoryEntry, own}
 use Rattle.poets_call.specs.Frame.{Frame}
-use Rattle.poets_call.specs.Plain.{plain_frame}
 use Rattle.poets_call.specs.Replies.{Legal}
+use Rattle.poets_call.specs.Sentences.{Sentence}
+use Rattle.poets_call.specs.Declarations.{book_of, reports_of}
+use Rattle.poets_session.specs.Sessions.{scripts_of}
 
--- the bytes of a text
-abbrev pub Text : Type 0
-Text = List ℕ
+-- the engine makes registrations and transmissions
+abbrev pub is_built : Request → Bool
+is_built (Request.Register x c) = true
+is_built (Request.Transmit x e) = true
+is_built request = false
 
--- the text has these tokens, which are of the first form; its names are numbered in this table
-pub record IsSession (text : Text) (form : FirstForm) (names : Table) : Type 0 where
-  pub tokens : List Token
-  pub lexed : Lexes [] text 0 tokens names
-  pub formed : IsFirstForm (toks tokens) form
+-- it takes a session whose scripts have such commands alone
+abbrev pub all_built : List Sentence → Bool
+all_built statements = list_all (λ script. list_all is_built script) (scripts_of statements)
 
--- the text is no session of the first form
-abbrev pub IsNoSession : Text → Type 0
-IsNoSession text = (form : FirstForm) (names : Table) → IsSession text form names → ⊥
-
--- the declared names of the session are its book, which has no templates
-abbrev pub frame_of_form : FirstForm → Frame
-frame_of_form form = plain_frame (names_declared form) []
-
--- the commands of the script: the registration, and then the transmissions
-abbrev pub script_of : FirstForm → List Request
-script_of (OfContract agents kinds name contract transmissions) =
-    Request.Register name contract ∷ map (λ p. Request.Transmit p.0 p.1) transmissions
-script_of _ = []
-
--- the script under clerk 1
-abbrev pub calls_of_form : FirstForm → List Call
-calls_of_form form = map (λ request. (1, request)) (script_of form)
-
--- a legal history whose calls are the script under clerk 1
-pub record IsHistoryOf (form : FirstForm) (h : List HistoryEntry) : Type 0 where
-  pub legal : Legal (frame_of_form form) h
-  pub calls : calls_of h ≡ calls_of_form form
+-- a legal history under the book and the reports, in which the commands of each clerk are his script, in order, and no other clerk's stand
+pub record IsHistoryOf (statements : List Sentence) (h : List HistoryEntry) : Type 0 where
+  pub frame : Frame
+  pub book : frame.book ≡ book_of statements
+  pub reports : frame.reports ≡ reports_of statements
+  pub legal : Legal frame h
+  pub own : (place : ℕ) (script : List Request) → slice_get (scripts_of statements) place ≡ Some script → own (suc place) h ≡ script
+  pub clerks : All (λ e. (1 ≤ e.clerk) × (e.clerk ≤ length (scripts_of statements))) h

@@ -1,13 +1,27 @@
 //! The words of the command line.
-ghost use Rattle.std.specs.Prelude.{◌≡◌, ◌↔◌, IsTrue, map, string_bytes};
-ghost use Rattle.poets_top.specs.Words.{IsCommandForm};
+ghost use Rattle.std.specs.Prelude.{IfSome, IfNone, map, string_bytes};
+ghost use Rattle.poets_top.specs.Words.{Asks, IsCommandForm};
 
-/// Whether the words are a command form.
-pub(crate) fn is_command_form(words: &[String]) -> bool
-    ensures { IsTrue result ↔ IsCommandForm (map string_bytes words.now) }
+/// What the program is asked to do.
+#[derive(Debug, Clone, Copy, PartialEq, Eq)]
+pub(crate) enum Task {
+    /// Check a book.
+    Check,
+    /// Run a session of clerks.
+    Run,
+}
+
+/// What the words ask for, if they are a command form.
+pub(crate) fn task_of(words: &[String]) -> Option<Task>
+    ensures some { IfSome result (Asks (map string_bytes words.now)) }
+    ensures none { IfNone result (¬ (IsCommandForm (map string_bytes words.now))) }
 {
-    match words {
-        [word] => word.as_str() == "run",
-        _ => false,
+    let [word] = words else {
+        return None;
+    };
+    match word.as_str() {
+        "check" => Some(Task::Check),
+        "run" => Some(Task::Run),
+        _ => None,
     }
 }

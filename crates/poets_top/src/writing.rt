@@ -10,7 +10,7 @@ use poets_call::Entry;
 use poets_io::{Failed, Sink, write_all};
 use poets_lex::Names;
 use poets_print::line_text;
-use poets_value::{List, Memory};
+use poets_value::Memory;
 use std::alloc::Global;
 
 /// Why a text was not written whole.

@@ -3,12 +3,12 @@ use Rattle.std.proofs.Common.{◌≡◌, ℕ, ◌+◌, ◌<◌, Bool, List, [], 
 use Rattle.std.proofs.Math.Path.{fun_ext}
 use Rattle.std.proofs.lemmas.List.{take_more, drop_more, map-append}
 use Rattle.poets_value.specs.declared.value.Name.{Name}
-use Rattle.poets_syntax.specs.TypeOf.{Checked}
+use Rattle.poets_syntax.specs.TypeOf.{Verdict}
 use Rattle.poets_syntax.specs.Typed.{is_among, check_new}
 use Rattle.poets_call.specs.declared.statement.Statement.{Statement}
 use Rattle.poets_call.specs.Sentences.{Sentence, sentence_of, sentences_of}
 use Rattle.poets_call.specs.Declarations.{names_declared}
-use Rattle.poets_call.specs.TypedSentences.{FirstFault, or_else, twice_from}
+use Rattle.poets_call.specs.TypedSentences.{NumberedFault, or_else, twice_from}
 use Rattle.poets_types.specs.declared.cause.TypeCause.{TypeCause}
 use Rattle.poets_types.specs.declared.cause.TypeCause.TheVariants as C
 use Rattle.poets_types.specs.Faults.{IsFaultOf, IsFirstFault}
@@ -43,10 +43,10 @@ pub check_new-same : (used used' : Name → Bool) (names : List Name) → ((x : 
 check_new-same used used' names e = ap (λ (u : Name → Bool). check_new u [] names) (fun_ext e)
 
 -- the fault of the statement is the first
-pub first_here : (check : Checked (Unit {0})) (cause : TypeCause) (number : ℕ) (others first : FirstFault) → IsFaultOf check cause → first ≡ or_else check number others →
+pub first_here : (check : Verdict (Unit {0})) (cause : TypeCause) (number : ℕ) (others first : NumberedFault) → IsFaultOf check cause → first ≡ or_else check number others →
     IsFirstFault first (record { statement = number; cause = cause })
-first_here check (C.Twice x) number others first f e = e ∙ ap (λ (k : Checked (Unit {0})). or_else k number others) f
-first_here check (C.Unknown x) number others first f e = e ∙ ap (λ (k : Checked (Unit {0})). or_else k number others) f
-first_here check (C.WrongCount x wanted found) number others first f e = e ∙ ap (λ (k : Checked (Unit {0})). or_else k number others) f
-first_here check (C.WrongType wanted found) number others first f e = e ∙ ap (λ (k : Checked (Unit {0})). or_else k number others) f
+first_here check (C.Twice x) number others first f e = e ∙ ap (λ (k : Verdict (Unit {0})). or_else k number others) f
+first_here check (C.Unknown x) number others first f e = e ∙ ap (λ (k : Verdict (Unit {0})). or_else k number others) f
+first_here check (C.WrongCount x wanted found) number others first f e = e ∙ ap (λ (k : Verdict (Unit {0})). or_else k number others) f
+first_here check (C.WrongType wanted found) number others first f e = e ∙ ap (λ (k : Verdict (Unit {0})). or_else k number others) f
 first_here check C.Memory number others first f e = tt

@@ -1,7 +1,7 @@
 -- The faults that the code tells.
 use Rattle.std.specs.Prelude.{◌≡◌, Option, Some, None, IfSome}
-use Rattle.poets_syntax.specs.TypeOf.{Fault, Twice, Unknown, WrongCount, WrongType, Checked, Fails}
-use Rattle.poets_call.specs.TypedSentences.{FirstFault}
+use Rattle.poets_syntax.specs.TypeOf.{Fault, Twice, Unknown, WrongCount, WrongType, Verdict, Fails}
+use Rattle.poets_call.specs.TypedSentences.{NumberedFault}
 use Rattle.poets_types.specs.declared.cause.TypeCause.{TypeCause}
 use Rattle.poets_types.specs.declared.cause.TypeCause.TheVariants as C
 use Rattle.poets_types.specs.declared.cause.TypeFault.{TypeFault}
@@ -15,9 +15,9 @@ fault_of (C.WrongType wanted found) = Some (WrongType wanted found)
 fault_of C.Memory = None
 
 -- the cause tells the fault of the check, or want of memory
-abbrev pub IsFaultOf : Checked (Unit {0}) → TypeCause → Type 0
+abbrev pub IsFaultOf : Verdict (Unit {0}) → TypeCause → Type 0
 IsFaultOf check cause = IfSome (fault_of cause) (λ fault. check ≡ Fails fault)
 
 -- the number and the cause tell the first fault, or the cause tells want of memory
-abbrev pub IsFirstFault : FirstFault → TypeFault → Type 0
+abbrev pub IsFirstFault : NumberedFault → TypeFault → Type 0
 IsFirstFault first f = IfSome (fault_of f.cause) (λ fault. first ≡ Some (f.statement, fault))

@@ -11,7 +11,7 @@ ghost use Rattle.poets_call.specs.Sentences.{sentence_of, sentences_of};
 ghost use Rattle.poets_call.specs.Declarations.{agents_and_kinds, template_in_statement, report_in_statement, book_of, reports_of};
 ghost use Rattle.poets_call.specs.TypedSentences.{report_names, check_sentence, mistyped_from, first_fault};
 ghost use Rattle.poets_types.specs.Faults.{IsFirstFault};
-ghost use Rattle.poets_types.specs.Answers.{Tells};
+ghost use Rattle.poets_types.specs.Answers.{IsAnswerOf};
 ghost use Rattle.poets_types.specs.Indices.{book_in};
 
 use crate::command::check_request;
@@ -102,9 +102,9 @@ fn gather(alloc: Global, statements: &[Statement]) -> Result<Checked, Memory>
 }
 
 // The statement is typed in the book.
-#[tactic(auto, using(crate::proofs::Checks::tells))]
+#[tactic(auto, using(crate::proofs::Checks::answer_told))]
 fn check_statement(alloc: Global, index: &Index, statement: &Statement) -> Result<(), TypeCause>
-    ensures { Tells (check_sentence (book_in index.now) (map query_of index.now.reports.now) (sentence_of statement.now)) result }
+    ensures { IsAnswerOf (check_sentence (book_in index.now) (map query_of index.now.reports.now) (sentence_of statement.now)) result }
 {
     match statement {
         Statement::Template(template) => check_template(alloc, index, template),

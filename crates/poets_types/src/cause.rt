@@ -6,7 +6,7 @@ use thiserror::Error;
 /// Why something is not typed, or want of memory.
 #[derive(Debug, Clone, Copy, PartialEq, Eq, Error)]
 pub enum TypeCause {
-    /// The name is declared before, or stands earlier in the same list of parameters or binders.
+    /// The name is declared elsewhere, or stands earlier in the same list.
     #[error("a name stands twice")]
     Twice { name: Name },
     /// Nothing of that name may stand here.
@@ -23,7 +23,7 @@ pub enum TypeCause {
     Memory,
 }
 
-/// Which statement is not typed, and why. Statements count from 1; beside want of memory the number says nothing.
+/// Which statement is not typed, and why. Statements count from 1. For want of memory the number means nothing.
 #[derive(Debug, Clone, Copy, PartialEq, Eq, Error)]
 #[error("in statement {statement}: {cause}")]
 pub struct TypeFault {

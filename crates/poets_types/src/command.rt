@@ -10,7 +10,7 @@ ghost use Rattle.poets_syntax.specs.Typed.{check_contract as check_contract_lem}
 ghost use Rattle.poets_report.specs.Query.{query_of};
 ghost use Rattle.poets_call.specs.Calls.{request_of};
 ghost use Rattle.poets_call.specs.Replies.{report_in};
-ghost use Rattle.poets_call.specs.TypedSentences.{report_names, check_declared as check_declared_lem, check_event as check_event_lem, check_asked as check_asked_lem, check_request as check_request_lem};
+ghost use Rattle.poets_call.specs.TypedSentences.{report_names, check_declared as check_declared_lem, check_event as check_event_lem, check_report_arguments as check_report_arguments_lem, check_request as check_request_lem};
 ghost use Rattle.poets_types.specs.Faults.{IsFaultOf};
 ghost use Rattle.poets_types.specs.Answers.{answer_of};
 ghost use Rattle.poets_types.specs.Indices.{book_in};
@@ -53,13 +53,13 @@ fn report_of(reports: &[Report], name: Name) -> Option<&Report>
 
 // The arguments are those that a report of that name takes.
 #[tactic(auto, using(crate::proofs::Reports::report_in_find))]
-fn check_asked(
+fn check_report_arguments(
     decls: &Decls,
     reports: &[Report],
     name: Name,
     args: &[Expr],
 ) -> Result<(), TypeCause>
-    ensures { result ≡ answer_of (check_asked_lem (declared_of decls.now.names) name (report_in (map query_of reports.now) name) (map expression_of args.now)) }
+    ensures { result ≡ answer_of (check_report_arguments_lem (declared_of decls.now.names) name (report_in (map query_of reports.now) name) (map expression_of args.now)) }
 {
     match report_of(reports, name) {
         None => Err(TypeCause::Unknown { name }),
@@ -80,7 +80,7 @@ pub(crate) fn check_request(index: &Index, command: &Command) -> Result<(), Type
         Command::Tally { report, args }
         | Command::Portfolio { report, args, .. }
         | Command::Watch { report, args } => {
-            check_asked(decls, index.reports, *report, args.as_slice())
+            check_report_arguments(decls, index.reports, *report, args.as_slice())
         }
         Command::End { .. } | Command::Show { .. } | Command::Read { .. } => Ok(()),
     }

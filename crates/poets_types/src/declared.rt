@@ -8,7 +8,7 @@ ghost use Rattle.poets_call.specs.Sentences.{sentence_of, sentences_of};
 ghost use Rattle.poets_call.specs.Declarations.{names_declared as names_declared_lem};
 ghost use Rattle.poets_call.specs.TypedSentences.{twice_from};
 ghost use Rattle.poets_types.specs.Faults.{IsFirstFault};
-ghost use Rattle.poets_types.specs.Answers.{Tells};
+ghost use Rattle.poets_types.specs.Answers.{IsAnswerOf};
 
 use crate::table::add;
 use crate::{TypeCause, TypeFault};
@@ -32,7 +32,7 @@ fn names_declared(statement: &Statement) -> &[Name]
 
 // Adds names, if each is new.
 fn add_names(seen: &mut BTreeSet<Name>, names: &[Name]) -> Result<(), TypeCause>
-    ensures told { Tells (check_new (contains name_cmp seen.old) [] names.now) result }
+    ensures told { IsAnswerOf (check_new (contains name_cmp seen.old) [] names.now) result }
     ensures seen { IfOk result (λ _. (x : Name) → contains name_cmp seen.new x ≡ (contains name_cmp seen.old x || is_among names.now x)) }
 {
     for name in names {

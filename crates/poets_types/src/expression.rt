@@ -3,7 +3,7 @@ ghost use Rattle.std.specs.Prelude.{◌≡◌};
 ghost use Rattle.poets_value.specs.declared.value.Ty.TheVariants as T;
 ghost use Rattle.poets_expr.specs.Env.{declared_of};
 ghost use Rattle.poets_expr.specs.Expression.{expression_of};
-ghost use Rattle.poets_syntax.specs.TypeOf.{type_of as type_of_lem, must_be as must_be_lem, must_be_measure as must_be_measure_lem, of_one as of_one_lem, of_two as of_two_lem, moved_type as moved_type_lem, difference_type as difference_type_lem, equal_type as equal_type_lem, order_type as order_type_lem, binary_type as binary_type_lem, make_type as make_type_lem, if_type as if_type_lem, resource_type as resource_type_lem, name_type as name_type_lem};
+ghost use Rattle.poets_syntax.specs.TypeOf.{type_of as type_of_lem, must_be as must_be_lem, must_be_number_or_day as must_be_number_or_day_lem, of_one as of_one_lem, of_two as of_two_lem, sum_type as sum_type_lem, difference_type as difference_type_lem, equal_type as equal_type_lem, order_type as order_type_lem, binary_type as binary_type_lem, make_type as make_type_lem, if_type as if_type_lem, resource_type as resource_type_lem, name_type as name_type_lem};
 ghost use Rattle.poets_syntax.specs.Typed.{check_type as check_type_lem};
 ghost use Rattle.poets_types.specs.Answers.{answer_of};
 ghost use Rattle.poets_types.specs.Scopes.{names_in};
@@ -17,7 +17,7 @@ use poets_value::{Name, Ty};
 pub(crate) fn must_be(wanted: Ty, found: Ty) -> Result<(), TypeCause>
     ensures { result ≡ answer_of (must_be_lem wanted found) }
 {
-    if wanted as u8 == found as u8 {
+    if wanted == found {
         Ok(())
     } else {
         Err(TypeCause::WrongType { wanted, found })
@@ -25,8 +25,8 @@ pub(crate) fn must_be(wanted: Ty, found: Ty) -> Result<(), TypeCause>
 }
 
 // What is found is a number or a day.
-fn must_be_measure(found: Ty) -> Result<(), TypeCause>
-    ensures { result ≡ answer_of (must_be_measure_lem found) }
+fn must_be_number_or_day(found: Ty) -> Result<(), TypeCause>
+    ensures { result ≡ answer_of (must_be_number_or_day_lem found) }
 {
     match found {
         Ty::Int | Ty::Day => Ok(()),
@@ -55,10 +55,10 @@ fn of_two(wanted: Ty, x: Ty, y: Ty, node: Ty) -> Result<Ty, TypeCause>
 }
 
 // The type of a number or a day with a number added or taken away.
-fn moved_type(x: Ty, y: Ty) -> Result<Ty, TypeCause>
-    ensures { result ≡ answer_of (moved_type_lem x y) }
+fn sum_type(x: Ty, y: Ty) -> Result<Ty, TypeCause>
+    ensures { result ≡ answer_of (sum_type_lem x y) }
 {
-    must_be_measure(x)?;
+    must_be_number_or_day(x)?;
     must_be(Ty::Int, y)?;
     Ok(x)
 }
@@ -69,7 +69,7 @@ fn difference_type(x: Ty, y: Ty) -> Result<Ty, TypeCause>
 {
     match (&x, &y) {
         (Ty::Day, Ty::Day) => Ok(Ty::Int),
-        _ => moved_type(x, y),
+        _ => sum_type(x, y),
     }
 }
 
@@ -85,7 +85,7 @@ fn equal_type(x: Ty, y: Ty) -> Result<Ty, TypeCause>
 fn order_type(x: Ty, y: Ty) -> Result<Ty, TypeCause>
     ensures { result ≡ answer_of (order_type_lem x y) }
 {
-    must_be_measure(x)?;
+    must_be_number_or_day(x)?;
     equal_type(x, y)
 }
 
@@ -94,7 +94,7 @@ fn binary_type(op: Op, x: Ty, y: Ty) -> Result<Ty, TypeCause>
     ensures { result ≡ answer_of (binary_type_lem op x y) }
 {
     match op {
-        Op::Add => moved_type(x, y),
+        Op::Add => sum_type(x, y),
         Op::Sub => difference_type(x, y),
         Op::Mul | Op::Div | Op::Rem => of_two(Ty::Int, x, y, Ty::Int),
         Op::Eq | Op::Ne => equal_type(x, y),

@@ -6,7 +6,7 @@ ghost use Rattle.poets_syntax.specs.Book.{definition_of};
 ghost use Rattle.poets_syntax.specs.Typed.{check_type as check_type_lem, types_bound as types_bound_lem};
 ghost use Rattle.poets_report.specs.Query.{query_of};
 ghost use Rattle.poets_call.specs.TypedSentences.{check_template as check_template_lem, check_report as check_report_lem, check_fold as check_fold_lem, check_key as check_key_lem};
-ghost use Rattle.poets_types.specs.Answers.{answer_of, Tells};
+ghost use Rattle.poets_types.specs.Answers.{answer_of, IsAnswerOf};
 ghost use Rattle.poets_types.specs.Indices.{book_in, reports_in};
 ghost use Rattle.poets_types.specs.Scopes.{names_in};
 
@@ -28,7 +28,7 @@ pub(crate) fn check_template(
     index: &Index,
     template: &Template,
 ) -> Result<(), TypeCause>
-    ensures { Tells (check_template_lem (book_in index.now) (reports_in index.now) (definition_of template.now)) result }
+    ensures { IsAnswerOf (check_template_lem (book_in index.now) (reports_in index.now) (definition_of template.now)) result }
 {
     let params = Params::new(alloc, index, template.params.as_slice())?;
     check_contract(index, &Scope::Params(&params), &template.body)
@@ -80,7 +80,7 @@ fn check_fold(index: &Index, scope: &Scope, report: &Report) -> Result<(), TypeC
 
 // The parameters are new, and the rest passes under them.
 pub(crate) fn check_report(alloc: Global, index: &Index, report: &Report) -> Result<(), TypeCause>
-    ensures { Tells (check_report_lem (book_in index.now) (reports_in index.now) (query_of report.now)) result }
+    ensures { IsAnswerOf (check_report_lem (book_in index.now) (reports_in index.now) (query_of report.now)) result }
 {
     let params = Params::new(alloc, index, report.params.as_slice())?;
     check_fold(index, &Scope::Params(&params), report)

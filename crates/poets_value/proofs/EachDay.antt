@@ -18,7 +18,7 @@ record HasDay (n : ℤ) : Type 0 where
 order : (x n : ℕ) → x ≤ n → (x < n) ⊎ (x ≡ n)
 order x n h = grind (arith, h)
 
--- the day behind the last one of a year
+-- the day after the last one of a year
 year_later : (y : ℕ) (n : ℤ) → IsDayOf y 12 31 n → n <ℤ pos 2_932_896 → (y < 9999) ⊎ (y ≡ 9999) → HasDay (n +ℤ pos 1)
 year_later y n h low (inl more) =
     let next = days_from_civil-next_year (pos y) (pos (y + 1)) (omega (arith, ints)) (omega (arith, ints)) in
@@ -28,7 +28,7 @@ year_later y n h low (inr end) =
     let last : n ≡ days_from_civil (pos 9999) 12 31 = rw end at h.2 in
     absurd (omega (arith, ints, last, days_from_civil-max))
 
--- the day behind the last one of a month
+-- the day after the last one of a month
 month_later : (y m d : ℕ) (n : ℤ) → IsDayOf y m d n → d ≡ days_in_month (pos y) m → n <ℤ pos 2_932_896 → (m < 12) ⊎ (m ≡ 12) → HasDay (n +ℤ pos 1)
 month_later y m d n h last low (inl more) =
     let next = days_from_civil-next_month (pos y) m d h.1.1.0 last in
@@ -45,7 +45,7 @@ day_later y m d n h low (inl more) =
     record { year = y; month = m; day = d + 1; of_day = (h.0, (h.1.0, h.1.1, (omega arith, omega arith)), omega (arith, ints, next, h.2)) }
 day_later y m d n h low (inr last) = month_later y m d n h last low (order m 12 h.1.1.1)
 
--- the day that many days behind the first one
+-- the day that many days after the first one
 day_from_first : (k : ℕ) (n : ℤ) → n ≡ neg_ℤ (pos 719_162) +ℤ pos k → n ≤ℤ pos 2_932_896 → HasDay n
 day_from_first zero n e high =
     record { year = 1; month = 1; day = 1; of_day = (omega arith, ((omega (arith, ints), omega (arith, ints)), (omega arith, omega arith), (omega arith, omega arith)), omega (arith, ints, e, first_day)) }

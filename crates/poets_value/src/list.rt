@@ -111,7 +111,7 @@ impl<T> List<T> {
         }
     }
 
-    /// Puts an item at a place, and moves those behind it. `Err` hands the item back and changes nothing.
+    /// Puts an item at a place, and moves those after it. `Err` hands the item back and changes nothing.
     pub fn insert(&mut self, place: usize, item: T) -> Result<(), T>
         requires { place ≤ length self.old.items }
         ensures ok { OnOk result (self.new.items ≡ insert self.old.items place item) }

@@ -1,6 +1,5 @@
-use Rattle.poets_expr.specs.Env.{declared_of}
 use Rattle.poets_engine.proofs.Owed.{nat_lt-cut}
 use Rattle.poets_engine.proofs.steps.is_large.Goals as goal
 
 pub returns : goal.returns
-returns c = nat_lt-cut _ _ (c.wide.ensures (declared_of c.args._declared.now.names))
+returns c = nat_lt-cut _ _ c.wide.ensures

@@ -1,8 +1,10 @@
-use Rattle.std.proofs.Common.{arith}
+use Rattle.std.proofs.Common.{sym, ◌∙◌, ap, min}
+use Rattle.poets_syntax.specs.Book.{definitions_of}
 use Rattle.poets_syntax.specs.Contract.{contract_of}
-use Rattle.poets_syntax.specs.Plain.{no_marks}
-use Rattle.poets_norm.proofs.Sizes.{wide_by-size}
+use Rattle.poets_norm.proofs.StudiedBooks.{width-studied}
 use Rattle.poets_norm.proofs.widths.wide.Goals as goal
 
 pub returns : goal.returns
-returns c = λ declared. omega (arith, wide_by-size no_marks (contract_of c.args.term.now), c.size.ensures)
+returns c =
+    let studied = c.args.studied.now in
+    c.measure.ensures.wide ∙ ap (λ n. min n 1001) (sym (width-studied (definitions_of studied.book) studied.marks c.book-book.ensures.studied (contract_of c.args.term.now) c.requires))

@@ -1,4 +1,4 @@
-use Rattle.poets_parse.proofs.Lexed.{read_natural}
+use Rattle.poets_grammar.proofs.Lexed.{read_natural}
 use Rattle.poets_parse.proofs.tests.read.Goals as goal
 
 pub statement-requires : goal.statement-requires

@@ -1,6 +1,6 @@
 use Rattle.poets_syntax.specs.Residual.{after_at}
 use Rattle.poets_norm.proofs.NormalForms.{normal_of_built, built_of_normal}
-use Rattle.poets_residue.proofs.Kept.{IsWellFormed-after_at, built-after_at}
+use Rattle.poets_residue.proofs.Kept.{IsWellFormed-after_at, CountsFit-after_at, built-after_at}
 use Rattle.poets_residue.proofs.Relation.{IsWellFormed-After}
 use Rattle.poets_residue.proofs.WholeResiduals.{IsWhole-after_at}
 use Rattle.poets_residue.proofs.laws.residual_well_formed.Goals as goal
@@ -10,6 +10,9 @@ returns-clause-formed c = λ book marks e t r formed declared h after. IsWellFor
 
 pub returns-clause-formed_at : goal.returns-clause-formed_at
 returns-clause-formed_at c = λ d book marks e t formed declared h. IsWellFormed-after_at book marks formed e declared d t h
+
+pub returns-clause-fit_at : goal.returns-clause-fit_at
+returns-clause-fit_at c = λ d book marks e t fit h. CountsFit-after_at book marks fit e d t h
 
 pub returns-clause-normal_at : goal.returns-clause-normal_at
 returns-clause-normal_at c = λ d book marks e t h.

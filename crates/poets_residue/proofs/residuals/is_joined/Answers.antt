@@ -1,35 +1,25 @@
-use Rattle.std.proofs.Common.{◌≡◌, true}
-use Rattle.poets_value.specs.declared.event.Event.{Event}
-use Rattle.poets_expr.specs.Env.{Declared}
-use Rattle.poets_syntax.specs.Contract.{Contract, contract_of, Plus, Par, Seq}
-use Rattle.poets_syntax.specs.Marks.{nullable}
-use Rattle.poets_syntax.specs.Normal.{par, seq}
-use Rattle.poets_syntax.specs.Plain.{plain, no_marks}
-use Rattle.poets_syntax.specs.Residual.{after}
-use Rattle.poets_norm.specs.Choices.{IsDistinctChoice}
-use Rattle.poets_norm.proofs.Alternatives.{distinct_choice-twice}
+use Rattle.std.proofs.Common.{◌≡◌, length, refl}
+use Rattle.poets_syntax.specs.declared.term.Term.{Term}
+use Rattle.poets_syntax.specs.declared.term.Term.TheVariants as T
+use Rattle.poets_syntax.specs.Book.{definitions_of}
+use Rattle.poets_syntax.specs.Contract.{contract_of, Seq}
+use Rattle.poets_syntax.specs.Studied.{marks_of}
+use Rattle.poets_syntax.specs.Marks.{Marks}
+use Rattle.poets_residue.proofs.Joined.{IsJoined, distinct-after_at}
 use Rattle.poets_residue.proofs.residuals.is_joined.Goals as goal
 
-module _ (declared : Declared) (e : Event) where
-  abbrev next : Contract → Contract
-  next c = after (plain declared) no_marks e c
-
-  after-plus : (a b : Contract) → IsDistinctChoice (next (Plus a b))
-  after-plus a b = distinct_choice-twice (Plus (next a) (next b))
-
-  after-par : (a b : Contract) → IsDistinctChoice (next (Par a b))
-  after-par a b = distinct_choice-twice (Plus (par (next a) b) (par a (next b)))
-
-  after-seq : (a b : Contract) → nullable no_marks a ≡ true → IsDistinctChoice (next (Seq a b))
-  after-seq a b h = rw h (distinct_choice-twice (Plus (seq (next a) b) (next b)))
-
-pub returns-in-Plus : goal.returns-in-Plus
-returns-in-Plus c = λ _ declared e. rw c.in-Plus.is (after-plus declared e (contract_of c.in-Plus.field-0.value) (contract_of c.in-Plus.field-1.value))
-
-pub returns-in-Par : goal.returns-in-Par
-returns-in-Par c = λ _ declared e. rw c.in-Par.is (after-par declared e (contract_of c.in-Par.field-0.value) (contract_of c.in-Par.field-1.value))
+joined_of : (marks : Marks) (t : Term) → ((p q : _) → t ≡ T.Seq p q → ⊥) → IsJoined marks (contract_of t)
+joined_of marks (T.Seq' p a q b) h = absurd (h _ _ refl)
+joined_of marks _ h = tt
 
 pub returns-in-Seq : goal.returns-in-Seq
-returns-in-Seq c = λ h declared e.
-    let over : nullable no_marks (contract_of c.in-Seq.a.value) ≡ true = rw (c.nullable.ensures, c.deref.ensures) at h in
-    rw c.in-Seq.is (after-seq declared e (contract_of c.in-Seq.a.value) (contract_of c.in-Seq.field-1.value) over)
+returns-in-Seq c = λ h e.
+    rw c.in-Seq.is (distinct-after_at (definitions_of c.args.studied.now.book) (marks_of c.args.studied.now) e
+    (length (definitions_of c.args.studied.now.book).templates) (Seq (contract_of c.in-Seq.a.value) (contract_of c.in-Seq.field-1.value))
+    (rw (c.nullable.ensures, c.deref.ensures) at h))
+
+pub returns-in_default : goal.returns-in_default
+returns-in_default c = λ _ e.
+    distinct-after_at (definitions_of c.args.studied.now.book) (marks_of c.args.studied.now) e
+    (length (definitions_of c.args.studied.now.book).templates) (contract_of c.args.term.now)
+    (joined_of (marks_of c.args.studied.now) c.args.term.now c.in_default.not-Seq)

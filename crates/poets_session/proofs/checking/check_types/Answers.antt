@@ -2,11 +2,11 @@ use Rattle.std.proofs.Common.{sym, subst}
 use Rattle.poets_call.specs.Sentences.{sentences_of}
 use Rattle.poets_call.specs.TypedSentences.{first_fault}
 use Rattle.poets_session.specs.Checking.{IsTypeRefusal}
-use Rattle.poets_session.specs.Causes.{Tells}
+use Rattle.poets_session.specs.Causes.{IsCauseOf}
 use Rattle.poets_session.proofs.Typing.{type_told}
 use Rattle.poets_session.proofs.checking.check_types.Goals as goal
 
 pub returns-in-Err-clause-fault : goal.returns-in-Err-clause-fault
 returns-in-Err-clause-fault c =
     let found = first_fault (sentences_of c.args.statements.now) in
-    subst (Tells (IsTypeRefusal found)) (sym c.cause_of.ensures) (type_told found c.in-Err.fault c.in-Err.ensures.fault)
+    subst (IsCauseOf (IsTypeRefusal found)) (sym c.cause_of.ensures) (type_told found c.in-Err.fault c.in-Err.ensures.fault)

@@ -1,4 +1,4 @@
-use Rattle.std.proofs.Common.{◌≡◌, All, false, sym, subst, ap, ◌∙◌}
+use Rattle.std.proofs.Common.{◌≡◌, All, false, sym, subst}
 use Rattle.std.proofs.lemmas.List.{take_all}
 use Rattle.std.proofs.lemmas.List.Elements.{All-nil, All-more}
 use Rattle.poets_call.specs.Sentences.{sentence_of}

@@ -1,4 +1,3 @@
-use Rattle.std.proofs.Common.{◌≡◌}
 use Rattle.poets_syntax.specs.Book.{definitions_of}
 use Rattle.poets_call.specs.Sentences.{sentences_of}
 use Rattle.poets_call.specs.Declarations.{book_of}

@@ -1,12 +1,12 @@
-use Rattle.std.proofs.Common.{◌≡◌, ◌+◌, ◌∷◌, [], true, false, Some, refl, sym, ap, subst, ◌∙◌, arith, take, drop, length}
+use Rattle.std.proofs.Common.{◌+◌, Some, refl, ap, ◌∙◌, arith, take, drop}
 use Rattle.poets_call.specs.Sentences.{sentence_of, sentences_of}
 use Rattle.poets_session.specs.Places.{Misplaced, TooMany}
-use Rattle.poets_session.proofs.Placing.{placed_more, misplaced, too_many, at_end, journal_missing, before_length, at_place, past_place, past_all}
+use Rattle.poets_session.proofs.Placing.{placed_more, misplaced, too_many, before_length, at_place, past_place}
 use Rattle.poets_session.proofs.counting.check_places.Goals as goal
 
 pub loop-place-init : goal.loop-place-init
 loop-place-init c = (
-  record { fault = refl; behind = refl; counting = record { clerks = refl; templates = refl; reports = refl; commands = refl } },
+  record { fault = refl; after = refl; counting = record { clerks = refl; templates = refl; reports = refl; commands = refl } },
   omega arith,
   omega arith,
   omega arith,

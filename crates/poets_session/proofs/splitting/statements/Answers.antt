@@ -1,14 +1,12 @@
-use Rattle.std.proofs.Common.{◌≡◌, ◌+◌, ◌∷◌, ◌++◌, [], length, refl, sym, ap, ◌∙◌, subst, arith, append-nil}
-use Rattle.std.specs.List.{AllZip}
+use Rattle.std.proofs.Common.{◌+◌, ◌∷◌, [], length, sym, ap, ◌∙◌, subst, arith}
 use Rattle.std.proofs.lemmas.List.{map-append, length-append, length-map}
 use Rattle.std.proofs.lemmas.Result.{err_from_is_err_and}
 use Rattle.poets_grammar.specs.Tokens.{toks}
 use Rattle.poets_call.specs.Sentences.{sentence_of, sentences_of}
 use Rattle.poets_session.specs.Pieces.{pieces_of}
-use Rattle.poets_session.specs.Sessions.{Says}
 use Rattle.poets_session.specs.Splitting.{piece}
-use Rattle.poets_session.specs.Refusals.{IsUnread, IsStopped}
-use Rattle.poets_session.specs.Causes.{Tells}
+use Rattle.poets_session.specs.Refusals.{IsUnread}
+use Rattle.poets_session.specs.Causes.{IsCauseOf}
 use Rattle.poets_session.proofs.Saying.{Standing, standing_first, standing_more, standing_stops, standing_end, nothing_left}
 use Rattle.poets_session.proofs.splitting.statements.Goals as goal
 
@@ -39,7 +37,7 @@ returns-in_err-read_statement-clause-stopped c =
     let number = ap (λ n. n + 1) (c.len.ensures ∙ sym (length-map found sentence_of)) in
     let e = err_from_is_err_and c.from_residual.result c.from_residual.ensures.1 in
     rw (e.1, e.2) (standing_stops p rest here (sentences_of found) c.in_err-read_statement.field-0.0 stands
-    (subst (λ n. Tells (IsUnread here n) c.in_err-read_statement.field-0.0) number c.in_err-read_statement.ensures.unread))
+    (subst (λ n. IsCauseOf (IsUnread here n) c.in_err-read_statement.field-0.0) number c.in_err-read_statement.ensures.unread))
 
 pub returns-clause-said : goal.returns-clause-said
 returns-clause-said c =

@@ -9,7 +9,7 @@ use Rattle.poets_syntax.specs.Contract.{Contract}
 use Rattle.poets_syntax.specs.Book.{Definition, template_in}
 use Rattle.poets_syntax.specs.Perf.{Perf}
 use Rattle.poets_syntax.specs.May.{May}
-use Rattle.poets_syntax.specs.Marks.{BodyIs, Nullable, Hopeful}
+use Rattle.poets_syntax.specs.Marks.{BodySatisfies, Nullable, Hopeful}
 use Rattle.poets_syntax.specs.Examples.{book, sale, again, sale_template, again_template}
 use Rattle.poets_syntax.proofs.Replacing.{truth}
 use Rattle.poets_syntax.proofs.examples.right_marks.Goals as goal
@@ -35,22 +35,22 @@ no_transmit (Perf.Taken h p) e = cc
 again_nullable : Perf book [] again_template.body []
 again_nullable = Perf.Left Perf.Done
 
-nullable_one : (f : Name) → same_name f again ≡ true → BodyIs book (Nullable book) f
-nullable_one f e = subst (λ g. BodyIs book (Nullable book) g) (sym (name_one f again e)) (again_template, refl, again_nullable)
+nullable_one : (f : Name) → same_name f again ≡ true → BodySatisfies book (Nullable book) f
+nullable_one f e = subst (λ g. BodySatisfies book (Nullable book) g) (sym (name_one f again e)) (again_template, refl, again_nullable)
 
-nullable_two : (f : Name) → BodyIs book (Nullable book) f → same_name f again ≡ true
+nullable_two : (f : Name) → BodySatisfies book (Nullable book) f → same_name f again ≡ true
 nullable_two f h = elim (one_of_two f h.0 h.1) [
   | inl k ↦ absurd (no_transmit (subst (λ t. Perf book [] t.body []) (sym k.1) h.2) refl)
   | inr k ↦ subst (λ g. same_name g again ≡ true) k.0 refl
 ]
 
-hopeful_one : (f : Name) → (same_name f sale || same_name f again) ≡ true → BodyIs book (Hopeful book) f
+hopeful_one : (f : Name) → (same_name f sale || same_name f again) ≡ true → BodySatisfies book (Hopeful book) f
 hopeful_one f e = elim (truth (same_name f sale)) [
-  | inl k ↦ subst (λ g. BodyIs book (Hopeful book) g) (sym (name_one f sale k)) (sale_template, refl, (2, May.Granted (May.Granted May.Done)))
-  | inr k ↦ subst (λ g. BodyIs book (Hopeful book) g) (sym (name_one f again (rw k at e))) (again_template, refl, (0, May.Left May.Done))
+  | inl k ↦ subst (λ g. BodySatisfies book (Hopeful book) g) (sym (name_one f sale k)) (sale_template, refl, (2, May.Granted (May.Granted May.Done)))
+  | inr k ↦ subst (λ g. BodySatisfies book (Hopeful book) g) (sym (name_one f again (rw k at e))) (again_template, refl, (0, May.Left May.Done))
 ]
 
-hopeful_two : (f : Name) → BodyIs book (Hopeful book) f → (same_name f sale || same_name f again) ≡ true
+hopeful_two : (f : Name) → BodySatisfies book (Hopeful book) f → (same_name f sale || same_name f again) ≡ true
 hopeful_two f h = elim (one_of_two f h.0 h.1) [
   | inl k ↦ subst (λ g. (same_name g sale || same_name g again) ≡ true) k.0 refl
   | inr k ↦ subst (λ g. (same_name g sale || same_name g again) ≡ true) k.0 refl

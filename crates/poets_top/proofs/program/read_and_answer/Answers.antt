@@ -9,14 +9,14 @@ use Rattle.poets_top.proofs.program.read_and_answer.Goals as goal
 pub returns-in-Ok-clause-ends : goal.returns-in-Ok-clause-ends
 returns-in-Ok-clause-ends g c = λ four.
     let same = sym c.as_slice.ensures in
-    IsEnding-weaker (IsAnswerTo c.as_slice.result.now) (IsResult _ _) _ _ _ _
+    IsEnding-weaker (IsAnswerTo c.as_slice.result.now c.args.task) (IsResult c.args.task _ _) _ _ _ _
     (λ status h text a. IsResult.Read (subst (GivesAll _ _) same c.in-Ok.ensures.whole) (subst (λ t. length t ≤ longest) same c.in-Ok.ensures.short) a) c.answer.ensures.ends
 
 pub returns-in-Err-TooLong-clause-ends : goal.returns-in-Err-TooLong-clause-ends
 returns-in-Err-TooLong-clause-ends g c = λ four.
-    IsEnding-line (IsResult _ _) _ _ _ _ 6 c.refuse.result.status _ too_long_text (ap history_of c.refuse.ensures.history)
-    (IsResult.TooLong (c.read_up_to.ensures.too_long (c.in-Err-TooLong.is ∙ ap (λ e. Err e) c.in-Err-TooLong.field-0-is))) c.refuse.ensures.line
+    IsEnding-line (IsResult c.args.task _ _) _ _ _ _ 6 c.write_line.result.status _ too_long_text (ap history_of c.write_line.ensures.history)
+    (IsResult.TooLong (c.read_up_to.ensures.too_long (c.in-Err-TooLong.is ∙ ap (λ e. Err e) c.in-Err-TooLong.field-0-is))) c.write_line.ensures.line
 
 pub returns-in-Err-Memory-clause-ends : goal.returns-in-Err-Memory-clause-ends
 returns-in-Err-Memory-clause-ends g c = λ four.
-    IsEnding-nothing (IsResult _ _) _ _ _ _ c.without_history-in-Err-Memory.result.status _ refl c.without_history-in-Err-Memory.ensures.status (ap history_of c.without_history-in-Err-Memory.ensures.history)
+    IsEnding-nothing (IsResult c.args.task _ _) _ _ _ _ c.without_history-in-Err-Memory.result.status _ refl c.without_history-in-Err-Memory.ensures.status (ap history_of c.without_history-in-Err-Memory.ensures.history)

@@ -1,21 +1,34 @@
-use Rattle.std.proofs.Common.{sym, subst, ◌∙◌}
-use Rattle.std.specs.List.{All}
-use Rattle.poets_syntax.specs.WellFormed.{IsDeclaredEvent}
-use Rattle.poets_call.specs.Calls.{history_of}
-use Rattle.poets_engine.specs.State.{declared_in}
-use Rattle.poets_top.specs.Scripts.{AreNoted, MayBeRegistered, registered_of}
-use Rattle.poets_top.proofs.Noting.{AreNoted-none}
+use Rattle.std.proofs.Common.{◌+◌, ◌++◌, refl, sym, ◌∙◌, ap, subst}
+use Rattle.std.specs.Arc.{arc_value}
+use Rattle.std.proofs.Common.{map}
+use Rattle.poets_call.specs.Calls.{calls_of, history_of, request_of}
+use Rattle.poets_top.specs.Scripts.{AreNoted, under_clerk}
+use Rattle.poets_top.proofs.Noting.{AreNoted-none, Legal-same}
+use Rattle.poets_top.proofs.Making.{calls_of_scripts-more}
 use Rattle.poets_top.proofs.work.make_calls.Goals as goal
 
-pub register-requires-clause-taken : goal.register-requires-clause-taken
-register-requires-clause-taken c = subst (λ ns. MayBeRegistered (declared_in ns) (registered_of c.args.form.registered)) (sym c.new-engine.ensures.names) c.requires.registered
+pub loop-place-init : goal.loop-place-init
+loop-place-init c = record {
+  noted = subst (λ es. AreNoted c.new-engine.result (history_of es)) (sym c.new-entries.ensures) (AreNoted-none c.new-engine.result c.new-engine.ensures.right c.new-engine.ensures.calls);
+  calls = ap (λ es. calls_of (history_of es)) c.new-entries.ensures;
+  studied = refl;
+  reports = refl;
+}
 
-pub register-requires-clause-noted : goal.register-requires-clause-noted
-register-requires-clause-noted c =
-    subst (λ es. AreNoted c.new-engine.result (history_of es)) (sym c.new-entries.ensures) (AreNoted-none c.new-engine.result c.new-engine.ensures.calls)
+pub loop-place-preserved : goal.loop-place-preserved
+loop-place-preserved c = record {
+  noted = c.in_ok-make_script.ensures.noted;
+  calls =
+      c.in_ok-make_script.ensures.calls
+      ∙ ap (λ s. calls_of (history_of c.loop-place.entries.items) ++ under_clerk (c.loop-place.place + 1) (map (λ a. request_of (arc_value a)) s)) c.as_slice.ensures
+      ∙ ap (λ calls. calls ++ under_clerk (c.loop-place.place + 1) (map (λ a. request_of (arc_value a)) c.index-scripts-place.result.items)) c.loop-place.invariant.calls
+      ∙ sym (calls_of_scripts-more c.args.scripts.now c.loop-place.place (c.loop-place.place + 1) c.index-scripts-place.result c.loop-place-test.true c.index-scripts-place.is refl);
+  studied = c.make_script.ensures.frame.0 ∙ c.loop-place.invariant.studied;
+  reports = c.make_script.ensures.frame.1 ∙ c.loop-place.invariant.reports;
+}
 
-pub transmit_all-requires-clause-taken : goal.transmit_all-requires-clause-taken
-transmit_all-requires-clause-taken c =
-    let names = c.in_ok-register.ensures.frame.0 ∙ c.new-engine.ensures.names in
-    subst (λ ns. All (λ p. IsDeclaredEvent (declared_in ns) p.1) c.as_slice.result.now) (sym names)
-    (subst (All (λ p. IsDeclaredEvent (declared_in c.args.form.decls.names.entries) p.1)) (sym c.as_slice.ensures) c.requires.transmissions)
+pub returns-clause-legal : goal.returns-clause-legal
+returns-clause-legal c =
+    let l = c.loop-place in
+    Legal-same l.engine c.args.studied c.args.reports.items (history_of l.entries.items) (l.invariant.studied ∙ c.new-engine.ensures.studied) (l.invariant.reports ∙ c.new-engine.ensures.reports)
+    l.invariant.noted.right l.invariant.noted.legal

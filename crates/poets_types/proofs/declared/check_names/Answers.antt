@@ -4,7 +4,7 @@ use Rattle.std.proofs.Math.Bool.{or_comm}
 use Rattle.std.proofs.lemmas.List.Folds.{list_any-append}
 use Rattle.poets_value.specs.Names.{name_cmp}
 use Rattle.poets_expr.specs.Env.{same_name}
-use Rattle.poets_syntax.specs.TypeOf.{Checked, Passes}
+use Rattle.poets_syntax.specs.TypeOf.{Verdict, Passes}
 use Rattle.poets_syntax.specs.Typed.{is_among, check_new}
 use Rattle.poets_call.specs.Sentences.{sentence_of, sentences_of}
 use Rattle.poets_call.specs.Declarations.{names_declared}
@@ -19,7 +19,7 @@ returns-in-Err-clause-fault c =
     let earlier = names_before (sentences_of (take i c.args.statements.now)) [] in
     let same = check_new-same (contains name_cmp c.loop-place.seen) (is_among earlier) (names_declared (sentence_of s)) c.loop-place.invariant.seen in
     let fault : IsFaultOf (check_new (contains name_cmp c.loop-place.seen) [] (names_declared (sentence_of s))) c.in-Err.cause = rw c.names_declared.ensures at c.in-Err.ensures.told in
-    first_here (check_new (is_among earlier) [] (names_declared (sentence_of s))) c.in-Err.cause (i + 1) _ _ (subst (λ (r : Checked (Unit {0})). IsFaultOf r c.in-Err.cause) same fault)
+    first_here (check_new (is_among earlier) [] (names_declared (sentence_of s))) c.in-Err.cause (i + 1) _ _ (subst (λ (r : Verdict (Unit {0})). IsFaultOf r c.in-Err.cause) same fault)
     (c.loop-place.invariant.rest ∙ twice_from-more c.args.statements.now i (i + 1) s earlier c.loop-place-test.true c.index-statements-place.is)
 
 pub loop-place-preserved : goal.loop-place-preserved

@@ -1,0 +1,94 @@
+"""Times the built program on generated texts, a quarter, a half and the whole of each size.
+
+A family is a function from a share of its size to the words, the text and the number of units that its cost is told in
+(bytes or commands). For each share `measure` prints seconds (the least of five runs), peak memory and the cost of a
+unit. It ends the script with status 1 where the cost of the whole is 1.3 times that of a quarter or more, where peak
+memory passes 20 times the text plus 16 MB, or where the program ends with another status than 0.
+
+A peak below that of a Python process, some 10 MB, is told as that.
+"""
+import os
+import pathlib
+import subprocess
+import sys
+import tempfile
+import time
+
+PROGRAM = pathlib.Path(__file__).resolve().parent.parent / "crates/poets/out/poets"
+SHARES = (0.25, 0.5, 1.0)
+MOST_RATIO = 1.3
+
+
+def once(program, words, path):
+    """Seconds, peak memory in bytes and status of one run on the file. It is measured in a process of its own,
+    since a child's peak memory is at least what its parent held when it was started."""
+    with open(path, "rb") as source, open(os.devnull, "wb") as sink:
+        begin = time.monotonic()
+        child = os.posix_spawn(
+            program, [program, words], os.environ,
+            file_actions=[(os.POSIX_SPAWN_DUP2, source.fileno(), 0), (os.POSIX_SPAWN_DUP2, sink.fileno(), 1)])
+        _, status, usage = os.wait4(child, 0)
+        seconds = time.monotonic() - begin
+    return seconds, usage.ru_maxrss * 1024, os.waitstatus_to_exitcode(status)
+
+
+def run(program, words, text):
+    """The least seconds of five runs, the peak memory in bytes, and the greatest status."""
+    with tempfile.NamedTemporaryFile() as file:
+        file.write(text)
+        file.flush()
+        runs = []
+        for _ in range(5):
+            told = subprocess.run(
+                [sys.executable, "-S", __file__, program, words, file.name], capture_output=True, check=True, text=True)
+            runs.append([float(word) for word in told.stdout.split()])
+        return min(r[0] for r in runs), max(r[1] for r in runs), int(max(abs(r[2]) for r in runs))
+
+
+def measure_family(program, family, shares=SHARES):
+    """Prints what the family costs at the shares. Answers whether it kept its bounds, and the seconds."""
+    print(family.__doc__)
+    kept = True
+    costs = []
+    spent = []
+    for share in shares:
+        words, text, units = family(share)
+        seconds, peak, status = run(program, words, text)
+        costs.append(seconds / units)
+        spent.append(seconds)
+        room = 20 * len(text) + 16 * 2**20
+        print(f"  {share:4} {len(text):>9} bytes {units:>9} units  status {status}  {seconds:7.3f} s"
+              f"  {1e6 * seconds / units:9.4f} us a unit  peak {peak / 2**20:7.1f} MB (allowed {room / 2**20:.1f})", flush=True)
+        kept &= status == 0 and peak < room
+    ratio = costs[-1] / costs[0]
+    print(f"  cost of the whole to that of a quarter: {ratio:.2f}", flush=True)
+    return kept and ratio < MOST_RATIO, spent
+
+
+def program_named():
+    """The program that the command line names, else the one in crates/poets/out."""
+    return sys.argv[1] if len(sys.argv) > 1 else str(PROGRAM)
+
+
+def measure(families):
+    """Measures the families."""
+    kept = [measure_family(program_named(), family)[0] for family in families]
+    sys.exit(0 if all(kept) else 1)
+
+
+def grows(program, family):
+    """Measures the family, and prints the cost of its last quarter to that of its first. Answers whether bounds were kept."""
+    kept, (first, almost, whole) = measure_family(program, family, (0.25, 0.75, 1.0))
+    ratio = (whole - almost) / first
+    print(f"  cost of the last quarter to that of the first: {ratio:.2f}", flush=True)
+    return kept and ratio < MOST_RATIO
+
+
+def measure_growth(families):
+    """Measures the families, whose cost must not grow with what was done before."""
+    kept = [grows(program_named(), family) for family in families]
+    sys.exit(0 if all(kept) else 1)
+
+
+if __name__ == "__main__":
+    print(*once(*sys.argv[1:]))

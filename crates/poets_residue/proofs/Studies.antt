@@ -1,0 +1,18 @@
+-- A checked and guarded book with right marks is as the laws ask.
+use Rattle.std.proofs.Common.{List}
+use Rattle.poets_syntax.specs.declared.studied.Mark.{Mark}
+use Rattle.poets_syntax.specs.Book.{Definitions}
+use Rattle.poets_syntax.specs.Studied.{marks_in, IsStudiedBook}
+use Rattle.poets_syntax.specs.Typed.{scope_of}
+use Rattle.poets_syntax.proofs.Nullability.{CountsFit-fit}
+use Rattle.poets_syntax.proofs.StudiedMarks.{AreRight-studied}
+use Rattle.poets_syntax.proofs.Typedness.{IsWellFormed-typed, BodiesFit-typed}
+use Rattle.poets_residue.specs.Unfolding.{IsStudied}
+
+pub IsStudied-book : (book : Definitions) (marks : List Mark) → IsStudiedBook book marks → IsStudied book (marks_in book.templates marks)
+IsStudied-book book marks h = record {
+  right = AreRight-studied book marks h;
+  formed = λ f t q. IsWellFormed-typed book h.checked.0 (scope_of t.params) t.body (h.checked.1.typed f t q).1;
+  fit = λ f t q. CountsFit-fit book t.body (BodiesFit-typed book h.checked.0 h.checked.1.typed f t q);
+  guarded = h.guarded;
+}

@@ -1,0 +1,21 @@
+use Rattle.std.proofs.Common.{◌≡◌, true, [], sym, ◌∙◌}
+use Rattle.poets_expr.specs.Env.{declared_of}
+use Rattle.poets_expr.specs.Expression.{expression_of}
+use Rattle.poets_expr.specs.Val.{val}
+use Rattle.poets_syntax.specs.Book.{definitions_of, taken}
+use Rattle.poets_syntax.specs.Contract.{contract_of}
+use Rattle.poets_syntax.specs.Residual.{is_true}
+use Rattle.poets_syntax.specs.Studied.{marks_of}
+use Rattle.poets_residue.proofs.Equations.{after-transmit}
+use Rattle.poets_residue.proofs.residuals.after_transmit.Goals as goal
+
+pub returns-clause-residual : goal.returns-clause-residual
+returns-clause-residual g c =
+    let k : is_true (val (declared_of c.args.studied.now.book.decls.names) (taken c.args.binders.now c.args.event.now []) (expression_of c.args.when.now)) ≡ true =
+    sym (rw c.book.ensures.book at c.holds.ensures.value) ∙ c.if-not-holds.false in
+    rw (
+      after-transmit (definitions_of c.args.studied.now.book) (marks_of c.args.studied.now) c.args.event.now
+          c.args.binders.now (expression_of c.args.when.now) (contract_of c.args.then.now),
+      k,
+    )
+    c.taken_on.ensures.residual

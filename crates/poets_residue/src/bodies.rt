@@ -1,0 +1,90 @@
+//! Applications unfolded.
+ghost use Rattle.std.specs.Prelude.{◌≡◌, ◌+◌, ◌≤◌, IfOk, Some, map, reverse, sum_by, []};
+ghost use Rattle.poets_expr.specs.Env.{declared_of, itself};
+ghost use Rattle.poets_expr.specs.Expression.{expression_of};
+ghost use Rattle.poets_expr.specs.Val.{val};
+ghost use Rattle.poets_syntax.specs.Book.{definition_of, definitions_of};
+ghost use Rattle.poets_syntax.specs.Contract.{contract_of};
+ghost use Rattle.poets_syntax.specs.Residual.{argument_givens, body_of};
+ghost use Rattle.poets_syntax.specs.Studied.{marks_of};
+ghost use Rattle.poets_norm.specs.Questions.{operated, questions};
+
+use poets_expr::{Asks, Decls, Env, Expr, Given, eval};
+use poets_norm::normal;
+use poets_syntax::build::push;
+use poets_syntax::{Param, Studied, Template, Term, subst};
+use poets_value::{List, Memory, Name, Ty, Value};
+use std::alloc::Global;
+
+// What a name stands for that no pair has.
+fn meaning(decls: &Decls, name: Name) -> Option<Value>
+    ensures { result ≡ itself name (declared_of decls.now.names name) }
+{
+    match decls.names.get(&name) {
+        Some(Ty::Agent) => Some(Value::Agent(name)),
+        Some(Ty::Kind) => Some(Value::Kind(name)),
+        _ => None,
+    }
+}
+
+// The value of an argument; that of a literal or a name is known.
+fn value_of<L>(decls: &Decls, arg: &Expr, asks: &mut Asks<L>) -> Option<Value>
+    ensures value { result ≡ val (declared_of decls.now.names) [] (expression_of arg.now) }
+    ensures rises { asks.old ≤ asks.new }
+    ensures asks { asks.new ≤ asks.old + operated (expression_of arg.now) }
+{
+    // The count that was handed in is at most the greatest `u64`.
+    let _count = asks.count();
+    match arg {
+        Expr::Int(number) => Some(Value::Int(*number)),
+        Expr::Bool(answer) => Some(Value::Bool(*answer)),
+        Expr::Day(day) => Some(Value::Day(*day)),
+        Expr::Res(resource) => Some(Value::Resource(*resource)),
+        Expr::Undefined(_) => None,
+        Expr::Name(name) => meaning(decls, *name),
+        other => eval(&Env { decls, pairs: &[] }, other, asks),
+    }
+}
+
+// What the parameters stand for, the newest last.
+fn arguments<L>(
+    alloc: Global,
+    decls: &Decls,
+    params: &[Param],
+    args: &[Expr],
+    asks: &mut Asks<L>,
+) -> Result<List<(Name, Given)>, Memory>
+    ensures pairs { IfOk result (λ r. reverse r.items ≡ argument_givens (declared_of decls.now.names) params.now (map expression_of args.now)) }
+    ensures rises { asks.old ≤ asks.new }
+    ensures asks { asks.new ≤ asks.old + sum_by operated (map expression_of args.now) }
+{
+    let mut pairs = List::new(alloc);
+    for (param, arg) in params.iter().zip(args) {
+        let value = value_of(decls, arg, asks);
+        let given = Given {
+            value,
+            ty: param.ty,
+        };
+        push(&mut pairs, (param.name, given))?;
+    }
+    Ok(pairs)
+}
+
+// The body of a template with its parameters replaced, in normal form. What the arguments and the body ask is not asked again.
+pub(crate) fn unfold<L>(
+    alloc: Global,
+    studied: &Studied,
+    template: &Template,
+    args: &[Expr],
+    asks: &mut Asks<L>,
+) -> Result<Term, Memory>
+    ensures body { IfOk result (λ r. contract_of r ≡ body_of (definitions_of studied.now.book) (marks_of studied.now) (Some (definition_of template.now)) (map expression_of args.now)) }
+    ensures rises { asks.old ≤ asks.new }
+    ensures asks { asks.new ≤ asks.old + sum_by operated (map expression_of args.now) + questions (contract_of template.now.body) }
+    ensures questions { IfOk result (λ r. asks.new + questions (contract_of r) ≤ asks.old + sum_by operated (map expression_of args.now) + questions (contract_of template.now.body)) }
+{
+    let decls = &studied.book().decls;
+    let pairs = arguments(alloc, decls, template.params.as_slice(), args, asks)?;
+    let body = subst(alloc, &template.body, pairs.as_slice())?;
+    normal(alloc, studied, &body, asks)
+}

@@ -1,0 +1,126 @@
+-- Every text is a session, or is refused. As in `LawsEveryLexed`, both answers to what is not tested lead to a contradiction.
+use Rattle.std.proofs.Common.{◌≡◌, ℕ, zero, suc, List, [], ◌∷◌, ◌++◌, ⊎_elim, Option, Some, None, All, map, length, refl, sym, ap, subst, ◌∙◌}
+use Rattle.std.specs.List.{AllZip, flat_map}
+use Rattle.std.proofs.lemmas.Bool.{cases_Bool}
+use Rattle.std.proofs.lemmas.List.Elements.{All-nil, All-cons}
+use Rattle.poets_value.specs.declared.value.Name.{Name}
+use Rattle.poets_lex.specs.declared.fault.LexFault.{LexFault}
+use Rattle.poets_lex.specs.declared.fault.LexFault.TheVariants as L
+use Rattle.poets_lex.specs.Table.{Table}
+use Rattle.poets_lex.specs.Lexes.{FirstFault}
+use Rattle.poets_grammar.specs.Tokens.{toks}
+use Rattle.poets_grammar.specs.TooDeep.{IsTooDeep}
+use Rattle.poets_expr.specs.Env.{same_name}
+use Rattle.poets_expr.proofs.SameTrees.{name_one}
+use Rattle.poets_syntax.specs.Book.{Definition, template_in}
+use Rattle.poets_syntax.specs.Guarded.{UnguardedEdge, IsGuarded}
+use Rattle.poets_guard.specs.FirstCycle.{LiesOnCycle, IsFirstCycle}
+use Rattle.poets_call.specs.Sentences.{Sentence}
+use Rattle.poets_call.specs.Declarations.{template_in_statement, book_of}
+use Rattle.poets_call.specs.TypedSentences.{NumberedFault, first_fault}
+use Rattle.poets_session.specs.declared.form.Form.{Form}
+use Rattle.poets_session.specs.Pieces.{Piece, pieces_of}
+use Rattle.poets_session.specs.Places.{PlaceFault, place_fault}
+use Rattle.poets_session.specs.Sessions.{Text, IsStatement, IsReadAs, IsNoSession}
+use Rattle.poets_session.specs.Refusals.{Refusal, BadByte, LongNumber, LongName, TooDeep, NoSentence, Place, Mistyped, Unguarded, refusal_at_byte, IsUnread, IsStopped, IsTemplateAt, IsRefused}
+use Rattle.poets_session.specs.Checking.{declares}
+use Rattle.poets_session.proofs.Saying.{Standing, standing_first, standing_more, standing_end}
+use Rattle.poets_session.proofs.Cycling.{at_sentence, not_declared, first_declared}
+use Rattle.poets_session.proofs.Refusing.{read_as}
+use Rattle.poets_session.proofs.LawsEveryLexed.{every_lexed}
+
+-- ---- statements
+
+every_read : (p : Piece) (number : ℕ) → ((s : Sentence) → IsStatement p s → ⊥) → ((r : Refusal) → IsUnread p number r → ⊥) → ⊥
+every_read p number silent none =
+    let shallow : IsTooDeep p.tokens → ⊥ = λ deep. none (TooDeep number) (IsUnread.IsDeep deep) in
+    none (NoSentence number) (IsUnread.IsNoSentence shallow (λ ended s is. silent s (record { ended = ended; shallow = shallow; sentence = is })))
+
+-- pieces that neither say statements nor stop
+record IsUnsaid (pieces : List Piece) : Type 0 where
+  not_said : (statements : List Sentence) → AllZip IsStatement pieces statements → ⊥
+  not_stopped : (r : Refusal) → IsStopped pieces r → ⊥
+
+unsaid_after : (pieces rest : List Piece) (found : List Sentence) → IsUnsaid pieces → Standing pieces rest found → ⊥
+unsaid_after pieces [] found none h = none.not_said found (standing_end pieces [] found h refl)
+unsaid_after pieces (p ∷ rest) found none h =
+    every_read p (suc (length h.front))
+    (λ s is. unsaid_after pieces rest (found ++ s ∷ []) none (standing_more pieces rest p found s h is))
+    (λ r unread. none.not_stopped r (record { front = h.front; said = found; piece = p; rest = rest; cut = h.cut; says = h.says; unread = unread }))
+
+-- ---- cycles
+
+one_later : {statements : List Sentence} {number : ℕ} {f : Name} (s : Sentence) → IsTemplateAt statements number f → IsTemplateAt (s ∷ statements) (suc number) f
+one_later s h = record { place = suc h.place; template = h.template; counted = ap suc h.counted; stands = h.stands; named = h.named }
+
+declared_at : (statements : List Sentence) (f : Name) (t : Definition) → template_in (flat_map template_in_statement statements) f ≡ Some t → (number : ℕ) × IsTemplateAt statements number f
+declared_at [] f t e = absurd cc
+declared_at (s ∷ statements) f t e =
+    ⊎_elim (λ here. (suc zero, at_sentence (s ∷ statements) zero f s refl here))
+    (λ later.
+    let at = declared_at statements f t (sym (not_declared f s (flat_map template_in_statement statements) later) ∙ e) in
+    (suc at.0, one_later s at.1))
+    (cases_Bool (declares f s))
+
+-- the first template of which something holds
+first_with :
+    (P : Name → Type 0) (templates : List Definition) (f : Name) (t : Definition) → template_in templates f ≡ Some t → P f →
+    ((earlier : List Name) (x : Name) (later : List Name) → map (λ t. t.name) templates ≡ earlier ++ x ∷ later → P x → All (λ y. ¬ (P y)) earlier → ⊥) → ⊥
+first_with P [] f t e h none = absurd cc
+first_with P (u ∷ templates) f t e h none =
+    let No : Name → Type 0 = λ y. ¬ (P y) in
+    let here : P u.name → ⊥ = λ k. none [] u.name (map (λ t. t.name) templates) refl k (All-nil No) in
+    ⊎_elim (λ same. here (subst P (sym (name_one u.name f same)) h))
+    (λ apart.
+    first_with P templates f t (rw apart at e) h
+    (λ earlier x later split k free. none (u.name ∷ earlier) x later (ap (λ l. u.name ∷ l) split) k (All-cons No u.name earlier here free)))
+    (cases_Bool (same_name u.name f))
+
+every_guarded :
+    (statements : List Sentence) → (IsGuarded (book_of statements) → ⊥) →
+    ((number : ℕ) (cycle : List Name) (found : IsFirstCycle (book_of statements) cycle) → IsTemplateAt statements number found.first → ⊥) → ⊥
+every_guarded statements unguarded none = unguarded on_cycle
+  where
+    on_cycle : IsGuarded (book_of statements)
+    on_cycle [] cycle = cycle
+    on_cycle (f ∷ others) cycle =
+        let t = first_declared statements f others cycle in
+        first_with (LiesOnCycle (UnguardedEdge (book_of statements))) (book_of statements).templates f t.0 t.1 (others, cycle)
+        (λ earlier x later split lies free.
+        let u = first_declared statements x lies.0 lies.1 in let at = declared_at statements x u.0 u.1 in
+        none at.0 (x ∷ lies.0) (record { earlier = earlier; first = x; later = later; others = lies.0; split = split; begins = refl; is_cycle = lies.1; none = free }) at.1)
+
+-- ---- texts
+
+refused_at_byte : {text : Text} (fault : LexFault) → FirstFault [] text fault → (r : Refusal) × (refusal_at_byte fault ≡ Some r)
+refused_at_byte (L.BadByte at) h = (BadByte at, refl)
+refused_at_byte (L.LongNumber at) h = (LongNumber at, refl)
+refused_at_byte (L.LongName at) h = (LongName at, refl)
+refused_at_byte L.Memory h = absurd h.found
+
+-- neither a session nor refused
+record IsNeither (text : Text) (form : Form) : Type 0 where
+  no_session : IsNoSession text form
+  no_refusal : (names : Table) (r : Refusal) → ¬ (IsRefused text form names r)
+
+every_checked : {text : Text} {form : Form} {names : Table} {statements : List Sentence} → IsNeither text form → IsReadAs text names statements →
+    (misplaced : Option PlaceFault) → place_fault form statements ≡ misplaced → (mistyped : NumberedFault) → first_fault statements ≡ mistyped → ⊥
+every_checked {names = names} none read (Some fault) e mistyped f = none.no_refusal names (Place fault) (IsRefused.IsOutOfPlace read e)
+every_checked {names = names} none read None e (Some (number, fault)) f = none.no_refusal names (Mistyped number fault) (IsRefused.IsMistyped read e f)
+every_checked {names = names} {statements = statements} none read None e None f =
+    every_guarded statements (λ guarded. none.no_session names statements (record { read = read; placed = e; typed = f; guarded = guarded }))
+    (λ number cycle found at. none.no_refusal names (Unguarded number cycle) (IsRefused.IsUnguarded read e f found at))
+
+pub every_text : (text : Text) (form : Form) → IsNoSession text form → ((names : Table) (r : Refusal) → ¬ (IsRefused text form names r)) → ⊥
+every_text text form no_session no_refusal =
+    let none : IsNeither text form = record { no_session = no_session; no_refusal = no_refusal } in
+    every_lexed text
+    (λ tokens names lexed.
+    let pieces = pieces_of (toks tokens) in
+    unsaid_after pieces pieces []
+    (record {
+      not_said = λ statements said. every_checked none (read_as text names tokens statements lexed said) (place_fault form statements) refl (first_fault statements) refl;
+      not_stopped = λ r stopped. no_refusal names r (IsRefused.IsUnreadable lexed stopped);
+    })
+    (standing_first pieces))
+    (λ fault first. let told = refused_at_byte fault first in no_refusal [] told.0 (IsRefused.AtByte fault first told.1))

@@ -1,0 +1,10 @@
+use Rattle.poets_session.proofs.LawsFitting.{read_table, read_written, scripts_written, journal_written}
+use Rattle.poets_session.proofs.laws.sessions_are_written.Goals as goal
+
+pub returns-clause-statements : goal.returns-clause-statements
+returns-clause-statements c = λ text names statements read. (read_table text names statements read, read_written text names statements read)
+
+pub returns-clause-commands : goal.returns-clause-commands
+returns-clause-commands c = λ text names statements read.
+    let h = read_written text names statements read in
+    (scripts_written names statements h, journal_written names statements h)

@@ -1,0 +1,54 @@
+-- What a text says is written with its names, and with numbers and days of the language.
+use Rattle.std.specs.Prelude.{List, [], ◌∷◌, All, IfSome}
+use Rattle.poets_expr.specs.Expression.{Expression}
+use Rattle.poets_expr.specs.Whole.{IsWholeExpression}
+use Rattle.poets_syntax.specs.declared.term.Binders.{Binders}
+use Rattle.poets_syntax.specs.declared.term.Param.{Param}
+use Rattle.poets_syntax.specs.Contract.{Contract}
+use Rattle.poets_syntax.specs.Whole.{IsWholeContract}
+use Rattle.poets_syntax.specs.Book.{Definition}
+use Rattle.poets_report.specs.Query.{Query}
+use Rattle.poets_call.specs.Calls.{Request}
+use Rattle.poets_call.specs.Sentences.{Sentence, Agents, Kinds, Template, Report, Clerk, Journal, Command, Numbered}
+use Rattle.poets_lex.specs.Table.{Table}
+use Rattle.poets_print.specs.Laws.{IsListed, CanWrite, CanWriteContract, CanWriteRequest, IsWholeRequest}
+
+abbrev pub IsWrittenExpression : Table → Expression → Type 0
+IsWrittenExpression names e = CanWrite names e × IsWholeExpression e
+
+abbrev pub IsWrittenContract : Table → Contract → Type 0
+IsWrittenContract names c = CanWriteContract names c × IsWholeContract c
+
+abbrev pub IsWrittenRequest : Table → Request → Type 0
+IsWrittenRequest names request = CanWriteRequest names request × IsWholeRequest request
+
+abbrev pub AreListedParameters : Table → List Param → Type 0
+AreListedParameters names params = All (λ p. IsListed names p.name) params
+
+abbrev pub AreListedBinders : Table → Binders → Type 0
+AreListedBinders names b = All (IsListed names) (b.sender ∷ b.receiver ∷ b.what ∷ b.day ∷ [])
+
+pub record IsWrittenTemplate (names : Table) (t : Definition) : Type 0 where
+  pub name : IsListed names t.name
+  pub params : AreListedParameters names t.params
+  pub body : IsWrittenContract names t.body
+
+pub record IsWrittenReport (names : Table) (q : Query) : Type 0 where
+  pub name : IsListed names q.name
+  pub params : AreListedParameters names q.params
+  pub start : IsWrittenExpression names q.start
+  pub carry : IsListed names q.carry
+  pub binders : AreListedBinders names q.binders
+  pub step : IsWrittenExpression names q.step
+  pub key : IfSome q.key (IsWrittenExpression names)
+
+-- each name of the statement stands in the table, and its numbers and days are those of the language
+abbrev pub IsWritten : Table → Sentence → Type 0
+IsWritten names (Agents xs) = All (IsListed names) xs
+IsWritten names (Kinds xs) = All (IsListed names) xs
+IsWritten names (Template t) = IsWrittenTemplate names t
+IsWritten names (Report q) = IsWrittenReport names q
+IsWritten names Clerk = Unit {0}
+IsWritten names Journal = Unit {0}
+IsWritten names (Command request) = IsWrittenRequest names request
+IsWritten names (Numbered clerk request) = IsWrittenRequest names request

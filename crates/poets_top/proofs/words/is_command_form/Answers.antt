@@ -1,6 +1,0 @@
-use Rattle.poets_top.proofs.OneWord.{IsCommandForm-one}
-use Rattle.poets_top.proofs.words.is_command_form.Goals as goal
-
-pub returns-in-len1 : goal.returns-in-len1
-returns-in-len1 c =
-    IsCommandForm-one c.args.words.now c.word-item.result c.as_str.result.now c.eq.result c.in-len1.len_at_least c.in-len1.len_below c.word-item.is c.as_str.ensures.value c.eq.ensures
