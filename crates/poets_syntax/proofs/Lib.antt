@@ -12,6 +12,7 @@ pub mod Copying
 pub mod Inversions
 pub mod WholeContracts
 pub mod Typedness
+pub mod Soundness
 pub mod Guarding
 pub mod Ahead
 pub mod Choosing

@@ -25,7 +25,7 @@ pub passed : {A B : Type 0} (x : Verdict A) (next : A → Verdict B) (b : B) →
 passed (Passes a) next b h = (a, refl, h)
 passed (Fails f) next b h = absurd cc
 
-kind_declared : (kind : Name) (o : Option Ty) (t : Ty) → resource_type kind o ≡ Passes t → o ≡ Some T.Kind
+pub kind_declared : (kind : Name) (o : Option Ty) (t : Ty) → resource_type kind o ≡ Passes t → o ≡ Some T.Kind
 kind_declared kind None t h = absurd cc
 kind_declared kind (Some T.Int) t h = absurd cc
 kind_declared kind (Some T.Bool) t h = absurd cc
@@ -42,7 +42,7 @@ HasDeclaredNames-typed declared (V.Kind x) t h = absurd cc
 HasDeclaredNames-typed declared (V.Resource r) t h = kind_declared r.kind (declared r.kind) t h
 HasDeclaredNames-typed declared (V.Day d) t h = tt
 
-HasDeclaredLiterals-typed : (declared : Declared) (scope : Scope) (e : Expression) (t : Ty) → type_of declared scope e ≡ Passes t → HasDeclaredLiterals declared e
+pub HasDeclaredLiterals-typed : (declared : Declared) (scope : Scope) (e : Expression) (t : Ty) → type_of declared scope e ≡ Passes t → HasDeclaredLiterals declared e
 HasDeclaredLiterals-typed declared scope (Literal v) t h = HasDeclaredNames-typed declared v t h
 HasDeclaredLiterals-typed declared scope (Undefined u) t h = tt
 HasDeclaredLiterals-typed declared scope (Named x) t h = tt
@@ -100,7 +100,7 @@ AreUndeclared-typed book reports b h =
     let day = new_undeclared book reports (b.what ∷ b.receiver ∷ b.sender ∷ []) b.day [] what.1 in
     record { sender = sender.0; receiver = receiver.0; what = what.0; day = day.0 }
 
-as_many : (m n : ℕ) (f : Fault) (next : Verdict (Unit {0})) → (if nat_eq m n then next else Fails f) ≡ Passes tt → (m ≡ n) × (next ≡ Passes tt)
+pub as_many : (m n : ℕ) (f : Fault) (next : Verdict (Unit {0})) → (if nat_eq m n then next else Fails f) ≡ Passes tt → (m ≡ n) × (next ≡ Passes tt)
 as_many m n f next h = by (nat_eq m n) refl h
   where
     by : (b : Bool) → nat_eq m n ≡ b → (if b then next else Fails f) ≡ Passes tt → (m ≡ n) × (next ≡ Passes tt)

@@ -17,6 +17,7 @@ pub mod Exposed
 pub mod Width
 pub mod Plain
 pub mod TypeOf
+pub mod OfType
 pub mod Typed
 pub mod Checked
 pub mod Guarded
