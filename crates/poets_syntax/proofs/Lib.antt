@@ -13,6 +13,7 @@ pub mod Inversions
 pub mod WholeContracts
 pub mod Typedness
 pub mod Soundness
+pub mod TypedReplacing
 pub mod Guarding
 pub mod Ahead
 pub mod Choosing

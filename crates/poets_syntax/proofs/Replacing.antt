@@ -18,10 +18,10 @@ use Rattle.poets_syntax.specs.Replace.{binds, without, replace, AreUndeclared, B
 use Rattle.poets_syntax.proofs.Alike.{Alike}
 
 -- one of four tests, or what comes after
-first_of_four : {A : Type 0} → Bool → Bool → Bool → Bool → A → A → A → A → A → A
+unfoldable pub first_of_four : {A : Type 0} → Bool → Bool → Bool → Bool → A → A → A → A → A → A
 first_of_four p q r s a b c d z = if p then a else (if q then b else (if r then c else (if s then d else z)))
 
-none_of_four : {A : Type 0} (p q r s : Bool) (a b c d z : A) → (p || q || r || s) ≡ false → first_of_four p q r s a b c d z ≡ z
+pub none_of_four : {A : Type 0} (p q r s : Bool) (a b c d z : A) → (p || q || r || s) ≡ false → first_of_four p q r s a b c d z ≡ z
 unfolding first_of_four
 none_of_four false false false false a b c d z h = refl
 none_of_four true _ _ _ a b c d z h = absurd cc
@@ -29,7 +29,7 @@ none_of_four false true _ _ a b c d z h = absurd cc
 none_of_four false false true _ a b c d z h = absurd cc
 none_of_four false false false true a b c d z h = absurd cc
 
-one_of_four : {A : Type 0} (p q r s : Bool) (a b c d y z : A) → (p || q || r || s) ≡ true →
+pub one_of_four : {A : Type 0} (p q r s : Bool) (a b c d y z : A) → (p || q || r || s) ≡ true →
     first_of_four p q r s a b c d y ≡ first_of_four p q r s a b c d z
 unfolding first_of_four
 one_of_four true _ _ _ a b c d y z h = refl
