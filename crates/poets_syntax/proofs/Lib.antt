@@ -14,6 +14,7 @@ pub mod WholeContracts
 pub mod Typedness
 pub mod Soundness
 pub mod TypedReplacing
+pub mod TypedGivens
 pub mod Guarding
 pub mod Ahead
 pub mod Choosing

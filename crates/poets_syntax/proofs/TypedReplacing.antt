@@ -1,5 +1,5 @@
 -- Replacing names by literals of values of their types keeps expressions and contracts typed.
-use Rattle.std.proofs.Common.{◌≡◌, Bool, true, false, not, ◌||◌, ◌&&◌, is_some, All, List, [], ◌∷◌, ◌++◌, length, map, refl, sym, ◌∙◌, ap, subst as along, Option, Some, None, IfSome, inl, inr, if◌then◌else◌}
+use Rattle.std.proofs.Common.{◌≡◌, true, false, not, ◌&&◌, is_some, All, List, [], ◌∷◌, ◌++◌, length, map, refl, sym, ◌∙◌, ap, subst as along, Option, Some, None, inl, inr}
 use Rattle.std.proofs.lemmas.Bool.{eq-eqb}
 use Rattle.std.proofs.lemmas.List.Elements.{All-head, All-tail}
 use Rattle.poets_value.specs.declared.value.Name.{Name}
@@ -19,8 +19,8 @@ use Rattle.poets_syntax.specs.declared.term.Param.{Param}
 use Rattle.poets_syntax.specs.Contract.{Contract, Success, Failure, Transmit, Plus, Par, Seq, App}
 use Rattle.poets_syntax.specs.Book.{Definitions, Definition, template_in}
 use Rattle.poets_syntax.specs.Replace.{binds, without, replace, AreUndeclared}
-use Rattle.poets_syntax.specs.TypeOf.{WrongCount, Verdict, Passes, Fails, ◌>>=◌, Scope, type_in, must_be, same_type, unary_type, binary_type, make_type, if_type, name_type, type_of, HasType}
-use Rattle.poets_syntax.specs.Typed.{in_use, check_new, names_bound, types_bound, check_type, check_args, check_arguments, check_application, check_contract, IsTyped}
+use Rattle.poets_syntax.specs.TypeOf.{WrongCount, Passes, ◌>>=◌, Scope, type_in, must_be, same_type, unary_type, binary_type, make_type, if_type, name_type, type_of, HasType}
+use Rattle.poets_syntax.specs.Typed.{in_use, check_new, names_bound, types_bound, check_type, check_args, check_application, check_contract, IsTyped}
 use Rattle.poets_syntax.specs.OfType.{IsOfType}
 use Rattle.poets_syntax.proofs.Replacing.{truth, first_of_four, none_of_four, one_of_four, declared_free, replaced-free, replaced-bound, args_count}
 use Rattle.poets_syntax.proofs.Givens.{HaveDeclaredNames, HaveDeclaredNames-without}

@@ -23,4 +23,5 @@ pub mod Checked
 pub mod Guarded
 pub mod Studied
 pub mod StudiedLaws
+pub mod TypedLaws
 pub mod Examples

@@ -1,9 +1,13 @@
 -- The types of values.
-use Rattle.std.specs.Prelude.{◌≡◌, Option, IfSome}
+use Rattle.std.specs.Prelude.{◌≡◌, [], ◌∷◌, All, map, Option, None, IfSome}
 use Rattle.poets_value.specs.declared.value.Ty.{Ty}
 use Rattle.poets_value.specs.declared.value.Ty.TheVariants as T
 use Rattle.poets_value.specs.declared.value.Value.{Value}
 use Rattle.poets_value.specs.declared.value.Value.TheVariants as V
+use Rattle.poets_expr.specs.Env.{Declared}
+use Rattle.poets_expr.specs.Subst.{Givens}
+use Rattle.poets_expr.specs.Fold.{HasDeclaredNames}
+use Rattle.poets_syntax.specs.TypeOf.{Scope}
 
 abbrev pub value_type : Value → Ty
 value_type (V.Int n) = T.Int
@@ -16,3 +20,16 @@ value_type (V.Day d) = T.Day
 -- undefined, or a value of the type
 abbrev pub IsOfType : Option Value → Ty → Type 0
 IsOfType o t = IfSome o (λ v. value_type v ≡ t)
+
+-- the values of the replaced names are of their types, and their agents and kinds are declared
+abbrev pub AreOfTypes : Declared → Givens → Type 0
+AreOfTypes declared [] = Unit {0}
+AreOfTypes declared (p ∷ given) = HasDeclaredNames declared p.1.value × IsOfType p.1.value p.1.ty × AreOfTypes declared given
+
+-- the replaced names with their types
+abbrev pub types_given : Givens → Scope
+types_given given = map (λ p. (p.0, p.1.ty)) given
+
+-- no declared name is in the scope
+abbrev pub IsUndeclaredScope : Declared → Scope → Type 0
+IsUndeclaredScope declared scope = All (λ p. declared p.0 ≡ None) scope

@@ -1,6 +1,7 @@
 //! The laws of `Perf` and `May`, and of checked, guarded and studied books, each carried by a function that does nothing.
 ghost use Rattle.poets_syntax.specs.Laws.{NothingGranted, RestGranted, AllGranted, GrantedAnywhere, GrantedByShape, NullableByShape, HopefulByShape, NullableByMarks, ReplacedAlike, ReplacedPerformed, ReplacedIsWhole, TypedIsWellFormed};
 ghost use Rattle.poets_syntax.specs.StudiedLaws.{TypedApplicationsFit, TypedBodiesFit, StudiedMarksAreRight, CountsFitWhereKnown, WidthUnfolds, EnoughDepth};
+ghost use Rattle.poets_syntax.specs.TypedLaws.{ValueIsOfType, ReplacedIsTyped};
 
 /// With no granted step, what may be performed is what is performed.
 pub fn nothing_granted()
@@ -56,6 +57,16 @@ pub fn replaced_whole()
 /// A typed contract is well-formed, which the other laws ask for.
 pub fn typed_well_formed()
     ensures { TypedIsWellFormed }
+{}
+
+/// The value of a typed expression is undefined or of its type.
+pub fn value_of_type()
+    ensures { ValueIsOfType }
+{}
+
+/// A typed contract stays typed where names are replaced by values of their types.
+pub fn replaced_typed()
+    ensures { ReplacedIsTyped }
 {}
 
 /// In a typed contract and a typed book applications have as many arguments as their templates have parameters.
