@@ -16,3 +16,4 @@ pub mod SomePart
 pub mod StudiedBooks
 pub mod StudiedExample
 pub mod WholeNormals
+pub mod TypedNormals

@@ -1,6 +1,7 @@
 -- What normal forms mean.
 use Rattle.std.specs.Prelude.{◌≡◌, ℕ, List, ◌↔◌}
 use Rattle.poets_value.specs.declared.event.Event.{Event}
+use Rattle.poets_value.specs.declared.value.Name.{Name}
 use Rattle.poets_expr.specs.Env.{Declared, Env}
 use Rattle.poets_expr.specs.Fold.{KeepsDeclared}
 use Rattle.poets_syntax.specs.Contract.{Contract, Failure}
@@ -11,6 +12,9 @@ use Rattle.poets_syntax.specs.May.{May}
 use Rattle.poets_syntax.specs.Marks.{Marks, AreRight, Hopeful}
 use Rattle.poets_syntax.specs.Normal.{normal}
 use Rattle.poets_syntax.specs.WellFormed.{IsWellFormed, AreWellFormed}
+use Rattle.poets_syntax.specs.TypeOf.{Scope}
+use Rattle.poets_syntax.specs.Typed.{IsTyped}
+use Rattle.poets_syntax.specs.OfType.{IsUndeclaredScope}
 use Rattle.poets_syntax.specs.Plain.{plain, no_marks}
 
 -- the normal form is performed as the contract is, where declared names stand for themselves
@@ -39,6 +43,11 @@ NormalWellFormed = (book : Definitions) (marks : Marks) (c : Contract) → IsWel
 
 abbrev pub NormalCountsFit : Type 0
 NormalCountsFit = (book : Definitions) (marks : Marks) (c : Contract) → CountsFit book c → CountsFit book (normal book marks c)
+
+-- the normal form of a typed contract is typed in the same scope, whatever the book and the marks are
+abbrev pub NormalTyped : Type 0
+NormalTyped = (book : Definitions) (reports : List Name) (marks : Marks) (scope : Scope) (c : Contract) →
+    IsUndeclaredScope book.declared scope → IsTyped book reports scope c → IsTyped book reports scope (normal book marks c)
 
 -- in a book without templates the marks that say no are right, and so is each count
 abbrev pub PlainBooks : Type 0

@@ -1,5 +1,5 @@
 //! The laws of normal forms, each carried by a function that does nothing.
-ghost use Rattle.poets_norm.specs.Laws.{NormalAlike, NormalHopeless, NormalTwice, NormalWhole, NormalWellFormed, NormalCountsFit, PlainBooks};
+ghost use Rattle.poets_norm.specs.Laws.{NormalAlike, NormalHopeless, NormalTwice, NormalWhole, NormalWellFormed, NormalCountsFit, NormalTyped, PlainBooks};
 
 /// The normal form is performed as the contract is.
 pub fn normal_alike()
@@ -29,6 +29,11 @@ pub fn normal_well_formed()
 /// The normal form applies templates to as many arguments as the contract does.
 pub fn normal_counts_fit()
     ensures { NormalCountsFit }
+{}
+
+/// The normal form of a typed contract is typed.
+pub fn normal_typed()
+    ensures { NormalTyped }
 {}
 
 /// A book without templates meets the premises of the laws.
