@@ -10,3 +10,4 @@ pub mod Widths
 pub mod Joined
 pub mod Arguments
 pub mod StudiedExample
+pub mod TypedResiduals

@@ -1,5 +1,6 @@
 //! The laws of residuals, each carried by a function that does nothing.
 ghost use Rattle.poets_residue.specs.Laws.{StudiedBooks, ResidualFollows, ResidualOne, ResidualIs, ResidualAt, ResidualOfApplication, ResidualWellFormed, ResidualAtWellFormed, ResidualAtCountsFit, ResidualAtNormal, ResidualAtWhole, TraceFollowed, TracePerformed, TraceHopeless, TraceHopeful, TraceWellFormed, TraceNormal, TraceWhole};
+ghost use Rattle.poets_residue.specs.TypedLaws.{ResidualTyped, ResidualAtTyped, TraceTyped};
 
 /// A studied book meets the premises of these laws.
 pub fn studied_books()
@@ -58,4 +59,11 @@ pub fn trace_well_formed()
     ensures formed { TraceWellFormed }
     ensures normal { TraceNormal }
     ensures whole { TraceWhole }
+{}
+
+/// In a typed book the residual of a closed typed contract is closed and typed, by one event and after a trace.
+pub fn residual_typed()
+    ensures by_event { ResidualTyped }
+    ensures at { ResidualAtTyped }
+    ensures after_trace { TraceTyped }
 {}
