@@ -1,12 +1,12 @@
 -- Residuals of typed contracts in typed books are typed.
-use Rattle.std.proofs.Common.{◌≡◌, ℕ, All, List, [], ◌∷◌, length, fold, Some, refl}
+use Rattle.std.proofs.Common.{ℕ, All, List, [], ◌∷◌, length, fold, refl}
 use Rattle.std.proofs.lemmas.List.Elements.{All-head, All-tail}
 use Rattle.poets_value.specs.declared.value.Name.{Name}
 use Rattle.poets_value.specs.declared.event.Event.{Event}
 use Rattle.poets_expr.specs.Expression.{Expression}
 use Rattle.poets_syntax.specs.declared.term.Binders.{Binders}
 use Rattle.poets_syntax.specs.Contract.{Contract, Transmit, App}
-use Rattle.poets_syntax.specs.Book.{Definitions, Definition, template_in}
+use Rattle.poets_syntax.specs.Book.{Definitions, template_in}
 use Rattle.poets_syntax.specs.Replace.{replace}
 use Rattle.poets_syntax.specs.Marks.{Marks}
 use Rattle.poets_syntax.specs.Normal.{normal}
