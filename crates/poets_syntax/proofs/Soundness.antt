@@ -14,11 +14,13 @@ use Rattle.poets_expr.specs.Expression.{UnaryOp, Minus, Not, AmountOf, KindOf, E
 use Rattle.poets_expr.specs.Env.{Declared, itself}
 use Rattle.poets_expr.specs.Same.{ty_place}
 use Rattle.poets_expr.specs.Val.{val, unary, binary, strict, resource_of, chosen, decided, whole, day_at, truth, truth_value, sum, difference, product, divided, ordered, if_equal, equal, bool_eq, int_eq}
+use Rattle.poets_expr.specs.Fold.{HasDeclaredNames}
 use Rattle.poets_expr.proofs.SameTrees.{ty_one}
+use Rattle.poets_expr.proofs.FoldClosed.{known-val}
 use Rattle.poets_syntax.specs.TypeOf.{Verdict, Passes, Fails, WrongType, ◌>>=◌, must_be, must_be_number_or_day, same_type, of_one, of_two, unary_type, binary_type, sum_type, difference_type, equal_type, order_type, make_type, if_type, name_type, resource_type, literal_type, type_of, HasType}
 use Rattle.poets_syntax.specs.OfType.{value_type, IsOfType}
 use Rattle.poets_syntax.proofs.Replacing.{truth as either}
-use Rattle.poets_syntax.proofs.Typedness.{passed, kind_declared}
+use Rattle.poets_syntax.proofs.Typedness.{passed, kind_declared, HasDeclaredLiterals-typed}
 
 pub must_be-one : (wanted found : Ty) → must_be wanted found ≡ Passes tt → wanted ≡ found
 must_be-one wanted found h = elim (either (same_type wanted found)) [
@@ -190,3 +192,7 @@ IsOfType-val declared (If a b c) t h =
     let same = if_type-parts p.0 q.0 r.0 t r.2 in
     of-chosen (val declared [] a) (val declared [] b) (val declared [] c) t
     (subst (IsOfType (val declared [] b)) same.0 (IsOfType-val declared b q.0 q.1)) (subst (IsOfType (val declared [] c)) same.1 (IsOfType-val declared c r.0 r.1))
+
+-- and its agents and kinds are declared
+pub HasDeclaredNames-val : (declared : Declared) (e : Expression) (t : Ty) → HasType declared [] e t → HasDeclaredNames declared (val declared [] e)
+HasDeclaredNames-val declared e t h = known-val declared e (HasDeclaredLiterals-typed declared [] e t h)

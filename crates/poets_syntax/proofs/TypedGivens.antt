@@ -1,15 +1,16 @@
 -- The parts of an event have the types of the binders, and the values of typed arguments those of the parameters.
-use Rattle.std.proofs.Common.{◌≡◌, Bool, true, false, ◌||◌, All, List, [], ◌∷◌, ◌++◌, length, map, refl, sym, ◌∙◌, ap, subst as along, Some, None, inl, inr, if◌then◌else◌}
+use Rattle.std.proofs.Common.{◌≡◌, Bool, true, false, ◌||◌, List, [], ◌∷◌, ◌++◌, length, map, refl, sym, ◌∙◌, ap, subst as along, Some, None, inl, inr, if◌then◌else◌}
 use Rattle.std.proofs.lemmas.Bool.{eq-eqb}
 use Rattle.std.proofs.lemmas.List.{append_assoc}
 use Rattle.std.proofs.lemmas.List.Elements.{All-nil}
 use Rattle.poets_value.specs.declared.value.Name.{Name}
 use Rattle.poets_value.specs.declared.event.Event.{Event}
+use Rattle.poets_value.specs.declared.value.Ty.{Ty}
 use Rattle.poets_expr.specs.declared.expr.Given.{Given}
 use Rattle.poets_expr.specs.Expression.{Expression}
 use Rattle.poets_expr.specs.Env.{Declared, same_name}
 use Rattle.poets_expr.specs.Val.{val}
-use Rattle.poets_expr.specs.Subst.{Givens, replaced, literal}
+use Rattle.poets_expr.specs.Subst.{Givens, replaced, literal, subst}
 use Rattle.poets_expr.proofs.SameTrees.{name_one}
 use Rattle.poets_syntax.specs.declared.term.Binders.{Binders}
 use Rattle.poets_syntax.specs.declared.term.Param.{Param}
@@ -20,11 +21,11 @@ use Rattle.poets_syntax.specs.WellFormed.{IsDeclaredEvent}
 use Rattle.poets_syntax.specs.Residual.{event_givens, argument_givens}
 use Rattle.poets_syntax.specs.TypeOf.{Twice, Verdict, Passes, Fails, Scope, type_in, name_type, HasType}
 use Rattle.poets_syntax.specs.Typed.{is_among, in_use, check_new, scope_of, check_type, check_args, check_application, IsTyped, IsTypedBook}
-use Rattle.poets_syntax.specs.OfType.{AreOfTypes, types_given}
+use Rattle.poets_syntax.specs.OfType.{AreOfTypes, types_given, IsUndeclaredScope}
 use Rattle.poets_syntax.proofs.Replacing.{truth}
 use Rattle.poets_syntax.proofs.Givens.{HaveDeclaredNames, HaveDeclaredNames-arguments}
 use Rattle.poets_syntax.proofs.Typedness.{passed, IsWellFormed-typed}
-use Rattle.poets_syntax.proofs.TypedReplacing.{KeepsTypes, KeepsTypes-nil, HasType-literal_of, HasType-literal_of_val, HasType-checked, KeepsTypes-undeclared, Fits, application_parts, transmit_parts, IsTyped-replace}
+use Rattle.poets_syntax.proofs.TypedReplacing.{KeepsTypes, KeepsTypes-nil, HasType-literal_of, HasType-literal_of_val, HasType-checked, KeepsTypes-undeclared, Fits, HasType-subst, application_parts, transmit_parts, IsTyped-replace}
 
 -- names that are checked one after the other are none of those before them
 unfailed : (used among : Bool) (x : Name) (next : Verdict (Unit {0})) → (if used || among then Fails (Twice x) else next) ≡ Passes tt → (among ≡ false) × (next ≡ Passes tt)
@@ -68,6 +69,11 @@ module _ (declared : Declared) where
             rw e (HasType-literal_of declared s k p.1.value p.1.ty h.0 h.1 ∙ j))
         | inr e ↦ (let j : name_type x (type_in declared (types_given given ++ s) x) ≡ Passes t = rw e at i in rw e (rest j))
       ]
+
+  pub HasType-given : (given : Givens) (scope : Scope) (e : Expression) (t : Ty) → AreOfTypes declared given → IsUndeclaredScope declared scope →
+      HasType declared (types_given given ++ scope) e t → HasType declared scope (subst given e) t
+  HasType-given given s e t h k =
+      HasType-subst declared (types_given given ++ s) given s (Fits-given given s (KeepsTypes-undeclared declared s k) h) e t
 
   pub AreOfTypes-event : (b : Binders) (e : Event) → IsDeclaredEvent declared e → AreOfTypes declared (event_givens b e)
   AreOfTypes-event b e h = (tt, refl, (h.kind, refl, (h.receiver, refl, (h.sender, refl, tt))))
@@ -118,7 +124,7 @@ module _ (declared : Declared) where
 -- ---- contracts
 
 module _ (book : Definitions) (reports : List Name) where
-  pub IsTyped-given : (given : Givens) (scope : Scope) (c : Contract) → AreOfTypes book.declared given → All (λ p. book.declared p.0 ≡ None) scope →
+  pub IsTyped-given : (given : Givens) (scope : Scope) (c : Contract) → AreOfTypes book.declared given → IsUndeclaredScope book.declared scope →
       IsTyped book reports (types_given given ++ scope) c → IsTyped book reports scope (replace given c)
   IsTyped-given given s c h k =
       IsTyped-replace book reports (types_given given ++ s) given s (HaveDeclaredNames-typed book.declared given h)

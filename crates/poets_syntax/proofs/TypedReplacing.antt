@@ -1,5 +1,5 @@
 -- Replacing names by literals of values of their types keeps expressions and contracts typed.
-use Rattle.std.proofs.Common.{◌≡◌, true, false, not, ◌&&◌, is_some, All, List, [], ◌∷◌, ◌++◌, length, map, refl, sym, ◌∙◌, ap, subst as along, Option, Some, None, inl, inr}
+use Rattle.std.proofs.Common.{◌≡◌, true, false, not, ◌&&◌, is_some, List, [], ◌∷◌, ◌++◌, length, map, refl, sym, ◌∙◌, ap, subst as along, Option, Some, None, inl, inr}
 use Rattle.std.proofs.lemmas.Bool.{eq-eqb}
 use Rattle.std.proofs.lemmas.List.Elements.{All-head, All-tail}
 use Rattle.poets_value.specs.declared.value.Name.{Name}
@@ -9,11 +9,11 @@ use Rattle.poets_value.specs.declared.value.Value.{Value}
 use Rattle.poets_value.specs.declared.value.Value.TheVariants as V
 use Rattle.poets_expr.specs.Expression.{Expression, Literal, Undefined, Named, Unary, Make, Binary, If}
 use Rattle.poets_expr.specs.Env.{Declared, same_name}
+use Rattle.poets_expr.specs.Same.{ty_place}
 use Rattle.poets_expr.specs.Val.{val}
 use Rattle.poets_expr.specs.Subst.{Givens, subst, replaced, literal_of}
 use Rattle.poets_expr.specs.Fold.{is_closed, is_literal, is_folded, fold_closed, HasDeclaredNames}
 use Rattle.poets_expr.proofs.SameTrees.{both_true, name_one}
-use Rattle.poets_expr.proofs.FoldClosed.{known-val}
 use Rattle.poets_syntax.specs.declared.term.Binders.{Binders}
 use Rattle.poets_syntax.specs.declared.term.Param.{Param}
 use Rattle.poets_syntax.specs.Contract.{Contract, Success, Failure, Transmit, Plus, Par, Seq, App}
@@ -21,11 +21,11 @@ use Rattle.poets_syntax.specs.Book.{Definitions, Definition, template_in}
 use Rattle.poets_syntax.specs.Replace.{binds, without, replace, AreUndeclared}
 use Rattle.poets_syntax.specs.TypeOf.{WrongCount, Passes, ◌>>=◌, Scope, type_in, must_be, same_type, unary_type, binary_type, make_type, if_type, name_type, type_of, HasType}
 use Rattle.poets_syntax.specs.Typed.{in_use, check_new, names_bound, types_bound, check_type, check_args, check_application, check_contract, IsTyped}
-use Rattle.poets_syntax.specs.OfType.{IsOfType}
+use Rattle.poets_syntax.specs.OfType.{IsOfType, IsUndeclaredScope}
 use Rattle.poets_syntax.proofs.Replacing.{truth, first_of_four, none_of_four, one_of_four, declared_free, replaced-free, replaced-bound, args_count}
 use Rattle.poets_syntax.proofs.Givens.{HaveDeclaredNames, HaveDeclaredNames-without}
-use Rattle.poets_syntax.proofs.Typedness.{passed, as_many, HasDeclaredLiterals-typed, IsWellFormed-typed}
-use Rattle.poets_syntax.proofs.Soundness.{must_be-one, IsOfType-val}
+use Rattle.poets_syntax.proofs.Typedness.{passed, as_many, IsWellFormed-typed}
+use Rattle.poets_syntax.proofs.Soundness.{must_be-one, IsOfType-val, HasDeclaredNames-val}
 
 -- a name that is not bound has its type from outside, and a bound one has the same type whatever stands outside
 type_in-free : (declared : Declared) (b : Binders) (scope : Scope) (x : Name) → binds b x ≡ false →
@@ -41,12 +41,7 @@ type_in-bound declared b scope scope' x h =
     one_of_four (same_name b.day x) (same_name b.what x) (same_name b.receiver x) (same_name b.sender x) (Some T.Day) (Some T.Resource) (Some T.Agent) (Some T.Agent) _ _ h
 
 same_type-self : (t : Ty) → same_type t t ≡ true
-same_type-self T.Int = refl
-same_type-self T.Bool = refl
-same_type-self T.Agent = refl
-same_type-self T.Kind = refl
-same_type-self T.Resource = refl
-same_type-self T.Day = refl
+same_type-self t = eq-eqb (ty_place t) (ty_place t) refl
 
 some_declared : (o : Option Ty) → is_some o ≡ true → (o ≡ None → ⊥)
 some_declared None h e = cc
@@ -62,7 +57,7 @@ module _ (declared : Declared) where
   pub KeepsTypes-nil : KeepsTypes []
   KeepsTypes-nil x k = refl
 
-  pub KeepsTypes-undeclared : (scope : Scope) → All (λ p. declared p.0 ≡ None) scope → KeepsTypes scope
+  pub KeepsTypes-undeclared : (scope : Scope) → IsUndeclaredScope declared scope → KeepsTypes scope
   KeepsTypes-undeclared [] h x k = refl
   KeepsTypes-undeclared (p ∷ scope) h x k =
       let rest = KeepsTypes-undeclared scope (All-tail (λ q. declared q.0 ≡ None) p scope h) x k in
@@ -102,7 +97,7 @@ module _ (declared : Declared) where
   pub HasType-literal_of_val : (scope : Scope) → KeepsTypes scope → (e : Expression) (t : Ty) → HasType declared [] e t →
       HasType declared scope (literal_of (val declared [] e) t) t
   HasType-literal_of_val s k e t h =
-      HasType-literal_of s k (val declared [] e) t (known-val declared e (HasDeclaredLiterals-typed declared [] e t h)) (IsOfType-val declared e t h)
+      HasType-literal_of s k (val declared [] e) t (HasDeclaredNames-val declared e t h) (IsOfType-val declared e t h)
 
   pub HasType-fold_closed : (scope : Scope) → KeepsTypes scope → (e : Expression) (t : Ty) → HasType declared scope e t →
       HasType declared scope (fold_closed declared e t) t

@@ -5,7 +5,8 @@ use Rattle.poets_value.specs.declared.value.Ty.{Ty}
 use Rattle.poets_expr.specs.Expression.{Expression}
 use Rattle.poets_expr.specs.Env.{Declared}
 use Rattle.poets_expr.specs.Val.{val}
-use Rattle.poets_expr.specs.Subst.{Givens}
+use Rattle.poets_expr.specs.Subst.{Givens, subst}
+use Rattle.poets_expr.specs.Fold.{fold_closed, HasDeclaredNames}
 use Rattle.poets_syntax.specs.Contract.{Contract}
 use Rattle.poets_syntax.specs.Book.{Definitions}
 use Rattle.poets_syntax.specs.Replace.{replace}
@@ -13,11 +14,23 @@ use Rattle.poets_syntax.specs.TypeOf.{Scope, HasType}
 use Rattle.poets_syntax.specs.Typed.{IsTyped}
 use Rattle.poets_syntax.specs.OfType.{IsOfType, AreOfTypes, types_given, IsUndeclaredScope}
 
--- the value of a closed expression is undefined or of the expression's type
+-- the value of a typed closed expression is undefined or of the expression's type, and its agents and kinds are declared
 abbrev pub ValueIsOfType : Type 0
-ValueIsOfType = (declared : Declared) (e : Expression) (t : Ty) → HasType declared [] e t → IsOfType (val declared [] e) t
+ValueIsOfType = (declared : Declared) (e : Expression) (t : Ty) →
+    HasType declared [] e t → IsOfType (val declared [] e) t × HasDeclaredNames declared (val declared [] e)
 
--- a typed contract stays typed where its newest names are replaced by values of their types
+-- folding a closed expression keeps its type
+abbrev pub FoldedHasType : Type 0
+FoldedHasType = (declared : Declared) (scope : Scope) (e : Expression) (t : Ty) → IsUndeclaredScope declared scope →
+    HasType declared scope e t → HasType declared scope (fold_closed declared e t) t
+
+-- an expression keeps its type where the newest names in its scope are replaced by values of their types
+abbrev pub ReplacedHasType : Type 0
+ReplacedHasType = (declared : Declared) (given : Givens) (scope : Scope) (e : Expression) (t : Ty) →
+    AreOfTypes declared given → IsUndeclaredScope declared scope →
+    HasType declared (types_given given ++ scope) e t → HasType declared scope (subst given e) t
+
+-- and a typed contract stays typed
 abbrev pub ReplacedIsTyped : Type 0
 ReplacedIsTyped = (book : Definitions) (reports : List Name) (given : Givens) (scope : Scope) (c : Contract) →
     AreOfTypes book.declared given → IsUndeclaredScope book.declared scope →

@@ -1,7 +1,7 @@
 //! The laws of `Perf` and `May`, and of checked, guarded and studied books, each carried by a function that does nothing.
 ghost use Rattle.poets_syntax.specs.Laws.{NothingGranted, RestGranted, AllGranted, GrantedAnywhere, GrantedByShape, NullableByShape, HopefulByShape, NullableByMarks, ReplacedAlike, ReplacedPerformed, ReplacedIsWhole, TypedIsWellFormed};
 ghost use Rattle.poets_syntax.specs.StudiedLaws.{TypedApplicationsFit, TypedBodiesFit, StudiedMarksAreRight, CountsFitWhereKnown, WidthUnfolds, EnoughDepth};
-ghost use Rattle.poets_syntax.specs.TypedLaws.{ValueIsOfType, ReplacedIsTyped};
+ghost use Rattle.poets_syntax.specs.TypedLaws.{ValueIsOfType, FoldedHasType, ReplacedHasType, ReplacedIsTyped};
 
 /// With no granted step, what may be performed is what is performed.
 pub fn nothing_granted()
@@ -64,9 +64,15 @@ pub fn value_of_type()
     ensures { ValueIsOfType }
 {}
 
-/// A typed contract stays typed where names are replaced by values of their types.
+/// Folding an expression keeps its type.
+pub fn folded_typed()
+    ensures { FoldedHasType }
+{}
+
+/// Typed expressions and contracts stay typed where names are replaced by values of their types.
 pub fn replaced_typed()
-    ensures { ReplacedIsTyped }
+    ensures expression { ReplacedHasType }
+    ensures contract { ReplacedIsTyped }
 {}
 
 /// In a typed contract and a typed book applications have as many arguments as their templates have parameters.
