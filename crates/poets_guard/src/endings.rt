@@ -150,14 +150,14 @@ fn may_end(facts: &Facts, known: &[bool], name: &Name) -> bool
     }
 }
 
-// Adds a name where the test holds.
-fn insert_if(test: bool, ending: &mut BTreeSet<Name>, name: Name) -> Result<(), Memory>
-    ensures { OnOk result ((f : Name) → contains name_cmp ending.new f ≡ (if same_name name f then test || contains name_cmp ending.old f else contains name_cmp ending.old f)) }
+/// Adds a name where the test holds.
+pub(crate) fn insert_if(test: bool, names: &mut BTreeSet<Name>, name: Name) -> Result<(), Memory>
+    ensures { OnOk result ((f : Name) → contains name_cmp names.new f ≡ (if same_name name f then test || contains name_cmp names.old f else contains name_cmp names.old f)) }
 {
     if !test {
         return Ok(());
     }
-    ending.insert(name)?;
+    names.insert(name)?;
     Ok(())
 }
 

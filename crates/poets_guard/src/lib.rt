@@ -1,6 +1,7 @@
 //! Guarded books, and what is known of their templates.
 #![tactic(auto)]
 
+mod components;
 mod cycles;
 mod endings;
 mod graph;
