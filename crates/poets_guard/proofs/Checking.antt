@@ -53,4 +53,4 @@ hopeless_checked = checked_by (hopeless binders (name 0) (name 1)).templates ((r
 
 pub circling_checked : IsChecked (circling (name 0) (name 1) (name 6))
 unfolding IsDistinct
-circling_checked = checked_by (circling (name 0) (name 1) (name 6)).templates ((refl, refl), (refl, (refl, tt))) ((refl, (refl, tt)), ((refl, tt), (tt, tt)))
+circling_checked = checked_by (circling (name 0) (name 1) (name 6)).templates ((refl, refl), ((refl, refl), ((refl, refl), tt))) ((refl, (refl, tt)), ((refl, tt), (tt, tt)))

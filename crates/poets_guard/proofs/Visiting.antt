@@ -1,5 +1,5 @@
 -- What a visit of the graph leaves.
-use Rattle.std.proofs.Common.{◌≡◌, ℕ, zero, suc, ◌+◌, ◌≤◌, ◌<◌, arith, true, false, min, List, [], ◌∷◌, ◌++◌, length, take, All, Option, Some, None, refl, sym, ◌∙◌, ap, subst, ◌⊎◌, inl, inr, append_assoc}
+use Rattle.std.proofs.Common.{◌≡◌, ℕ, zero, suc, ◌+◌, ◌≤◌, ◌<◌, arith, true, false, min, List, [], ◌∷◌, ◌++◌, length, take, Option, Some, None, refl, sym, ◌∙◌, ap, subst, ◌⊎◌, inl, inr}
 use Rattle.std.specs.Prelude.{slice_index_or, IsSome, IsTrue, ◌↔◌}
 use Rattle.std.specs.Ordering.{is_eq}
 use Rattle.std.specs.Cmp.{eq_by_cmp_equiv}
@@ -7,9 +7,8 @@ use Rattle.std.specs.Map.{keys_of, lookup}
 use Rattle.std.specs.BTreeMap.{BTreeMap, get, IsOrdered}
 use Rattle.std.specs.BTreeSet.{contains}
 use Rattle.std.proofs.lemmas.Bool.{cases_lt}
-use Rattle.std.proofs.lemmas.List.{append-nil, length-append}
+use Rattle.std.proofs.lemmas.List.{take_all, take-take, length-append, length-take}
 use Rattle.std.proofs.Math.Seq.{take-append_seam}
-use Rattle.std.proofs.lemmas.List.Elements.{All-nil, All-cons, All-head, All-tail, All-append}
 use Rattle.std.proofs.lemmas.Map.Entries.{length-keys_of}
 use Rattle.std.proofs.lemmas.Map.Keys.{IsDistinct-from_sorted}
 use Rattle.std.proofs.lemmas.Map.Made.{is_some-lookup}
@@ -28,56 +27,84 @@ use Rattle.poets_guard.specs.declared.components.Visits.{Visits}
 use Rattle.poets_guard.specs.Graph.{HasEdge}
 use Rattle.poets_guard.specs.Walks.{Reaches}
 use Rattle.poets_guard.specs.FirstCycle.{LiesOnCycle}
-use Rattle.poets_guard.specs.Visited.{stands, IsFrom, LeadsFrom, IsClosed, IsDecided, AreRight, AreGrown, AreOpened, IsVisited, IsPushed}
+use Rattle.poets_guard.specs.Visited.{stands, AllLead, IsFrom, LeadsFrom, IsClosed, IsDone, AreRight, AreGrown, AreOpened, IsVisited, IsPushed}
 use Rattle.poets_guard.proofs.Places.{name_cmp-same, same_name-self}
 use Rattle.poets_guard.proofs.Walking.{among_more, path_node}
 
 -- ---- names on the stack
 
--- a name on a longer stack stands on the shorter one, or is of those after it
-stands-append : (P : Name → Type 0) (xs ys : List Name) (k : ℕ) (f : Name) → All P ys → stands (xs ++ ys) k f ≡ true → (stands xs k f ≡ true) ⊎ ((length xs ≤ k) × P f)
-stands-append P [] [] k f all h = absurd cc
-stands-append P [] (y ∷ ys) zero f all h = inr (omega arith, subst P (name_one y f h) (All-head P y ys all))
-stands-append P [] (y ∷ ys) (suc k) f all h = elim (stands-append P [] ys k f (All-tail P y ys all) h) [
-  | inl e ↦ absurd cc
-  | inr p ↦ inr (omega arith, p.1)
-]
-stands-append P (x ∷ xs) ys zero f all h = inl h
-stands-append P (x ∷ xs) ys (suc k) f all h = elim (stands-append P xs ys k f all h) [ inl e ↦ inl e | inr p ↦ inr ((let l = p.0 in omega (arith, l)), p.1) ]
+stands-take : (n : ℕ) (xs : List Name) (k : ℕ) (f : Name) → stands (take n xs) k f ≡ true → stands xs k f ≡ true
+stands-take zero xs k f h = absurd cc
+stands-take (suc n) [] k f h = absurd cc
+stands-take (suc n) (x ∷ xs) zero f h = h
+stands-take (suc n) (x ∷ xs) (suc k) f h = stands-take n xs k f h
 
-stands-left : (xs ys : List Name) (k : ℕ) (f : Name) → stands xs k f ≡ true → stands (xs ++ ys) k f ≡ true
-stands-left [] ys k f h = absurd cc
-stands-left (x ∷ xs) ys zero f h = h
-stands-left (x ∷ xs) ys (suc k) f h = stands-left xs ys k f h
+stands-low : (n : ℕ) (xs : List Name) (k : ℕ) (f : Name) → k < n → stands xs k f ≡ true → stands (take n xs) k f ≡ true
+stands-low zero xs k f l h = absurd (omega (arith, l))
+stands-low (suc n) [] k f l h = absurd cc
+stands-low (suc n) (x ∷ xs) zero f l h = h
+stands-low (suc n) (x ∷ xs) (suc k) f l h = stands-low n xs k f (omega (arith, l)) h
 
 stands-within : (xs : List Name) (k : ℕ) (f : Name) → stands xs k f ≡ true → k < length xs
 stands-within [] k f h = absurd cc
 stands-within (x ∷ xs) zero f h = omega arith
 stands-within (x ∷ xs) (suc k) f h = let l = stands-within xs k f h in omega (arith, l)
 
-stands-last : (xs : List Name) (f : Name) → stands (xs ++ f ∷ []) (length xs) f ≡ true
-stands-last [] f = same_name-self f
-stands-last (x ∷ xs) f = stands-last xs f
+pub stands-beyond : (xs : List Name) (k n : ℕ) (f : Name) → n ≡ length xs → n ≤ k → stands xs k f ≡ true → ⊥
+stands-beyond xs k n f e l h = let w = stands-within xs k f h in absurd (omega (arith, w, e, l))
 
 stands-at : (xs : List Name) (k : ℕ) (d : Name) → k < length xs → stands xs k (slice_index_or xs k d) ≡ true
 stands-at [] k d l = absurd (omega (arith, l))
 stands-at (x ∷ xs) zero d l = same_name-self x
 stands-at (x ∷ xs) (suc k) d l = stands-at xs k d (omega (arith, l))
 
-stands-all : (P : Name → Type 0) (xs : List Name) (k : ℕ) (f : Name) → All P xs → stands xs k f ≡ true → P f
-stands-all P xs k f all h = elim (stands-append P [] xs k f all h) [ inl e ↦ absurd cc | inr p ↦ p.1 ]
+-- two names that stand at one place are the same
+pub stands-one : (xs : List Name) (k : ℕ) (f g : Name) → stands xs k f ≡ true → stands xs k g ≡ true → f ≡ g
+stands-one [] k f g h e = absurd cc
+stands-one (x ∷ xs) zero f g h e = sym (name_one x f h) ∙ name_one x g e
+stands-one (x ∷ xs) (suc k) f g h e = stands-one xs k f g h e
+
+stands-last : (xs : List Name) (f : Name) → stands (xs ++ f ∷ []) (length xs) f ≡ true
+stands-last [] f = same_name-self f
+stands-last (x ∷ xs) f = stands-last xs f
+
+stands-push : (xs : List Name) (f : Name) (k : ℕ) (g : Name) → stands (xs ++ f ∷ []) k g ≡ true → (stands xs k g ≡ true) ⊎ (f ≡ g)
+stands-push [] f zero g h = inr (name_one f g h)
+stands-push [] f (suc k) g h = absurd cc
+stands-push (x ∷ xs) f zero g h = inl h
+stands-push (x ∷ xs) f (suc k) g h = stands-push xs f k g h
 
 -- ---- one visit after another
 
 unlike : {k : ℕ} {o : Option ℕ} → o ≡ Some k → o ≡ None → ⊥
 unlike e n = absurd (let q = sym e ∙ n in cc)
 
+module _ (old new : Visits) (g : AreGrown old new) where
+  stands-still : (k : ℕ) (f : Name) → stands old.stack.items k f ≡ true → stands new.stack.items k f ≡ true
+  stands-still k f s = stands-take (length old.stack.items) new.stack.items k f (rw g.stack s)
+
+  stood : (k : ℕ) (f : Name) → k < length old.stack.items → stands new.stack.items k f ≡ true → stands old.stack.items k f ≡ true
+  stood k f l s = rw g.stack at (stands-low (length old.stack.items) new.stack.items k f l s)
+
+  -- what is closed stays so
+  was-open : (k : ℕ) (f : Name) → get name_cmp old.heights f ≡ Some k → stands new.stack.items k f ≡ true → stands old.stack.items k f ≡ true
+  was-open k f e s = elim (cases_lt k (length old.stack.items)) [
+    | inl l ↦ stood k f l s
+    | inr l ↦ absurd (unlike e (g.fresh k f l s))
+  ]
+
+  was-fresh : (f : Name) → get name_cmp new.heights f ≡ None → get name_cmp old.heights f ≡ None
+  was-fresh f n = by (get name_cmp old.heights f) refl
+    where
+      by : (o : Option ℕ) → get name_cmp old.heights f ≡ o → get name_cmp old.heights f ≡ None
+      by None e = e
+      by (Some k) e = absurd (unlike (g.kept f k e) n)
+
 pub AreGrown-self : (visits : Visits) → AreGrown visits visits
 AreGrown-self visits = record {
   kept = λ f k e. e;
-  more = [];
-  stack = sym (append-nil visits.stack.items);
-  fresh = All-nil (λ f. get name_cmp visits.heights f ≡ None);
+  stack = take_all (length visits.stack.items) visits.stack.items (omega arith);
+  fresh = λ k f l s. absurd (stands-beyond visits.stack.items k (length visits.stack.items) f refl l s);
   still = λ f h. h;
   as_many = omega arith;
 }
@@ -85,29 +112,15 @@ AreGrown-self visits = record {
 AreGrown-trans : (xs ys zs : Visits) → AreGrown xs ys → AreGrown ys zs → AreGrown xs zs
 AreGrown-trans xs ys zs g h = record {
   kept = λ f k e. h.kept f k (g.kept f k e);
-  more = g.more ++ h.more;
-  stack = h.stack ∙ ap (λ s. s ++ h.more) g.stack ∙ append_assoc xs.stack.items g.more h.more;
-  fresh = All-append (λ f. get name_cmp xs.heights f ≡ None) g.more h.more g.fresh (λ k d l. before (slice_index_or h.more k d) (get name_cmp xs.heights (slice_index_or h.more k d)) refl (h.fresh k d l));
+  stack = (let l = length-take (length xs.stack.items) ys.stack.items in let e = ap length g.stack in
+      sym (take-take (length xs.stack.items) (length ys.stack.items) zs.stack.items (omega (arith, l, e))) ∙ ap (take (length xs.stack.items)) h.stack ∙ g.stack);
+  fresh = λ k f l s. elim (cases_lt k (length ys.stack.items)) [
+    | inl b ↦ g.fresh k f l (stood ys zs h k f b s)
+    | inr b ↦ was-fresh xs ys g f (h.fresh k f b s)
+  ];
   still = λ f e. h.still f (g.still f e);
   as_many = (let l = g.as_many in let m = h.as_many in omega (arith, l, m));
 }
-  where
-    before : (f : Name) (o : Option ℕ) → get name_cmp xs.heights f ≡ o → get name_cmp ys.heights f ≡ None → get name_cmp xs.heights f ≡ None
-    before f None e n = e
-    before f (Some k) e n = absurd (unlike (g.kept f k e) n)
-
--- what is closed stays so
-stood : (old new : Visits) → AreGrown old new → (k j : ℕ) (f : Name) → get name_cmp old.heights f ≡ Some j → stands new.stack.items k f ≡ true → stands old.stack.items k f ≡ true
-stood old new g k j f e h = elim (stands-append (λ x. get name_cmp old.heights x ≡ None) old.stack.items g.more k f g.fresh (subst (λ s. stands s k f ≡ true) g.stack h)) [
-  | inl s ↦ s
-  | inr p ↦ absurd (unlike e p.1)
-]
-
--- two names that stand at one place are the same
-stands-one : (xs : List Name) (k : ℕ) (f g : Name) → stands xs k f ≡ true → stands xs k g ≡ true → f ≡ g
-stands-one [] k f g h e = absurd cc
-stands-one (x ∷ xs) zero f g h e = sym (name_one x f h) ∙ name_one x g e
-stands-one (x ∷ xs) (suc k) f g h e = stands-one xs k f g h e
 
 module _ (graph : BTreeMap Name Node) where
   Reaches-trans : (f g h : Name) (names : List Name) → IsPath (HasEdge graph) f names g → Reaches graph g h → Reaches graph f h
@@ -121,44 +134,34 @@ module _ (graph : BTreeMap Name Node) where
   IsFrom-to old new least less f kept from (inr h) = inr (h.0, kept h.0 h.1, from h.0 h.1 h.2)
 
   pub IsFrom-later : (old new : Visits) (least less : ℕ) (f : Name) → AreGrown old new → less ≤ least → IsFrom graph old least f → IsFrom graph new less f
-  IsFrom-later old new least less f g le h =
-      IsFrom-to old new least less f (g.kept f) (λ k e from s. let l = from (stood old new g k k f e s) in omega (arith, le, l)) h
+  IsFrom-later old new least less f g le h = IsFrom-to old new least less f (g.kept f) (λ k e from s. let l = from (was-open old new g k f e s) in omega (arith, le, l)) h
+
+  pub IsFrom-less : (visits : Visits) (least less : ℕ) (f : Name) → less ≤ least → IsFrom graph visits least f → IsFrom graph visits less f
+  IsFrom-less visits least less f le h = IsFrom-later visits visits least less f (AreGrown-self visits) le h
 
   pub AreOpened-self : (visits : Visits) (least : ℕ) → AreRight graph visits → AreOpened graph least visits visits
-  unfolding AreGrown-self
   AreOpened-self visits least right = record {
     grown = AreGrown-self visits;
-    opened = All-nil (λ f. (contains name_cmp visits.on_cycles f ≡ true) × LeadsFrom graph visits least f);
+    above = λ k f l s. absurd (stands-beyond visits.stack.items k (length visits.stack.items) f refl l s);
     back = λ f h. h;
     right = right;
   }
 
   pub AreOpened-trans : (least next : ℕ) (xs ys zs : Visits) → AreOpened graph least xs ys → AreOpened graph next ys zs → AreOpened graph (min least next) xs zs
-  unfolding AreGrown-trans
   AreOpened-trans least next xs ys zs a b = record {
     grown = AreGrown-trans xs ys zs a.grown b.grown;
-    opened = All-append (λ f. (contains name_cmp zs.on_cycles f ≡ true) × LeadsFrom graph zs (min least next) f) a.grown.more b.grown.more
-        (λ k d l. let o = a.opened k d l in (b.grown.still (slice_index_or a.grown.more k d) o.0, λ g e. IsFrom-later ys zs least (min least next) g b.grown (omega arith) (o.1 g e)))
-        (λ k d l. let o = b.opened k d l in (o.0, λ g e. IsFrom-later zs zs next (min least next) g (AreGrown-self zs) (omega arith) (o.1 g e)));
+    above = λ k f l s. elim (cases_lt k (length ys.stack.items)) [
+      | inl low ↦ (let o = a.above k f l (stood ys zs b.grown k f low s) in (b.grown.still f o.0, λ g e. IsFrom-later ys zs least (min least next) g b.grown (omega arith) (o.1 g e)))
+      | inr high ↦ (let o = b.above k f high s in (o.0, λ g e. IsFrom-less zs next (min least next) g (omega arith) (o.1 g e)))
+    ];
     back = λ f h. b.back f (a.back f h);
     right = b.right;
   }
 
   -- a name that is not visited now
-  visited-before : (visits : Visits) (f : Name) (least : ℕ) → AreRight graph visits → IsFrom graph visits least f → ((g : Name) → stands visits.stack.items least g ≡ true → f ≡ g) →
-      IsVisited graph f least visits visits
-  visited-before visits f least right from way = record { opened = AreOpened-self visits least right; here = from; way = λ g s. inl (way g s) }
-
-  pub IsVisited-none : (visits : Visits) (f : Name) (n : ℕ) → n ≡ length visits.stack.items → AreRight graph visits → get name_cmp graph f ≡ None → IsVisited graph f n visits visits
-  IsVisited-none visits f n e right none = visited-before visits f n right (inl none) (λ g s. absurd (let w = stands-within visits.stack.items n g s in omega (arith, w, e)))
-
-  pub IsVisited-open : (visits : Visits) (f : Name) (k : ℕ) → AreRight graph visits → get name_cmp visits.heights f ≡ Some k → stands visits.stack.items k f ≡ true → IsVisited graph f k visits visits
-  IsVisited-open visits f k right e s = visited-before visits f k right (inr (k, e, λ _. omega arith)) (λ g s'. stands-one visits.stack.items k f g s s')
-
-  pub IsVisited-closed : (visits : Visits) (f : Name) (k n : ℕ) → n ≡ length visits.stack.items → AreRight graph visits → get name_cmp visits.heights f ≡ Some k →
-      stands visits.stack.items k f ≡ false → IsVisited graph f n visits visits
-  IsVisited-closed visits f k n e right at s =
-      visited-before visits f n right (inr (k, at, λ s'. absurd (let q = sym s ∙ s' in cc))) (λ g s'. absurd (let w = stands-within visits.stack.items n g s' in omega (arith, w, e)))
+  pub IsVisited-before : (visits : Visits) (f : Name) (least : ℕ) → AreRight graph visits → IsFrom graph visits least f →
+      ((g : Name) → stands visits.stack.items least g ≡ true → f ≡ g) → IsVisited graph f least visits visits
+  IsVisited-before visits f least right from way = record { opened = AreOpened-self visits least right; here = from; way = λ g s. inl (way g s) }
 
   -- visited names have nodes, and so are no more
   pub few : (heights : BTreeMap Name ℕ) → IsOrdered name_cmp heights → ((f : Name) → IsSome (get name_cmp heights f) → IsSome (get name_cmp graph f)) → length heights.entries ≤ length graph.entries
@@ -173,34 +176,39 @@ module _ (graph : BTreeMap Name Node) where
       (g : Name) → is_among (take (k + 1) names) g ≡ true → IsFrom graph new (min least next) g
   seen-more old new least next names k d l grown before here g h = elim (among_more names k d g l h) [
     | inl a ↦ IsFrom-later old new least (min least next) g grown (omega arith) (before g a)
-    | inr e ↦ subst (IsFrom graph new (min least next)) (sym e) (IsFrom-later new new next (min least next) (slice_index_or names k d) (AreGrown-self new) (omega arith) here)
+    | inr e ↦ subst (IsFrom graph new (min least next)) (sym e) (IsFrom-less new next (min least next) (slice_index_or names k d) (omega arith) here)
   ]
 
   pub way-more : (start old : Visits) (least next : ℕ) (f x : Name) → AreGrown start old → HasEdge graph f x → ((g : Name) → stands start.stack.items least g ≡ true → Reaches graph f g) →
       ((g : Name) → stands old.stack.items next g ≡ true → (x ≡ g) ⊎ Reaches graph x g) → (g : Name) → stands start.stack.items (min least next) g ≡ true → Reaches graph f g
   way-more start old least next f x grown edge before here g s = elim (cases_lt least next) [
     | inl l ↦ before g (subst (λ k. stands start.stack.items k g ≡ true) (let e : min least next ≡ least = omega (arith, l) in e) s)
-    | inr l ↦ elim (here g (subst (λ names. stands names next g ≡ true) (sym grown.stack) (stands-left start.stack.items grown.more next g
-        (subst (λ k. stands start.stack.items k g ≡ true) (let e : min least next ≡ next = omega (arith, l) in e) s)))) [
-          | inl e ↦ ([], subst (HasEdge graph f) e edge)
-          | inr r ↦ (x ∷ r.0, (edge, r.1))
-        ]
+    | inr l ↦ elim (here g (stands-still start old grown next g (subst (λ k. stands start.stack.items k g ≡ true) (let e : min least next ≡ next = omega (arith, l) in e) s))) [
+      | inl e ↦ ([], subst (HasEdge graph f) e edge)
+      | inr r ↦ (x ∷ r.0, (edge, r.1))
+    ]
   ]
 
 -- ---- a name put on the stack
 
-module _ (f : Name) (old new : Visits) (pushed : IsPushed f old new) where
-  height-at : (g : Name) → ((f ≡ g) × (get name_cmp new.heights g ≡ Some (length old.stack.items))) ⊎ (get name_cmp new.heights g ≡ get name_cmp old.heights g)
+module _ (f : Name) (height : ℕ) (old new : Visits) (pushed : IsPushed f height old new) where
+  height-at : (g : Name) → ((f ≡ g) × (get name_cmp new.heights g ≡ Some height)) ⊎ (get name_cmp new.heights g ≡ get name_cmp old.heights g)
   height-at g = elim (truth (same_name f g)) [
     | inl e ↦ inl (name_one f g e, rw (name_cmp-same f g ∙ e) at (pushed.heights g))
     | inr e ↦ inr (rw (name_cmp-same f g ∙ e) at (pushed.heights g))
   ]
 
-  pub higher : length new.stack.items ≡ length old.stack.items + 1
-  higher = ap length pushed.stack ∙ length-append old.stack.items (f ∷ [])
+  height-top : get name_cmp new.heights f ≡ Some height
+  height-top = rw (name_cmp-same f f ∙ same_name-self f) at (pushed.heights f)
 
-  pub height-pushed : get name_cmp new.heights f ≡ Some (length old.stack.items)
-  height-pushed = rw (name_cmp-same f f ∙ same_name-self f) at (pushed.heights f)
+  pub longer : length new.stack.items ≡ height + 1
+  longer = ap length pushed.stack ∙ length-append old.stack.items (f ∷ []) ∙ ap (λ n. n + 1) (sym pushed.top)
+
+  stands-top : stands new.stack.items height f ≡ true
+  stands-top = rw (pushed.stack, pushed.top) (stands-last old.stack.items f)
+
+  pushed-or : (k : ℕ) (g : Name) → stands new.stack.items k g ≡ true → (stands old.stack.items k g ≡ true) ⊎ (f ≡ g)
+  pushed-or k g s = stands-push old.stack.items f k g (rw pushed.stack at s)
 
   AreGrown-pushed : AreGrown old new
   AreGrown-pushed = record {
@@ -208,23 +216,24 @@ module _ (f : Name) (old new : Visits) (pushed : IsPushed f old new) where
       | inl p ↦ absurd (unlike e (subst (λ x. get name_cmp old.heights x ≡ None) p.0 pushed.fresh))
       | inr p ↦ p ∙ e
     ];
-    more = f ∷ [];
-    stack = pushed.stack;
-    fresh = All-cons (λ g. get name_cmp old.heights g ≡ None) f [] pushed.fresh (All-nil (λ g. get name_cmp old.heights g ≡ None));
+    stack = rw pushed.stack (take-append_seam old.stack.items (f ∷ []));
+    fresh = λ k g l s. elim (pushed-or k g s) [
+      | inl o ↦ absurd (stands-beyond old.stack.items k (length old.stack.items) g refl l o)
+      | inr e ↦ subst (λ x. get name_cmp old.heights x ≡ None) e pushed.fresh
+    ];
     still = λ g h. rw pushed.on_cycles h;
     as_many = (let m = pushed.as_many in omega (arith, m));
   }
 
   closed-before : (g : Name) → IsClosed new g → IsClosed old g
   closed-before g c = elim (height-at g) [
-    | inl p ↦ absurd (let k : c.0 ≡ length old.stack.items = (let q = sym c.1 ∙ p.1 in cc) in
-        let s : stands new.stack.items c.0 g ≡ true = rw (pushed.stack, k) (subst (λ x. stands (old.stack.items ++ f ∷ []) (length old.stack.items) x ≡ true) p.0 (stands-last old.stack.items f)) in
-        let q = sym s ∙ c.2 in cc)
+    | inl p ↦ absurd (let k : height ≡ c.0 = (let q = sym p.1 ∙ c.1 in cc) in let s : stands new.stack.items c.0 g ≡ true = subst (λ n. stands new.stack.items n g ≡ true) k
+        (subst (λ x. stands new.stack.items height x ≡ true) p.0 stands-top) in let q = sym s ∙ c.2 in cc)
     | inr p ↦ (
       c.0,
       sym p ∙ c.1,
       elim (truth (stands old.stack.items c.0 g)) [
-        | inl s ↦ absurd (let t : stands new.stack.items c.0 g ≡ true = rw pushed.stack (stands-left old.stack.items (f ∷ []) c.0 g s) in let q = sym t ∙ c.2 in cc)
+        | inl s ↦ absurd (let q = sym (stands-still old new AreGrown-pushed c.0 g s) ∙ c.2 in cc)
         | inr s ↦ s
       ],
     )
@@ -236,183 +245,160 @@ module _ (f : Name) (old new : Visits) (pushed : IsPushed f old new) where
       | inl p ↦ subst (λ x. IsSome (get name_cmp graph x)) p.0 (rw here refl)
       | inr p ↦ right.have_nodes g (subst IsSome p h)
     ];
-    closed = λ g c least x e. IsFrom-later graph old new least least x AreGrown-pushed (omega arith) (right.closed g (closed-before g c) least x e);
-    decided = λ g c. subst (λ s. (contains name_cmp s g ≡ true) ⊎ ¬ (LiesOnCycle (HasEdge graph) g)) (sym pushed.on_cycles) (right.decided g (closed-before g c));
-    sound = λ g h. right.sound g (subst (λ s. contains name_cmp s g ≡ true) pushed.on_cycles h);
+    done = λ g c. (let d = right.done g (closed-before g c) in (λ least x e. IsFrom-later graph old new least least x AreGrown-pushed (omega arith) (d.0 least x e), rw pushed.on_cycles d.1));
+    sound = λ g h. right.sound g (rw pushed.on_cycles at h);
   }
 
-  pub none-higher : (n : ℕ) (g : Name) → n ≡ length old.stack.items → stands new.stack.items (n + 1) g ≡ true → ⊥
-  none-higher n g e s = let w = stands-within new.stack.items (n + 1) g s in let l = higher in absurd (omega (arith, w, e, l))
-
   -- what leads to the name leads to the next
-  pub reach-next : (graph : BTreeMap Name Node) (x : Name) → All (λ g. Reaches graph g f) old.stack.items → HasEdge graph f x → All (λ g. Reaches graph g x) new.stack.items
-  reach-next graph x reach edge =
-      rw pushed.stack (All-append (λ g. Reaches graph g x) old.stack.items (f ∷ []) (λ k d l. let r = reach k d l in further (HasEdge graph) (slice_index_or old.stack.items k d) f x r.0 r.1 edge)
-      (All-cons (λ g. Reaches graph g x) f [] ([], edge) (All-nil (λ g. Reaches graph g x))))
+  pub AllLead-next : (graph : BTreeMap Name Node) (x : Name) → AllLead graph old.stack.items f → HasEdge graph f x → AllLead graph new.stack.items x
+  AllLead-next graph x lead edge k g s = elim (pushed-or k g s) [
+    | inl o ↦ (let r = lead k g o in further (HasEdge graph) g f x r.0 r.1 edge)
+    | inr e ↦ ([], subst (λ y. HasEdge graph y x) e edge)
+  ]
 
 -- ---- the end of a visit
 
--- what is done at the end: where the name leads to its height or below it is on a cycle, and where it leads to none below, what stands from its height on is closed
-pub record IsEnded (f : Name) (height least : ℕ) (old new : Visits) : Type 0 where
+-- a name that leads to its height or below it is marked
+pub record IsNoted (f : Name) (height least : ℕ) (old new : Visits) : Type 0 where
   pub heights : new.heights ≡ old.heights
-  pub stack : least < height → new.stack.items ≡ old.stack.items
-  pub closed : height ≤ least → new.stack.items ≡ take height old.stack.items
   pub on_cycle : least ≤ height → contains name_cmp new.on_cycles f ≡ true
   pub others : (g : Name) → contains name_cmp new.on_cycles g ≡ true → (contains name_cmp old.on_cycles g ≡ true) ⊎ ((least ≤ height) × (f ≡ g))
   pub still : (g : Name) → contains name_cmp old.on_cycles g ≡ true → contains name_cmp new.on_cycles g ≡ true
 
-module _ (graph : BTreeMap Name Node) (f : Name) (node : Node) (here : get name_cmp graph f ≡ Some node) (old start now new : Visits) (least : ℕ) (pushed : IsPushed f old start)
+module _ (graph : BTreeMap Name Node) (f : Name) (node : Node) (here : get name_cmp graph f ≡ Some node) (height least : ℕ) (old start now new : Visits) (pushed : IsPushed f height old start)
     (opened : AreOpened graph least start now) (leads : LeadsFrom graph now least f) (way : (g : Name) → stands start.stack.items least g ≡ true → Reaches graph f g)
-    (reach : All (λ g. Reaches graph g f) old.stack.items) (ended : IsEnded f (length old.stack.items) least now new) where
-  abbrev height : ℕ
-  height = length old.stack.items
-
-  abbrev more : List Name
-  more = opened.grown.more
-
-  all_grown : AreGrown old now
-  all_grown = AreGrown-trans old start now (AreGrown-pushed f old start pushed) opened.grown
-
-  whole : now.stack.items ≡ old.stack.items ++ f ∷ more
-  unfolding all_grown AreGrown-trans AreGrown-pushed
-  whole = all_grown.stack
+    (lead : AllLead graph old.stack.items f) (noted : IsNoted f height least now new) where
+  grown : AreGrown old now
+  grown = AreGrown-trans old start now (AreGrown-pushed f height old start pushed) opened.grown
 
   place : get name_cmp now.heights f ≡ Some height
-  place = opened.grown.kept f height (height-pushed f old start pushed)
-
-  standing : stands now.stack.items height f ≡ true
-  standing = subst (λ s. stands s height f ≡ true) (sym opened.grown.stack) (stands-left start.stack.items more height f (rw pushed.stack (stands-last old.stack.items f)))
+  place = opened.grown.kept f height (height-top f height old start pushed)
 
   on_cycle : least ≤ height → LiesOnCycle (HasEdge graph) f
   on_cycle l =
       let g = slice_index_or start.stack.items least f in
-      let s = stands-at start.stack.items least f (let e = higher f old start pushed in omega (arith, l, e)) in
+      let s = stands-at start.stack.items least f (let e = longer f height old start pushed in omega (arith, l, e)) in
       let r = way g s in
-      elim (stands-append (λ x. f ≡ x) old.stack.items (f ∷ []) least g (All-cons (λ x. f ≡ x) f [] refl (All-nil (λ x. f ≡ x))) (subst (λ names. stands names least g ≡ true) pushed.stack s)) [
-        | inl o ↦ Reaches-trans graph f g f r.0 r.1 (stands-all (λ x. Reaches graph x f) old.stack.items least g reach o)
-        | inr e ↦ subst (Reaches graph f) (sym e.1) r
+      elim (pushed-or f height old start pushed least g s) [
+        | inl o ↦ Reaches-trans graph f g f r.0 r.1 (lead least g o)
+        | inr e ↦ subst (Reaches graph f) (sym e) r
       ]
 
-  -- where it leads to names above it alone, so do these
-  above : height < least → (g : Name) → IsFrom graph now (height + 1) g → LeadsFrom graph now (height + 1) g
-  above l g (inl none) x e = absurd (let q = sym e.1 ∙ none in cc)
-  above l g (inr h) x e = elim (truth (stands now.stack.items h.0 g)) [
-    | inl s ↦ elim (stands-append (λ y. (contains name_cmp now.on_cycles y ≡ true) × LeadsFrom graph now least y) start.stack.items more h.0 g opened.opened
-        (subst (λ names. stands names h.0 g ≡ true) opened.grown.stack s)) [
-          | inl o ↦ absurd (let w = stands-within start.stack.items h.0 g o in let from = h.2 s in let e = higher f old start pushed in omega (arith, w, from, e))
-          | inr o ↦ IsFrom-later graph now now least (height + 1) x (AreGrown-self now) (omega (arith, l)) (o.1.1 x e)
-        ]
-    | inr s ↦ opened.right.closed g (h.0, h.1, s) (height + 1) x e
+  -- where it leads to open names above it alone, so do these
+  higher : height < least → (g : Name) → IsFrom graph now (height + 1) g → LeadsFrom graph now (height + 1) g
+  higher l g (inl none) x e = absurd (let q = sym e.1 ∙ none in cc)
+  higher l g (inr h) x e = elim (truth (stands now.stack.items h.0 g)) [
+    | inl s ↦ IsFrom-less graph now least (height + 1) x (omega (arith, l)) ((opened.above h.0 g (let from = h.2 s in let e = longer f height old start pushed in omega (arith, from, e)) s).1 x e)
+    | inr s ↦ (opened.right.done g (h.0, h.1, s)).0 (height + 1) x e
   ]
 
   no_way : height < least → (names : List Name) (g : Name) → LeadsFrom graph now (height + 1) g → IsPath (HasEdge graph) g names f → ⊥
   no_way l [] g from e = elim (from f e) [
     | inl none ↦ absurd (let q = sym here ∙ none in cc)
-    | inr h ↦ (let k : h.0 ≡ height = (let q = sym h.1 ∙ place in cc) in let m = h.2 (rw k standing) in absurd (omega (arith, k, m)))
+    | inr h ↦ (let k : height ≡ h.0 = (let q = sym place ∙ h.1 in cc) in
+        let m = h.2 (subst (λ n. stands now.stack.items n f ≡ true) k (stands-still start now opened.grown height f (stands-top f height old start pushed))) in absurd (omega (arith, k, m)))
   ]
-  no_way l (x ∷ names) g from e = no_way l names x (above l x (from x e.0)) e.1
+  no_way l (x ∷ names) g from e = no_way l names x (higher l x (from x e.0)) e.1
 
-  decided : IsDecided graph new f
+  decided : (contains name_cmp new.on_cycles f ≡ true) ⊎ ¬ (LiesOnCycle (HasEdge graph) f)
   decided = elim (cases_lt height least) [
-    | inl l ↦ inr (λ c. no_way l c.0 f (λ x e. IsFrom-later graph now now least (height + 1) x (AreGrown-self now) (omega (arith, l)) (leads x e)) c.1)
-    | inr l ↦ inl (ended.on_cycle l)
+    | inl l ↦ inr (λ c. no_way l c.0 f (λ x e. IsFrom-less graph now least (height + 1) x (omega (arith, l)) (leads x e)) c.1)
+    | inr l ↦ inl (noted.on_cycle l)
   ]
 
-  -- what was on the stack and is no more is closed
-  right : (rest : List Name) → now.stack.items ≡ new.stack.items ++ rest → All (λ g. IsDecided graph new g × ((m : ℕ) → LeadsFrom graph new m g)) rest → AreRight graph new
-  right rest e shut = record {
-    have_nodes = λ g h. opened.right.have_nodes g (subst (λ m. IsSome (get name_cmp m g)) ended.heights h);
-    closed = λ g c m x edge. elim (was g c) [
-      | inl o ↦ IsFrom-to graph now new m m x (λ k i. rw ended.heights i) (λ k i from s. from (lower x k s)) (opened.right.closed g o m x edge)
-      | inr p ↦ p.1 m x edge
+  -- it, or a name that was opened after it
+  those : (k : ℕ) (g : Name) → height ≤ k → stands now.stack.items k g ≡ true → (f ≡ g) ⊎ ((contains name_cmp new.on_cycles g ≡ true) × LeadsFrom graph now least g)
+  those k g l s = elim (cases_lt k (length start.stack.items)) [
+    | inl low ↦ elim (pushed-or f height old start pushed k g (stood start now opened.grown k g low s)) [
+      | inl o ↦ absurd (stands-beyond old.stack.items k height g pushed.top l o)
+      | inr e ↦ inl e
+    ]
+    | inr high ↦ inr (let o = opened.above k g high s in (noted.still g o.0, o.1))
+  ]
+
+  -- where names are taken from the stack that are done
+  right : ((k : ℕ) (g : Name) → stands new.stack.items k g ≡ true → stands now.stack.items k g ≡ true) →
+      ((k : ℕ) (g : Name) → stands now.stack.items k g ≡ true → stands new.stack.items k g ≡ false → IsDone graph new g) → AreRight graph new
+  right lower taken = record {
+    have_nodes = λ g h. opened.right.have_nodes g (rw noted.heights at h);
+    done = λ g c. elim (truth (stands now.stack.items c.0 g)) [
+      | inl s ↦ taken c.0 g s c.2
+      | inr s ↦ (let d = opened.right.done g (c.0, rw noted.heights at c.1, s) in (
+        λ m x e. IsFrom-to graph now new m m x (λ k i. rw noted.heights i) (λ k i from t. from (lower k x t)) (d.0 m x e),
+        elim d.1 [ inl h ↦ inl (noted.still g h) | inr n ↦ inr n ],
+      ))
     ];
-    decided = λ g c. elim (was g c) [
-      | inl o ↦ elim (opened.right.decided g o) [ inl h ↦ inl (ended.still g h) | inr h ↦ inr h ]
-      | inr p ↦ p.0
-    ];
-    sound = λ g h. elim (ended.others g h) [
+    sound = λ g h. elim (noted.others g h) [
       | inl o ↦ opened.right.sound g o
       | inr p ↦ subst (LiesOnCycle (HasEdge graph)) p.1 (on_cycle p.0)
     ];
   }
-    where
-      lower : (g : Name) (k : ℕ) → stands new.stack.items k g ≡ true → stands now.stack.items k g ≡ true
-      lower g k s = subst (λ names. stands names k g ≡ true) (sym e) (stands-left new.stack.items rest k g s)
 
-      was : (g : Name) → IsClosed new g → IsClosed now g ⊎ (IsDecided graph new g × ((m : ℕ) → LeadsFrom graph new m g))
-      was g c = elim (truth (stands now.stack.items c.0 g)) [
-        | inr s ↦ inl (c.0, subst (λ m. get name_cmp m g ≡ Some c.0) ended.heights c.1, s)
-        | inl s ↦ elim (stands-append (λ x. IsDecided graph new x × ((m : ℕ) → LeadsFrom graph new m x)) new.stack.items rest c.0 g shut (subst (λ names. stands names c.0 g ≡ true) e s)) [
-          | inl o ↦ absurd (let q = sym o ∙ c.2 in cc)
-          | inr p ↦ inr p.1
-        ]
-      ]
-
-  visited : (m : ℕ) → m ≡ min least height → (rest : List Name) → new.stack.items ≡ old.stack.items ++ rest → All (λ g. get name_cmp old.heights g ≡ None) rest →
-      All (λ g. (contains name_cmp new.on_cycles g ≡ true) × LeadsFrom graph new m g) rest →
-      ((g : Name) → All (λ x. Reaches graph x g) old.stack.items → All (λ x. Reaches graph x g) new.stack.items) → AreRight graph new → IsVisited graph f m old new
-  visited m is rest e fresh added back sound = record {
+  visited : (m : ℕ) → m ≤ height → (m < height → m ≡ least) → take (length old.stack.items) new.stack.items ≡ old.stack.items →
+      ((k : ℕ) (g : Name) → height ≤ k → stands new.stack.items k g ≡ true →
+      (get name_cmp old.heights g ≡ None) × ((contains name_cmp new.on_cycles g ≡ true) × LeadsFrom graph new m g)) →
+      ((g : Name) → AllLead graph old.stack.items g → AllLead graph new.stack.items g) → AreRight graph new → IsVisited graph f m old new
+  visited m low is cut above back sound = record {
     opened = record {
       grown = record {
-        kept = λ g k i. rw ended.heights (all_grown.kept g k i);
-        more = rest;
-        stack = e;
-        fresh = fresh;
-        still = λ g h. ended.still g (all_grown.still g h);
-        as_many = rw ended.heights all_grown.as_many;
+        kept = λ g k i. rw noted.heights (grown.kept g k i);
+        stack = cut;
+        fresh = λ k g l s. (above k g (let e = pushed.top in omega (arith, l, e)) s).0;
+        still = λ g h. noted.still g (grown.still g h);
+        as_many = rw noted.heights grown.as_many;
       };
-      opened = added;
+      above = λ k g l s. (above k g (let e = pushed.top in omega (arith, l, e)) s).1;
       back = back;
       right = sound;
     };
-    here = inr (height, rw ended.heights place, λ _. omega (arith, is));
-    way = λ g s. inr (way g (let low : m ≡ least = (let w = stands-within old.stack.items m g s in omega (arith, is, w)) in
-        rw pushed.stack (stands-left old.stack.items (f ∷ []) least g (subst (λ k. stands old.stack.items k g ≡ true) low s))));
+    here = inr (height, rw noted.heights place, λ _. low);
+    way = λ g s. inr (way g (subst (λ k. stands start.stack.items k g ≡ true) (is (let w = stands-within old.stack.items m g s in let e = pushed.top in omega (arith, w, e)))
+        (stands-still old start (AreGrown-pushed f height old start pushed) m g s)));
   }
 
   -- the name stays open where it leads to one below it
-  stays : least < height → IsVisited graph f least old new
-  unfolding all_grown AreGrown-trans AreGrown-pushed
-  stays l =
-      let same = ended.stack l in
-      visited least (omega (arith, l)) (f ∷ more) (same ∙ whole) all_grown.fresh
-      (All-cons (λ g. (contains name_cmp new.on_cycles g ≡ true) × LeadsFrom graph new least g) f more (ended.on_cycle (omega (arith, l)), λ x e. later x (leads x e))
-      (λ k d w. let o = opened.opened k d w in (ended.still (slice_index_or more k d) o.0, λ x e. later x (o.1 x e))))
-      (λ g h. subst (λ names. All (λ x. Reaches graph x g) names) (sym same) (opened.back g (subst (λ names. All (λ x. Reaches graph x g) names) (sym pushed.stack)
-      (All-append (λ x. Reaches graph x g) old.stack.items (f ∷ []) h (All-cons (λ x. Reaches graph x g) f [] (onward g h) (All-nil (λ x. Reaches graph x g)))))))
-      (right [] (sym (append-nil new.stack.items ∙ same)) (All-nil (λ g. IsDecided graph new g × ((m : ℕ) → LeadsFrom graph new m g))))
+  pub IsVisited-open : new.stack.items ≡ now.stack.items → least < height → IsVisited graph f least old new
+  IsVisited-open same l =
+      visited least (omega (arith, l)) (λ _. refl) (rw same grown.stack)
+      (λ k g high s. let t = rw same at s in (
+        grown.fresh k g (let e = pushed.top in omega (arith, high, e)) t,
+        elim (those k g high t) [
+          | inl e ↦ subst (λ y. (contains name_cmp new.on_cycles y ≡ true) × LeadsFrom graph new least y) e (noted.on_cycle (omega (arith, l)), λ x i. later x (leads x i))
+          | inr p ↦ (p.0, λ x i. later x (p.1 x i))
+        ],
+      ))
+      (λ g h. rw same (opened.back g (λ k x s. elim (pushed-or f height old start pushed k x s) [ inl o ↦ h k x o | inr e ↦ subst (λ y. Reaches graph y g) e (onward g h) ])))
+      (right (λ k g s. rw same at s) (λ k g s t. absurd (let q = sym s ∙ rw same at t in cc)))
     where
       later : (x : Name) → IsFrom graph now least x → IsFrom graph new least x
-      later x h = IsFrom-to graph now new least least x (λ k i. rw ended.heights i) (λ k i from s. from (subst (λ names. stands names k x ≡ true) (ended.stack l) s)) h
+      later x h = IsFrom-to graph now new least least x (λ k i. rw noted.heights i) (λ k i from s. from (rw same at s)) h
 
-      onward : (g : Name) → All (λ x. Reaches graph x g) old.stack.items → Reaches graph f g
+      onward : (g : Name) → AllLead graph old.stack.items g → Reaches graph f g
       onward g h =
           let x = slice_index_or old.stack.items least f in
-          let s = stands-at old.stack.items least f l in
-          let r = way x (rw pushed.stack (stands-left old.stack.items (f ∷ []) least x s)) in
-          Reaches-trans graph f x g r.0 r.1 (h least f l)
+          let s = stands-at old.stack.items least f (let e = pushed.top in omega (arith, l, e)) in
+          let r = way x (stands-still old start (AreGrown-pushed f height old start pushed) least x s) in
+          Reaches-trans graph f x g r.0 r.1 (h least x s)
 
   -- and is closed with those above it where it leads to none
-  shuts : height ≤ least → IsVisited graph f height old new
-  shuts l =
-      let same : new.stack.items ≡ old.stack.items = ended.closed l ∙ ap (take height) whole ∙ take-append_seam old.stack.items (f ∷ more) in
-      visited height (omega (arith, l)) [] (same ∙ sym (append-nil old.stack.items)) (All-nil (λ g. get name_cmp old.heights g ≡ None))
-      (All-nil (λ g. (contains name_cmp new.on_cycles g ≡ true) × LeadsFrom graph new height g)) (λ g h. subst (λ names. All (λ x. Reaches graph x g) names) (sym same) h)
-      (right (f ∷ more) (whole ∙ ap (λ names. names ++ f ∷ more) (sym same)) (All-cons (λ g. IsDecided graph new g × ((m : ℕ) → LeadsFrom graph new m g)) f more
-      (decided, λ m x e. shut same m x (leads x e))
-      (λ k d w. let o = opened.opened k d w in (inl (ended.still (slice_index_or more k d) o.0), λ m x e. shut same m x (o.1 x e)))))
+  pub IsVisited-closed : new.stack.items ≡ take height now.stack.items → height ≤ least → IsVisited graph f height old new
+  IsVisited-closed cut l =
+      visited height (omega arith) (λ m. absurd (omega (arith, m))) (ap (take (length old.stack.items)) same ∙ take_all (length old.stack.items) old.stack.items (omega arith))
+      (λ k g high s. absurd (stands-beyond old.stack.items k height g pushed.top high (rw same at s))) (λ g h. rw same h)
+      (right (λ k g s. stands-still old now grown k g (rw same at s)) (λ k g s t. elim (cases_lt k height) [
+        | inl low ↦ absurd (let q = sym (stood old now grown k g (let e = pushed.top in omega (arith, low, e)) s) ∙ rw same at t in cc)
+        | inr high ↦ elim (those k g high s) [
+          | inl e ↦ subst (IsDone graph new) e (λ m x i. shut m x (leads x i), decided)
+          | inr p ↦ (λ m x i. shut m x (p.1 x i), inl p.0)
+        ]
+      ]))
     where
-      shut : new.stack.items ≡ old.stack.items → (m : ℕ) (x : Name) → IsFrom graph now least x → IsFrom graph new m x
-      shut same m x h = IsFrom-to graph now new least m x (λ k i. rw ended.heights i)
-          (λ k i from s. absurd (let o = subst (λ names. stands names k x ≡ true) same s in
-          let w = stands-within old.stack.items k x o in
-          let high = from (subst (λ names. stands names k x ≡ true) (sym whole) (stands-left old.stack.items (f ∷ more) k x o)) in omega (arith, w, high, l))) h
+      same : new.stack.items ≡ old.stack.items
+      same = cut ∙ rw pushed.top grown.stack
 
-  pub IsVisited-ended : (m : ℕ) → m ≡ min least height → IsVisited graph f m old new
-  IsVisited-ended m is = elim (cases_lt least height) [
-    | inl l ↦ subst (λ k. IsVisited graph f k old new) (let e : least ≡ m = omega (arith, is, l) in e) (stays l)
-    | inr l ↦ subst (λ k. IsVisited graph f k old new) (let e : height ≡ m = omega (arith, is, l) in e) (shuts l)
-  ]
+      shut : (m : ℕ) (x : Name) → IsFrom graph now least x → IsFrom graph new m x
+      shut m x h = IsFrom-to graph now new least m x (λ k i. rw noted.heights i) (λ k i from s. let o = rw same at s in let high = from (stands-still old now grown k x o) in
+          absurd (stands-beyond old.stack.items k height x pushed.top (omega (arith, l, high)) o)) h
 
 -- ---- all templates
 
@@ -420,8 +406,7 @@ module _ (graph : BTreeMap Name Node) where
   pub AreRight-empty : (visits : Visits) → visits.heights.entries ≡ [] → visits.on_cycles.keys ≡ [] → AreRight graph visits
   AreRight-empty visits none no_cycles = record {
     have_nodes = λ f h. absurd (let q : false ≡ true = subst (λ o. IsSome o) (unvisited f) h in cc);
-    closed = λ f c. absurd (unlike c.1 (unvisited f));
-    decided = λ f c. absurd (unlike c.1 (unvisited f));
+    done = λ f c. absurd (unlike c.1 (unvisited f));
     sound = λ f h. absurd (let q : false ≡ true = sym (ap (λ xs. contains name_cmp (record { keys = xs }) f) no_cycles) ∙ h in cc);
   }
     where
@@ -429,9 +414,9 @@ module _ (graph : BTreeMap Name Node) where
       unvisited f = ap (lookup (λ x. is_eq (name_cmp f x))) none
 
 module _ (graph : BTreeMap Name Node) (empty visits : Visits) (none : empty.stack.items ≡ []) (opened : AreOpened graph 0 empty visits) where
-  -- all names that are open lead anywhere, as there is none
-  pub reach-all : (f : Name) → All (λ g. Reaches graph g f) visits.stack.items
-  reach-all f = opened.back f (rw none (All-nil (λ g. Reaches graph g f)))
+  -- all names that are open lead anywhere, as there is none at first
+  pub AllLead-any : (f : Name) → AllLead graph visits.stack.items f
+  AllLead-any f = opened.back f (λ k g s. absurd (let q : false ≡ true = rw none at s in cc))
 
   pub AreOpened-more : (least : ℕ) (new : Visits) → AreOpened graph least visits new → AreOpened graph 0 empty new
   AreOpened-more least new more = subst (λ k. AreOpened graph k empty new) (let e : min 0 least ≡ 0 = omega arith in e) (AreOpened-trans graph 0 least empty visits new opened more)
@@ -443,12 +428,8 @@ module _ (graph : BTreeMap Name Node) (empty visits : Visits) (none : empty.stac
     λ c. let node = path_node graph f f c.0 c.1 in elim (seen node) [
       | inl n ↦ absurd (let q : false ≡ true = subst (λ o. IsSome o) n node in cc)
       | inr h ↦ elim (truth (stands visits.stack.items h.0 f)) [
-        | inl s ↦ elim (stands-append (λ x. (contains name_cmp visits.on_cycles x ≡ true) × LeadsFrom graph visits 0 x) empty.stack.items opened.grown.more h.0 f opened.opened
-            (subst (λ names. stands names h.0 f ≡ true) opened.grown.stack s)) [
-              | inl o ↦ absurd (let q : false ≡ true = subst (λ names. stands names h.0 f ≡ true) none o in cc)
-              | inr o ↦ o.1.0
-            ]
-        | inr s ↦ elim (opened.right.decided f (h.0, h.1, s)) [ inl m ↦ m | inr n ↦ absurd (n c) ]
+        | inl s ↦ (opened.above h.0 f (let e = ap length none in omega (arith, e)) s).0
+        | inr s ↦ elim (opened.right.done f (h.0, h.1, s)).1 [ inl m ↦ m | inr n ↦ absurd (n c) ]
       ]
     ],
   )

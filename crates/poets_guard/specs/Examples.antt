@@ -43,7 +43,7 @@ abbrev pub hopeless : Binders → Name → Name → Definitions
 hopeless b f g = book_of (template f (anything b (applied f)) ∷ template g (Seq (applied f) (applied g)) ∷ [])
 
 -- template f() = h() + g();;
--- template g() = h();;
--- template h() = g();;
+-- template g() = h() || Success;;
+-- template h() = g() || Success;;
 abbrev pub circling : Name → Name → Name → Definitions
-circling f g h = book_of (template f (Plus (applied h) (applied g)) ∷ template g (applied h) ∷ template h (applied g) ∷ [])
+circling f g h = book_of (template f (Plus (applied h) (applied g)) ∷ template g (Par (applied h) Success) ∷ template h (Par (applied g) Success) ∷ [])

@@ -1,5 +1,5 @@
 -- What a visit of the graph leaves: open and closed names, and those on cycles.
-use Rattle.std.specs.Prelude.{◌≡◌, ℕ, ◌+◌, ◌≤◌, ◌⊎◌, Bool, true, false, cond, List, [], ◌∷◌, ◌++◌, length, All, Option, Some, None, IsSome, slice_get}
+use Rattle.std.specs.Prelude.{◌≡◌, ℕ, ◌+◌, ◌≤◌, ◌⊎◌, Bool, true, false, cond, List, [], ◌∷◌, ◌++◌, length, take, Option, Some, None, IsSome, slice_get}
 use Rattle.std.specs.Ordering.{is_eq}
 use Rattle.std.specs.BTreeMap.{BTreeMap, get}
 use Rattle.std.specs.BTreeSet.{contains}
@@ -21,6 +21,10 @@ is_name None f = false
 abbrev pub stands : List Name → ℕ → Name → Bool
 stands names k f = is_name (slice_get names k) f
 
+-- each name on the stack leads to the name
+abbrev pub AllLead : BTreeMap Name Node → (stack : List Name) → Name → Type 0
+AllLead graph stack g = (k : ℕ) (f : Name) → stands stack k f ≡ true → Reaches graph f g
+
 -- the name has no node, or it was visited, and if it is open, then at this height or above
 abbrev pub IsFrom : BTreeMap Name Node → Visits → (least : ℕ) → Name → Type 0
 IsFrom graph visits least f = (get name_cmp graph f ≡ None) ⊎ ((k : ℕ) × (get name_cmp visits.heights f ≡ Some k) × (stands visits.stack.items k f ≡ true → least ≤ k))
@@ -33,43 +37,42 @@ LeadsFrom graph visits least f = (g : Name) → HasEdge graph f g → IsFrom gra
 abbrev pub IsClosed : Visits → Name → Type 0
 IsClosed visits f = (k : ℕ) × (get name_cmp visits.heights f ≡ Some k) × (stands visits.stack.items k f ≡ false)
 
--- the name is among those on cycles, or lies on none
-abbrev pub IsDecided : BTreeMap Name Node → Visits → Name → Type 0
-IsDecided graph visits f = (contains name_cmp visits.on_cycles f ≡ true) ⊎ ¬ (LiesOnCycle (HasEdge graph) f)
+-- the name leads to closed names alone, and is among those on cycles or lies on none
+abbrev pub IsDone : BTreeMap Name Node → Visits → Name → Type 0
+IsDone graph visits f = ((least : ℕ) → LeadsFrom graph visits least f) × ((contains name_cmp visits.on_cycles f ≡ true) ⊎ ¬ (LiesOnCycle (HasEdge graph) f))
 
--- closed names lead to closed ones and are decided, and those on cycles are
+-- closed names are done, and those among the ones on cycles are
 pub record AreRight (graph : BTreeMap Name Node) (visits : Visits) : Type 0 where
   pub have_nodes : (f : Name) → IsSome (get name_cmp visits.heights f) → IsSome (get name_cmp graph f)
-  pub closed : (f : Name) → IsClosed visits f → (least : ℕ) → LeadsFrom graph visits least f
-  pub decided : (f : Name) → IsClosed visits f → IsDecided graph visits f
+  pub done : (f : Name) → IsClosed visits f → IsDone graph visits f
   pub sound : (f : Name) → contains name_cmp visits.on_cycles f ≡ true → LiesOnCycle (HasEdge graph) f
 
--- what was visited stays as it was, and others were opened
+-- what was visited stays as it was, and others are open above it
 pub record AreGrown (old new : Visits) : Type 0 where
   pub kept : (f : Name) (k : ℕ) → get name_cmp old.heights f ≡ Some k → get name_cmp new.heights f ≡ Some k
-  pub more : List Name
-  pub stack : new.stack.items ≡ old.stack.items ++ more
-  pub fresh : All (λ f. get name_cmp old.heights f ≡ None) more
+  pub stack : take (length old.stack.items) new.stack.items ≡ old.stack.items
+  pub fresh : (k : ℕ) (f : Name) → length old.stack.items ≤ k → stands new.stack.items k f ≡ true → get name_cmp old.heights f ≡ None
   pub still : (f : Name) → contains name_cmp old.on_cycles f ≡ true → contains name_cmp new.on_cycles f ≡ true
   pub as_many : length old.heights.entries ≤ length new.heights.entries
 
--- those that were opened and still are lie on cycles, and lead to open names from this height on, and on to what those that were open lead to
+-- those that are open above lie on cycles, lead to open names from the least height on, and to what the others lead to
 pub record AreOpened (graph : BTreeMap Name Node) (least : ℕ) (old new : Visits) : Type 0 where
   pub grown : AreGrown old new
-  pub opened : All (λ f. (contains name_cmp new.on_cycles f ≡ true) × LeadsFrom graph new least f) grown.more
-  pub back : (f : Name) → All (λ g. Reaches graph g f) old.stack.items → All (λ g. Reaches graph g f) new.stack.items
+  pub above : (k : ℕ) (f : Name) → length old.stack.items ≤ k → stands new.stack.items k f ≡ true → (contains name_cmp new.on_cycles f ≡ true) × LeadsFrom graph new least f
+  pub back : (f : Name) → AllLead graph old.stack.items f → AllLead graph new.stack.items f
   pub right : AreRight graph new
 
--- the name was visited, and leads to open names from this height on
+-- the name was visited, and leads to open names from the least height on, and to that there
 pub record IsVisited (graph : BTreeMap Name Node) (f : Name) (least : ℕ) (old new : Visits) : Type 0 where
   pub opened : AreOpened graph least old new
   pub here : IsFrom graph new least f
   pub way : (g : Name) → stands old.stack.items least g ≡ true → (f ≡ g) ⊎ Reaches graph f g
 
--- the name was visited and put on the stack
-pub record IsPushed (f : Name) (old new : Visits) : Type 0 where
+-- the name was put on the stack at this height
+pub record IsPushed (f : Name) (height : ℕ) (old new : Visits) : Type 0 where
+  pub top : height ≡ length old.stack.items
   pub fresh : get name_cmp old.heights f ≡ None
-  pub heights : (g : Name) → get name_cmp new.heights g ≡ cond (is_eq (name_cmp f g)) (Some (length old.stack.items)) (get name_cmp old.heights g)
+  pub heights : (g : Name) → get name_cmp new.heights g ≡ cond (is_eq (name_cmp f g)) (Some height) (get name_cmp old.heights g)
   pub stack : new.stack.items ≡ old.stack.items ++ f ∷ []
   pub on_cycles : new.on_cycles ≡ old.on_cycles
   pub as_many : length new.heights.entries ≡ length old.heights.entries + 1

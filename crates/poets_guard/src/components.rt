@@ -1,12 +1,11 @@
 //! Which names of the graph lie on cycles.
-ghost use Rattle.std.specs.Prelude.{◌≡◌, ◌↔◌, ◌≤◌, ◌<◌, ◌⊎◌, true, IfOk, OnOk, IsTrue, All, take};
+ghost use Rattle.std.specs.Prelude.{◌≡◌, ◌↔◌, ◌≤◌, ◌⊎◌, true, IfOk, OnOk, IsTrue};
 ghost use Rattle.std.specs.BTreeSet.{contains};
 ghost use Rattle.poets_value.specs.Names.{name_cmp};
 ghost use Rattle.poets_guard.specs.Graph.{HasEdge};
-ghost use Rattle.poets_guard.specs.Walks.{Reaches};
 ghost use Rattle.poets_guard.specs.FirstCycle.{LiesOnCycle};
 ghost use Rattle.poets_guard.specs.Searched.{HasNodesOf};
-ghost use Rattle.poets_guard.specs.Visited.{stands, AreRight, IsVisited};
+ghost use Rattle.poets_guard.specs.Visited.{stands, AllLead, AreRight, IsVisited};
 
 use crate::endings::insert_if;
 use crate::graph::Graph;
@@ -35,27 +34,22 @@ impl Visits {
         }
     }
 
-    // Ends the visit of the name at this height, which leads to open names from the least height on.
-    fn end(&mut self, name: Name, height: usize, least: usize) -> Result<(), Memory>
+    // Says that the name at this height lies on a cycle, if it leads to an open name there or below.
+    fn mark(&mut self, name: Name, height: usize, least: usize) -> Result<(), Memory>
         ensures heights { self.new.heights ≡ self.old.heights }
-        ensures stack { least < height → self.new.stack.items ≡ self.old.stack.items }
-        ensures closed { OnOk result (height ≤ least → self.new.stack.items ≡ take height self.old.stack.items) }
+        ensures stack { self.new.stack ≡ self.old.stack }
         ensures on_cycle { OnOk result (least ≤ height → contains name_cmp self.new.on_cycles name ≡ true) }
         ensures others { OnOk result ((f : Name) → contains name_cmp self.new.on_cycles f ≡ true → (contains name_cmp self.old.on_cycles f ≡ true) ⊎ ((least ≤ height) × (name ≡ f))) }
         ensures still { OnOk result ((f : Name) → contains name_cmp self.old.on_cycles f ≡ true → contains name_cmp self.new.on_cycles f ≡ true) }
     {
-        insert_if(least <= height, &mut self.on_cycles, name)?;
-        if height <= least {
-            self.stack.truncate(height);
-        }
-        Ok(())
+        insert_if(least <= height, &mut self.on_cycles, name)
     }
 
     // Visits a name to which all open names lead, and those that it leads to.
     // Gives the least height of the open names that it leads to, or the number of those that were open.
     fn visit(&mut self, graph: &Graph, name: Name) -> Result<usize, Memory>
         requires right { AreRight graph.now self.old }
-        requires reach { All (λ f. Reaches graph.now f name) self.old.stack.items }
+        requires reach { AllLead graph.now self.old.stack.items name }
         ensures { IfOk result (λ least. IsVisited graph.now name least self.old self.new) }
     {
         let height = self.stack.len();
@@ -76,8 +70,12 @@ impl Visits {
         for next in node.exposed.as_slice() {
             least = least.min(self.visit(graph, *next)?);
         }
-        self.end(name, height, least)?;
-        Ok(least.min(height))
+        self.mark(name, height, least)?;
+        if least < height {
+            return Ok(least);
+        }
+        self.stack.truncate(height);
+        Ok(height)
     }
 }
 

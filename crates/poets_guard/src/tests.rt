@@ -115,16 +115,18 @@ fn hopeless(alloc: Global) -> Result<Book, Memory>
 }
 
 // template f() = h() + g();;
-// template g() = h();;
-// template h() = g();;
+// template g() = h() || Success;;
+// template h() = g() || Success;;
 fn circling(alloc: Global) -> Result<Book, Memory>
     ensures { IfOk result (λ b. definitions_of b ≡ circling_lem F G H) }
 {
     let mut templates = List::new(alloc);
     let body = plus(alloc, applied(alloc, H), applied(alloc, G))?;
     push(&mut templates, template(alloc, F, body))?;
-    push(&mut templates, template(alloc, G, applied(alloc, H)))?;
-    push(&mut templates, template(alloc, H, applied(alloc, G)))?;
+    let body = par(alloc, applied(alloc, H), Term::Success)?;
+    push(&mut templates, template(alloc, G, body))?;
+    let body = par(alloc, applied(alloc, G), Term::Success)?;
+    push(&mut templates, template(alloc, H, body))?;
     Ok(book(alloc, templates))
 }
 

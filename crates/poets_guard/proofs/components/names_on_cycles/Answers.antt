@@ -4,7 +4,7 @@ use Rattle.std.proofs.lemmas.List.Elements.{All-nil, All-weaker}
 use Rattle.poets_guard.specs.Visited.{IsFrom}
 use Rattle.poets_guard.specs.declared.components.Visits.{Visits}
 use Rattle.poets_guard.proofs.Finding.{names_of, All-names, among-all}
-use Rattle.poets_guard.proofs.Visiting.{AreGrown-self, AreOpened-self, AreRight-empty, reach-all, AreOpened-more, IsFrom-later, on_cycles-exact}
+use Rattle.poets_guard.proofs.Visiting.{AreOpened-self, AreRight-empty, AllLead-any, AreOpened-more, IsFrom-later, IsFrom-less, on_cycles-exact}
 use Rattle.poets_guard.proofs.components.names_on_cycles.Goals as goal
 
 pub loop-template-init : goal.loop-template-init
@@ -19,7 +19,7 @@ loop-template-init c = record {
 pub visit-requires : goal.visit-requires
 visit-requires c = record {
   right = c.loop-template.invariant.opened.right;
-  reach = reach-all c.args.graph.now _ c.loop-template.visits c.new-2.ensures.items c.loop-template.invariant.opened c.template-item.result.name;
+  reach = AllLead-any c.args.graph.now _ c.loop-template.visits c.new-2.ensures.items c.loop-template.invariant.opened c.template-item.result.name;
 }
 
 pub loop-template-preserved : goal.loop-template-preserved
@@ -29,7 +29,7 @@ loop-template-preserved c = record {
       (All-weaker (IsFrom c.args.graph.now c.loop-template.visits 0) (IsFrom c.args.graph.now c.visit.new.self 0)
       (λ f h. IsFrom-later c.args.graph.now c.loop-template.visits c.visit.new.self 0 0 f c.in_ok-visit.ensures.opened.grown (omega arith) h)
       (names_of (take c.loop-template.template-index c.as_slice-template-items.result.now)) c.loop-template.invariant.seen)
-      (IsFrom-later c.args.graph.now c.visit.new.self c.visit.new.self c.in_ok-visit.field-0 0 c.template-item.result.name (AreGrown-self c.visit.new.self) (omega arith) c.in_ok-visit.ensures.here);
+      (IsFrom-less c.args.graph.now c.visit.new.self c.in_ok-visit.field-0 0 c.template-item.result.name (omega arith) c.in_ok-visit.ensures.here);
 }
 
 pub returns : goal.returns

@@ -1,40 +1,46 @@
-use Rattle.std.proofs.Common.{◌≡◌, ◌+◌, arith, refl, sym, ◌∙◌, ap, subst, length, min}
+use Rattle.std.proofs.Common.{inl, inr, take, ◌+◌, arith, refl, sym, ◌∙◌, ap}
 use Rattle.std.specs.Prelude.{slice_index_or}
 use Rattle.poets_value.specs.declared.value.Name.{Name}
 use Rattle.poets_guard.specs.Graph.{HasEdge}
 use Rattle.poets_guard.specs.Visited.{IsPushed, AreRight, IsFrom}
 use Rattle.poets_guard.specs.declared.components.Visits.{Visits}
 use Rattle.poets_guard.proofs.Walking.{edge-at, edges-all}
-use Rattle.poets_guard.proofs.Visiting.{IsVisited-none, IsVisited-open, IsVisited-closed, AreOpened-self, AreOpened-trans, AreRight-pushed, few, none-higher, reach-next, seen-more, way-more, IsEnded, IsVisited-ended}
+use Rattle.poets_guard.proofs.Visiting.{stands-beyond, stands-one, IsVisited-before, AreOpened-self, AreOpened-trans, AreRight-pushed, longer, few, AllLead-next, seen-more, way-more, IsVisited-open, IsVisited-closed}
 use Rattle.poets_guard.proofs.components.Visits.+visit.Goals as goal
 
 pub returns-in_default : goal.returns-in_default
-returns-in_default t c = IsVisited-none c.args.graph.now c.args.self.now c.args.name c.len-height.result (c.len-height.ensures ∙ c.args.self.now.stack.ok.0) c.requires.right (sym c.in_default.ensures.value)
+returns-in_default t c =
+    IsVisited-before c.args.graph.now c.args.self.now c.args.name c.len-height.result c.requires.right (inl (sym c.in_default.ensures.value))
+    (λ g s. absurd (stands-beyond c.args.self.now.stack.items c.len-height.result c.len-height.result g (c.len-height.ensures ∙ c.args.self.now.stack.ok.0) (omega arith) s))
 
 pub returns-then-is_open : goal.returns-then-is_open
 returns-then-is_open t c =
-    IsVisited-open c.args.graph.now c.args.self.now c.args.name c.in-Some-get.known.now c.requires.right (sym c.in-Some-get.ensures.value) (sym c.is_open.ensures ∙ c.if-is_open.true)
+    IsVisited-before c.args.graph.now c.args.self.now c.args.name c.in-Some-get.known.now c.requires.right (inr (c.in-Some-get.known.now, sym c.in-Some-get.ensures.value, λ _. omega arith))
+    (λ g s. stands-one c.args.self.now.stack.items c.in-Some-get.known.now c.args.name g (sym c.is_open.ensures ∙ c.if-is_open.true) s)
 
 pub returns-else-is_open : goal.returns-else-is_open
 returns-else-is_open t c =
-    IsVisited-closed c.args.graph.now c.args.self.now c.args.name c.in-Some-get.known.now c.len-height.result (c.len-height.ensures ∙ c.args.self.now.stack.ok.0) c.requires.right (sym c.in-Some-get.ensures.value)
-    (sym c.is_open.ensures ∙ c.if-is_open.false)
+    IsVisited-before c.args.graph.now c.args.self.now c.args.name c.len-height.result c.requires.right
+    (inr (c.in-Some-get.known.now, sym c.in-Some-get.ensures.value, λ s. absurd (let q = sym s ∙ sym c.is_open.ensures ∙ c.if-is_open.false in cc)))
+    (λ g s. absurd (stands-beyond c.args.self.now.stack.items c.len-height.result c.len-height.result g (c.len-height.ensures ∙ c.args.self.now.stack.ok.0) (omega arith) s))
 
 pub loop-next-init : goal.loop-next-init
 loop-next-init t c = record {
   pushed = pushed;
-  opened = AreOpened-self c.args.graph.now start (c.len-height.result + 1) (AreRight-pushed c.args.name c.args.self.now start pushed c.args.graph.now c.in-Some.node.now (sym c.in-Some.ensures.value) c.requires.right);
+  opened = AreOpened-self c.args.graph.now start (c.len-height.result + 1)
+      (AreRight-pushed c.args.name c.len-height.result c.args.self.now start pushed c.args.graph.now c.in-Some.node.now (sym c.in-Some.ensures.value) c.requires.right);
   seen = λ g e. absurd cc;
-  way = λ g s. absurd (none-higher c.args.name c.args.self.now start pushed c.len-height.result g (c.len-height.ensures ∙ c.args.self.now.stack.ok.0) s);
+  way = λ g s. absurd (stands-beyond start.stack.items (c.len-height.result + 1) (c.len-height.result + 1) g (sym (longer c.args.name c.len-height.result c.args.self.now start pushed)) (omega arith) s);
 }
   where
     start : Visits
     start = record { heights = c.insert.new.self; stack = c.push.new.self; on_cycles = c.args.self.now.on_cycles }
 
-    pushed : IsPushed c.args.name c.args.self.now start
+    pushed : IsPushed c.args.name c.len-height.result c.args.self.now start
     pushed = record {
+      top = c.len-height.ensures ∙ c.args.self.now.stack.ok.0;
       fresh = sym c.in_default-get.ensures.value;
-      heights = rw (sym (c.len-height.ensures ∙ c.args.self.now.stack.ok.0)) c.in_ok-insert.ensures.updates.0;
+      heights = c.in_ok-insert.ensures.updates.0;
       stack = c.in_ok-push.ensures.items;
       on_cycles = refl;
       as_many = rw (c.in_ok-insert.ensures.old ∙ sym c.in_default-get.ensures.value) at c.in_ok-insert.ensures.len;
@@ -46,7 +52,7 @@ visit-requires t c = (
       let s = c.loop-next.invariant.opened.grown.as_many in omega (arith, m, n, f, s)),
   (
     c.loop-next.invariant.opened.right,
-    c.loop-next.invariant.opened.back next (reach-next c.args.name c.args.self.now start c.loop-next.invariant.pushed c.args.graph.now next c.requires.reach edge),
+    c.loop-next.invariant.opened.back next (AllLead-next c.args.name c.len-height.result c.args.self.now start c.loop-next.invariant.pushed c.args.graph.now next c.requires.reach edge),
   ),
 )
   where
@@ -54,7 +60,7 @@ visit-requires t c = (
     start = record { heights = c.insert.new.self; stack = c.push.new.self; on_cycles = c.args.self.now.on_cycles }
 
     start_right : AreRight c.args.graph.now start
-    start_right = AreRight-pushed c.args.name c.args.self.now start c.loop-next.invariant.pushed c.args.graph.now c.in-Some.node.now (sym c.in-Some.ensures.value) c.requires.right
+    start_right = AreRight-pushed c.args.name c.len-height.result c.args.self.now start c.loop-next.invariant.pushed c.args.graph.now c.in-Some.node.now (sym c.in-Some.ensures.value) c.requires.right
 
     next : Name
     next = slice_index_or c.as_slice-next-items.result.now c.loop-next.next-index (record { id = 0 })
@@ -83,19 +89,21 @@ loop-next-preserved t c = record {
     edge = edge-at c.args.graph.now c.args.name c.in-Some.node.now c.as_slice-next-items.result.now c.loop-next.next-index (sym c.in-Some.ensures.value) c.as_slice-next-items.ensures (record { id = 0 })
         c.loop-next-test.true
 
-pub returns : goal.returns
-returns t c =
-    IsVisited-ended c.args.graph.now c.args.name c.in-Some.node.now (sym c.in-Some.ensures.value) c.args.self.now start c.loop-next.self c.end.new.self c.loop-next.least
+pub returns-then-least-height : goal.returns-then-least-height
+returns-then-least-height t c =
+    IsVisited-open c.args.graph.now c.args.name c.in-Some.node.now (sym c.in-Some.ensures.value) c.len-height.result c.loop-next.least c.args.self.now _ c.loop-next.self c.mark.new.self
     c.loop-next.invariant.pushed c.loop-next.invariant.opened
     (edges-all c.args.graph.now c.args.name c.in-Some.node.now c.as_slice-next-items.result.now c.loop-next.next-index (sym c.in-Some.ensures.value) c.as_slice-next-items.ensures
     (IsFrom c.args.graph.now c.loop-next.self c.loop-next.least) c.loop-next-test.false c.loop-next.invariant.seen) c.loop-next.invariant.way c.requires.reach
-    (subst (λ h. IsEnded c.args.name h c.loop-next.least c.loop-next.self c.end.new.self) height ended) c.min.result (c.min.ensures ∙ ap (min c.loop-next.least) height)
-  where
-    start : Visits
-    start = record { heights = c.insert.new.self; stack = c.push.new.self; on_cycles = c.args.self.now.on_cycles }
+    (record { heights = c.in_ok-mark.ensures.heights; on_cycle = c.in_ok-mark.ensures.on_cycle; others = c.in_ok-mark.ensures.others; still = c.in_ok-mark.ensures.still })
+    (ap (λ v. v.items) c.in_ok-mark.ensures.stack) c.if-least-height.true
 
-    height : c.len-height.result ≡ length c.args.self.now.stack.items
-    height = c.len-height.ensures ∙ c.args.self.now.stack.ok.0
-
-    ended : IsEnded c.args.name c.len-height.result c.loop-next.least c.loop-next.self c.end.new.self
-    ended = record { heights = c.in_ok-end.ensures.heights; stack = c.in_ok-end.ensures.stack; closed = c.in_ok-end.ensures.closed; on_cycle = c.in_ok-end.ensures.on_cycle; others = c.in_ok-end.ensures.others; still = c.in_ok-end.ensures.still }
+pub returns : goal.returns
+returns t c =
+    IsVisited-closed c.args.graph.now c.args.name c.in-Some.node.now (sym c.in-Some.ensures.value) c.len-height.result c.loop-next.least c.args.self.now _ c.loop-next.self
+    (record { heights = c.mark.new.self.heights; stack = c.truncate.new.self; on_cycles = c.mark.new.self.on_cycles })
+    c.loop-next.invariant.pushed c.loop-next.invariant.opened
+    (edges-all c.args.graph.now c.args.name c.in-Some.node.now c.as_slice-next-items.result.now c.loop-next.next-index (sym c.in-Some.ensures.value) c.as_slice-next-items.ensures
+    (IsFrom c.args.graph.now c.loop-next.self c.loop-next.least) c.loop-next-test.false c.loop-next.invariant.seen) c.loop-next.invariant.way c.requires.reach
+    (record { heights = c.in_ok-mark.ensures.heights; on_cycle = c.in_ok-mark.ensures.on_cycle; others = c.in_ok-mark.ensures.others; still = c.in_ok-mark.ensures.still })
+    (c.truncate.ensures.items ∙ ap (λ v. take c.len-height.result v.items) c.in_ok-mark.ensures.stack) c.if-least-height.false

@@ -7,7 +7,7 @@ use Rattle.poets_guard.proofs.components.Visits.+visit.Given as goal
 
 abbrev pub invariant-loop-next : goal.invariant-loop-next
 invariant-loop-next l = record {
-  pushed : IsPushed l.name l.fn.self l.initial.self;
+  pushed : IsPushed l.name l.height l.fn.self l.initial.self;
   opened : AreOpened l.graph l.least l.initial.self l.self;
   seen : (g : Name) → is_among (take l.next-index l.next-items) g ≡ true → IsFrom l.graph l.self l.least g;
   way : (g : Name) → stands l.initial.self.stack.items l.least g ≡ true → Reaches l.graph l.name g;
