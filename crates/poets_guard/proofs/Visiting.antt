@@ -1,12 +1,13 @@
 -- What a visit of the graph leaves.
 use Rattle.std.proofs.Common.{◌≡◌, ℕ, zero, suc, ◌+◌, ◌≤◌, ◌<◌, arith, true, false, min, List, [], ◌∷◌, ◌++◌, length, take, Option, Some, None, refl, sym, ◌∙◌, ap, subst, ◌⊎◌, inl, inr}
-use Rattle.std.specs.Prelude.{slice_index_or, IsSome, IsTrue, ◌↔◌}
+use Rattle.std.specs.Prelude.{slice_get, slice_index_or, IsSome, IsTrue, ◌↔◌}
 use Rattle.std.specs.Ordering.{is_eq}
 use Rattle.std.specs.Cmp.{eq_by_cmp_equiv}
 use Rattle.std.specs.Map.{keys_of, lookup}
 use Rattle.std.specs.BTreeMap.{BTreeMap, get, IsOrdered}
 use Rattle.std.specs.BTreeSet.{contains}
 use Rattle.std.proofs.lemmas.Bool.{cases_lt}
+use Rattle.std.proofs.lemmas.Option.{slice_get_within, slice_get-get_or}
 use Rattle.std.proofs.lemmas.List.{take_all, take-take, length-append, length-take}
 use Rattle.std.proofs.Math.Seq.{take-append_seam}
 use Rattle.std.proofs.lemmas.Map.Entries.{length-keys_of}
@@ -27,52 +28,41 @@ use Rattle.poets_guard.specs.declared.components.Visits.{Visits}
 use Rattle.poets_guard.specs.Graph.{HasEdge}
 use Rattle.poets_guard.specs.Walks.{Reaches}
 use Rattle.poets_guard.specs.FirstCycle.{LiesOnCycle}
-use Rattle.poets_guard.specs.Visited.{stands, AllLead, IsFrom, LeadsFrom, IsClosed, IsDone, AreRight, AreGrown, AreOpened, IsVisited, IsPushed}
-use Rattle.poets_guard.proofs.Places.{name_cmp-same, same_name-self}
+use Rattle.poets_guard.specs.Visited.{IsOpenAt, AllLead, IsFrom, LeadsFrom, IsClosed, IsDone, AreRight, AreGrown, AreOpened, IsVisited, IsPushed}
+use Rattle.poets_guard.proofs.Places.{name_cmp-same, same_name-self, same_name-one}
 use Rattle.poets_guard.proofs.Walking.{among_more, path_node}
 
 -- ---- names on the stack
 
-stands-take : (n : ℕ) (xs : List Name) (k : ℕ) (f : Name) → stands (take n xs) k f ≡ true → stands xs k f ≡ true
-stands-take zero xs k f h = absurd cc
-stands-take (suc n) [] k f h = absurd cc
-stands-take (suc n) (x ∷ xs) zero f h = h
-stands-take (suc n) (x ∷ xs) (suc k) f h = stands-take n xs k f h
+slice_get-take : (n : ℕ) (xs : List Name) (k : ℕ) → k < n → slice_get (take n xs) k ≡ slice_get xs k
+slice_get-take zero xs k l = absurd (omega (arith, l))
+slice_get-take (suc n) [] k l = refl
+slice_get-take (suc n) (x ∷ xs) zero l = refl
+slice_get-take (suc n) (x ∷ xs) (suc k) l = slice_get-take n xs k (omega (arith, l))
 
-stands-low : (n : ℕ) (xs : List Name) (k : ℕ) (f : Name) → k < n → stands xs k f ≡ true → stands (take n xs) k f ≡ true
-stands-low zero xs k f l h = absurd (omega (arith, l))
-stands-low (suc n) [] k f l h = absurd cc
-stands-low (suc n) (x ∷ xs) zero f l h = h
-stands-low (suc n) (x ∷ xs) (suc k) f l h = stands-low n xs k f (omega (arith, l)) h
+slice_get-last : (xs : List Name) (f : Name) → slice_get (xs ++ f ∷ []) (length xs) ≡ Some f
+slice_get-last [] f = refl
+slice_get-last (x ∷ xs) f = slice_get-last xs f
 
-stands-within : (xs : List Name) (k : ℕ) (f : Name) → stands xs k f ≡ true → k < length xs
-stands-within [] k f h = absurd cc
-stands-within (x ∷ xs) zero f h = omega arith
-stands-within (x ∷ xs) (suc k) f h = let l = stands-within xs k f h in omega (arith, l)
+slice_get-push : (xs : List Name) (f : Name) (k : ℕ) (g : Name) → slice_get (xs ++ f ∷ []) k ≡ Some g → (slice_get xs k ≡ Some g) ⊎ (f ≡ g)
+slice_get-push [] f zero g h = inr cc
+slice_get-push [] f (suc k) g h = absurd cc
+slice_get-push (x ∷ xs) f zero g h = inl h
+slice_get-push (x ∷ xs) f (suc k) g h = slice_get-push xs f k g h
 
-pub stands-beyond : (xs : List Name) (k n : ℕ) (f : Name) → n ≡ length xs → n ≤ k → stands xs k f ≡ true → ⊥
-stands-beyond xs k n f e l h = let w = stands-within xs k f h in absurd (omega (arith, w, e, l))
+-- a name is open at a height, or not
+open-or : (visits : Visits) (k : ℕ) (f : Name) → IsOpenAt visits k f ⊎ ¬ (IsOpenAt visits k f)
+open-or visits k f = by (slice_get visits.stack.items k) refl
+  where
+    by : (o : Option Name) → slice_get visits.stack.items k ≡ o → IsOpenAt visits k f ⊎ ¬ (IsOpenAt visits k f)
+    by None e = inr (λ h. absurd (let q = sym e ∙ h in cc))
+    by (Some g) e = elim (truth (same_name g f)) [
+      | inl t ↦ inl (e ∙ ap Some (name_one g f t))
+      | inr t ↦ inr (λ h. absurd (let same : g ≡ f = (let q = sym e ∙ h in cc) in let q = sym (same_name-one g f same) ∙ t in cc))
+    ]
 
-stands-at : (xs : List Name) (k : ℕ) (d : Name) → k < length xs → stands xs k (slice_index_or xs k d) ≡ true
-stands-at [] k d l = absurd (omega (arith, l))
-stands-at (x ∷ xs) zero d l = same_name-self x
-stands-at (x ∷ xs) (suc k) d l = stands-at xs k d (omega (arith, l))
-
--- two names that stand at one place are the same
-pub stands-one : (xs : List Name) (k : ℕ) (f g : Name) → stands xs k f ≡ true → stands xs k g ≡ true → f ≡ g
-stands-one [] k f g h e = absurd cc
-stands-one (x ∷ xs) zero f g h e = sym (name_one x f h) ∙ name_one x g e
-stands-one (x ∷ xs) (suc k) f g h e = stands-one xs k f g h e
-
-stands-last : (xs : List Name) (f : Name) → stands (xs ++ f ∷ []) (length xs) f ≡ true
-stands-last [] f = same_name-self f
-stands-last (x ∷ xs) f = stands-last xs f
-
-stands-push : (xs : List Name) (f : Name) (k : ℕ) (g : Name) → stands (xs ++ f ∷ []) k g ≡ true → (stands xs k g ≡ true) ⊎ (f ≡ g)
-stands-push [] f zero g h = inr (name_one f g h)
-stands-push [] f (suc k) g h = absurd cc
-stands-push (x ∷ xs) f zero g h = inl h
-stands-push (x ∷ xs) f (suc k) g h = stands-push xs f k g h
+pub not-open : (visits : Visits) (k n : ℕ) (f : Name) → n ≡ length visits.stack.items → n ≤ k → IsOpenAt visits k f → ⊥
+not-open visits k n f e l h = let w = slice_get_within visits.stack.items k f h in absurd (omega (arith, w, e, l))
 
 -- ---- one visit after another
 
@@ -80,16 +70,16 @@ unlike : {k : ℕ} {o : Option ℕ} → o ≡ Some k → o ≡ None → ⊥
 unlike e n = absurd (let q = sym e ∙ n in cc)
 
 module _ (old new : Visits) (g : AreGrown old new) where
-  stands-still : (k : ℕ) (f : Name) → stands old.stack.items k f ≡ true → stands new.stack.items k f ≡ true
-  stands-still k f s = stands-take (length old.stack.items) new.stack.items k f (rw g.stack s)
+  same-below : (k : ℕ) → k < length old.stack.items → slice_get old.stack.items k ≡ slice_get new.stack.items k
+  same-below k l = ap (λ xs. slice_get xs k) (sym g.stack) ∙ slice_get-take (length old.stack.items) new.stack.items k l
 
-  stood : (k : ℕ) (f : Name) → k < length old.stack.items → stands new.stack.items k f ≡ true → stands old.stack.items k f ≡ true
-  stood k f l s = rw g.stack at (stands-low (length old.stack.items) new.stack.items k f l s)
+  still-open : (k : ℕ) (f : Name) → IsOpenAt old k f → IsOpenAt new k f
+  still-open k f s = sym (same-below k (slice_get_within old.stack.items k f s)) ∙ s
 
   -- what is closed stays so
-  was-open : (k : ℕ) (f : Name) → get name_cmp old.heights f ≡ Some k → stands new.stack.items k f ≡ true → stands old.stack.items k f ≡ true
+  was-open : (k : ℕ) (f : Name) → get name_cmp old.heights f ≡ Some k → IsOpenAt new k f → IsOpenAt old k f
   was-open k f e s = elim (cases_lt k (length old.stack.items)) [
-    | inl l ↦ stood k f l s
+    | inl l ↦ same-below k l ∙ s
     | inr l ↦ absurd (unlike e (g.fresh k f l s))
   ]
 
@@ -104,7 +94,7 @@ pub AreGrown-self : (visits : Visits) → AreGrown visits visits
 AreGrown-self visits = record {
   kept = λ f k e. e;
   stack = take_all (length visits.stack.items) visits.stack.items (omega arith);
-  fresh = λ k f l s. absurd (stands-beyond visits.stack.items k (length visits.stack.items) f refl l s);
+  fresh = λ k f l s. absurd (not-open visits k (length visits.stack.items) f refl l s);
   still = λ f h. h;
   as_many = omega arith;
 }
@@ -115,7 +105,7 @@ AreGrown-trans xs ys zs g h = record {
   stack = (let l = length-take (length xs.stack.items) ys.stack.items in let e = ap length g.stack in
       sym (take-take (length xs.stack.items) (length ys.stack.items) zs.stack.items (omega (arith, l, e))) ∙ ap (take (length xs.stack.items)) h.stack ∙ g.stack);
   fresh = λ k f l s. elim (cases_lt k (length ys.stack.items)) [
-    | inl b ↦ g.fresh k f l (stood ys zs h k f b s)
+    | inl b ↦ g.fresh k f l (same-below ys zs h k b ∙ s)
     | inr b ↦ was-fresh xs ys g f (h.fresh k f b s)
   ];
   still = λ f e. h.still f (g.still f e);
@@ -128,7 +118,7 @@ module _ (graph : BTreeMap Name Node) where
   Reaches-trans f g h (x ∷ names) e r = let l = Reaches-trans x g h names e.1 r in (x ∷ l.0, (e.0, l.1))
 
   IsFrom-to : (old new : Visits) (least less : ℕ) (f : Name) → ((k : ℕ) → get name_cmp old.heights f ≡ Some k → get name_cmp new.heights f ≡ Some k) →
-      ((k : ℕ) → get name_cmp old.heights f ≡ Some k → (stands old.stack.items k f ≡ true → least ≤ k) → stands new.stack.items k f ≡ true → less ≤ k) →
+      ((k : ℕ) → get name_cmp old.heights f ≡ Some k → (IsOpenAt old k f → least ≤ k) → IsOpenAt new k f → less ≤ k) →
       IsFrom graph old least f → IsFrom graph new less f
   IsFrom-to old new least less f kept from (inl e) = inl e
   IsFrom-to old new least less f kept from (inr h) = inr (h.0, kept h.0 h.1, from h.0 h.1 h.2)
@@ -142,7 +132,7 @@ module _ (graph : BTreeMap Name Node) where
   pub AreOpened-self : (visits : Visits) (least : ℕ) → AreRight graph visits → AreOpened graph least visits visits
   AreOpened-self visits least right = record {
     grown = AreGrown-self visits;
-    above = λ k f l s. absurd (stands-beyond visits.stack.items k (length visits.stack.items) f refl l s);
+    above = λ k f l s. absurd (not-open visits k (length visits.stack.items) f refl l s);
     back = λ f h. h;
     right = right;
   }
@@ -151,7 +141,7 @@ module _ (graph : BTreeMap Name Node) where
   AreOpened-trans least next xs ys zs a b = record {
     grown = AreGrown-trans xs ys zs a.grown b.grown;
     above = λ k f l s. elim (cases_lt k (length ys.stack.items)) [
-      | inl low ↦ (let o = a.above k f l (stood ys zs b.grown k f low s) in (b.grown.still f o.0, λ g e. IsFrom-later ys zs least (min least next) g b.grown (omega arith) (o.1 g e)))
+      | inl low ↦ (let o = a.above k f l (same-below ys zs b.grown k low ∙ s) in (b.grown.still f o.0, λ g e. IsFrom-later ys zs least (min least next) g b.grown (omega arith) (o.1 g e)))
       | inr high ↦ (let o = b.above k f high s in (o.0, λ g e. IsFrom-less zs next (min least next) g (omega arith) (o.1 g e)))
     ];
     back = λ f h. b.back f (a.back f h);
@@ -160,7 +150,7 @@ module _ (graph : BTreeMap Name Node) where
 
   -- a name that is not visited now
   pub IsVisited-before : (visits : Visits) (f : Name) (least : ℕ) → AreRight graph visits → IsFrom graph visits least f →
-      ((g : Name) → stands visits.stack.items least g ≡ true → f ≡ g) → IsVisited graph f least visits visits
+      ((g : Name) → IsOpenAt visits least g → f ≡ g) → IsVisited graph f least visits visits
   IsVisited-before visits f least right from way = record { opened = AreOpened-self visits least right; here = from; way = λ g s. inl (way g s) }
 
   -- visited names have nodes, and so are no more
@@ -179,11 +169,11 @@ module _ (graph : BTreeMap Name Node) where
     | inr e ↦ subst (IsFrom graph new (min least next)) (sym e) (IsFrom-less new next (min least next) (slice_index_or names k d) (omega arith) here)
   ]
 
-  pub way-more : (start old : Visits) (least next : ℕ) (f x : Name) → AreGrown start old → HasEdge graph f x → ((g : Name) → stands start.stack.items least g ≡ true → Reaches graph f g) →
-      ((g : Name) → stands old.stack.items next g ≡ true → (x ≡ g) ⊎ Reaches graph x g) → (g : Name) → stands start.stack.items (min least next) g ≡ true → Reaches graph f g
+  pub way-more : (start old : Visits) (least next : ℕ) (f x : Name) → AreGrown start old → HasEdge graph f x → ((g : Name) → IsOpenAt start least g → Reaches graph f g) →
+      ((g : Name) → IsOpenAt old next g → (x ≡ g) ⊎ Reaches graph x g) → (g : Name) → IsOpenAt start (min least next) g → Reaches graph f g
   way-more start old least next f x grown edge before here g s = elim (cases_lt least next) [
-    | inl l ↦ before g (subst (λ k. stands start.stack.items k g ≡ true) (let e : min least next ≡ least = omega (arith, l) in e) s)
-    | inr l ↦ elim (here g (stands-still start old grown next g (subst (λ k. stands start.stack.items k g ≡ true) (let e : min least next ≡ next = omega (arith, l) in e) s))) [
+    | inl l ↦ before g (subst (λ k. IsOpenAt start k g) (let e : min least next ≡ least = omega (arith, l) in e) s)
+    | inr l ↦ elim (here g (still-open start old grown next g (subst (λ k. IsOpenAt start k g) (let e : min least next ≡ next = omega (arith, l) in e) s))) [
       | inl e ↦ ([], subst (HasEdge graph f) e edge)
       | inr r ↦ (x ∷ r.0, (edge, r.1))
     ]
@@ -204,11 +194,11 @@ module _ (f : Name) (height : ℕ) (old new : Visits) (pushed : IsPushed f heigh
   pub longer : length new.stack.items ≡ height + 1
   longer = ap length pushed.stack ∙ length-append old.stack.items (f ∷ []) ∙ ap (λ n. n + 1) (sym pushed.top)
 
-  stands-top : stands new.stack.items height f ≡ true
-  stands-top = rw (pushed.stack, pushed.top) (stands-last old.stack.items f)
+  open-top : IsOpenAt new height f
+  open-top = rw (pushed.stack, pushed.top) (slice_get-last old.stack.items f)
 
-  pushed-or : (k : ℕ) (g : Name) → stands new.stack.items k g ≡ true → (stands old.stack.items k g ≡ true) ⊎ (f ≡ g)
-  pushed-or k g s = stands-push old.stack.items f k g (rw pushed.stack at s)
+  pushed-or : (k : ℕ) (g : Name) → IsOpenAt new k g → (IsOpenAt old k g) ⊎ (f ≡ g)
+  pushed-or k g s = slice_get-push old.stack.items f k g (rw pushed.stack at s)
 
   AreGrown-pushed : AreGrown old new
   AreGrown-pushed = record {
@@ -218,7 +208,7 @@ module _ (f : Name) (height : ℕ) (old new : Visits) (pushed : IsPushed f heigh
     ];
     stack = rw pushed.stack (take-append_seam old.stack.items (f ∷ []));
     fresh = λ k g l s. elim (pushed-or k g s) [
-      | inl o ↦ absurd (stands-beyond old.stack.items k (length old.stack.items) g refl l o)
+      | inl o ↦ absurd (not-open old k (length old.stack.items) g refl l o)
       | inr e ↦ subst (λ x. get name_cmp old.heights x ≡ None) e pushed.fresh
     ];
     still = λ g h. rw pushed.on_cycles h;
@@ -227,15 +217,12 @@ module _ (f : Name) (height : ℕ) (old new : Visits) (pushed : IsPushed f heigh
 
   closed-before : (g : Name) → IsClosed new g → IsClosed old g
   closed-before g c = elim (height-at g) [
-    | inl p ↦ absurd (let k : height ≡ c.0 = (let q = sym p.1 ∙ c.1 in cc) in let s : stands new.stack.items c.0 g ≡ true = subst (λ n. stands new.stack.items n g ≡ true) k
-        (subst (λ x. stands new.stack.items height x ≡ true) p.0 stands-top) in let q = sym s ∙ c.2 in cc)
+    | inl p ↦ absurd (let k : height ≡ c.0 = (let q = sym p.1 ∙ c.1 in cc) in let s : IsOpenAt new c.0 g = subst (λ n. IsOpenAt new n g) k
+        (subst (λ x. IsOpenAt new height x) p.0 open-top) in c.2 s)
     | inr p ↦ (
       c.0,
       sym p ∙ c.1,
-      elim (truth (stands old.stack.items c.0 g)) [
-        | inl s ↦ absurd (let q = sym (stands-still old new AreGrown-pushed c.0 g s) ∙ c.2 in cc)
-        | inr s ↦ s
-      ],
+      λ s. c.2 (still-open old new AreGrown-pushed c.0 g s),
     )
   ]
 
@@ -250,7 +237,7 @@ module _ (f : Name) (height : ℕ) (old new : Visits) (pushed : IsPushed f heigh
   }
 
   -- what leads to the name leads to the next
-  pub AllLead-next : (graph : BTreeMap Name Node) (x : Name) → AllLead graph old.stack.items f → HasEdge graph f x → AllLead graph new.stack.items x
+  pub AllLead-next : (graph : BTreeMap Name Node) (x : Name) → AllLead graph old f → HasEdge graph f x → AllLead graph new x
   AllLead-next graph x lead edge k g s = elim (pushed-or k g s) [
     | inl o ↦ (let r = lead k g o in further (HasEdge graph) g f x r.0 r.1 edge)
     | inr e ↦ ([], subst (λ y. HasEdge graph y x) e edge)
@@ -266,8 +253,8 @@ pub record IsNoted (f : Name) (height least : ℕ) (old new : Visits) : Type 0 w
   pub still : (g : Name) → contains name_cmp old.on_cycles g ≡ true → contains name_cmp new.on_cycles g ≡ true
 
 module _ (graph : BTreeMap Name Node) (f : Name) (node : Node) (here : get name_cmp graph f ≡ Some node) (height least : ℕ) (old start now new : Visits) (pushed : IsPushed f height old start)
-    (opened : AreOpened graph least start now) (leads : LeadsFrom graph now least f) (way : (g : Name) → stands start.stack.items least g ≡ true → Reaches graph f g)
-    (lead : AllLead graph old.stack.items f) (noted : IsNoted f height least now new) where
+    (opened : AreOpened graph least start now) (leads : LeadsFrom graph now least f) (way : (g : Name) → IsOpenAt start least g → Reaches graph f g)
+    (lead : AllLead graph old f) (noted : IsNoted f height least now new) where
   grown : AreGrown old now
   grown = AreGrown-trans old start now (AreGrown-pushed f height old start pushed) opened.grown
 
@@ -277,7 +264,7 @@ module _ (graph : BTreeMap Name Node) (f : Name) (node : Node) (here : get name_
   on_cycle : least ≤ height → LiesOnCycle (HasEdge graph) f
   on_cycle l =
       let g = slice_index_or start.stack.items least f in
-      let s = stands-at start.stack.items least f (let e = longer f height old start pushed in omega (arith, l, e)) in
+      let s = slice_get-get_or start.stack.items least f (let e = longer f height old start pushed in omega (arith, l, e)) in
       let r = way g s in
       elim (pushed-or f height old start pushed least g s) [
         | inl o ↦ Reaches-trans graph f g f r.0 r.1 (lead least g o)
@@ -287,7 +274,7 @@ module _ (graph : BTreeMap Name Node) (f : Name) (node : Node) (here : get name_
   -- where it leads to open names above it alone, so do these
   higher : height < least → (g : Name) → IsFrom graph now (height + 1) g → LeadsFrom graph now (height + 1) g
   higher l g (inl none) x e = absurd (let q = sym e.1 ∙ none in cc)
-  higher l g (inr h) x e = elim (truth (stands now.stack.items h.0 g)) [
+  higher l g (inr h) x e = elim (open-or now h.0 g) [
     | inl s ↦ IsFrom-less graph now least (height + 1) x (omega (arith, l)) ((opened.above h.0 g (let from = h.2 s in let e = longer f height old start pushed in omega (arith, from, e)) s).1 x e)
     | inr s ↦ (opened.right.done g (h.0, h.1, s)).0 (height + 1) x e
   ]
@@ -296,7 +283,7 @@ module _ (graph : BTreeMap Name Node) (f : Name) (node : Node) (here : get name_
   no_way l [] g from e = elim (from f e) [
     | inl none ↦ absurd (let q = sym here ∙ none in cc)
     | inr h ↦ (let k : height ≡ h.0 = (let q = sym place ∙ h.1 in cc) in
-        let m = h.2 (subst (λ n. stands now.stack.items n f ≡ true) k (stands-still start now opened.grown height f (stands-top f height old start pushed))) in absurd (omega (arith, k, m)))
+        let m = h.2 (subst (λ n. IsOpenAt now n f) k (still-open start now opened.grown height f (open-top f height old start pushed))) in absurd (omega (arith, k, m)))
   ]
   no_way l (x ∷ names) g from e = no_way l names x (higher l x (from x e.0)) e.1
 
@@ -307,21 +294,21 @@ module _ (graph : BTreeMap Name Node) (f : Name) (node : Node) (here : get name_
   ]
 
   -- it, or a name that was opened after it
-  those : (k : ℕ) (g : Name) → height ≤ k → stands now.stack.items k g ≡ true → (f ≡ g) ⊎ ((contains name_cmp new.on_cycles g ≡ true) × LeadsFrom graph now least g)
+  those : (k : ℕ) (g : Name) → height ≤ k → IsOpenAt now k g → (f ≡ g) ⊎ ((contains name_cmp new.on_cycles g ≡ true) × LeadsFrom graph now least g)
   those k g l s = elim (cases_lt k (length start.stack.items)) [
-    | inl low ↦ elim (pushed-or f height old start pushed k g (stood start now opened.grown k g low s)) [
-      | inl o ↦ absurd (stands-beyond old.stack.items k height g pushed.top l o)
+    | inl low ↦ elim (pushed-or f height old start pushed k g (same-below start now opened.grown k low ∙ s)) [
+      | inl o ↦ absurd (not-open old k height g pushed.top l o)
       | inr e ↦ inl e
     ]
     | inr high ↦ inr (let o = opened.above k g high s in (noted.still g o.0, o.1))
   ]
 
   -- where names are taken from the stack that are done
-  right : ((k : ℕ) (g : Name) → stands new.stack.items k g ≡ true → stands now.stack.items k g ≡ true) →
-      ((k : ℕ) (g : Name) → stands now.stack.items k g ≡ true → stands new.stack.items k g ≡ false → IsDone graph new g) → AreRight graph new
+  right : ((k : ℕ) (g : Name) → IsOpenAt new k g → IsOpenAt now k g) →
+      ((k : ℕ) (g : Name) → IsOpenAt now k g → ¬ (IsOpenAt new k g) → IsDone graph new g) → AreRight graph new
   right lower taken = record {
     have_nodes = λ g h. opened.right.have_nodes g (rw noted.heights at h);
-    done = λ g c. elim (truth (stands now.stack.items c.0 g)) [
+    done = λ g c. elim (open-or now c.0 g) [
       | inl s ↦ taken c.0 g s c.2
       | inr s ↦ (let d = opened.right.done g (c.0, rw noted.heights at c.1, s) in (
         λ m x e. IsFrom-to graph now new m m x (λ k i. rw noted.heights i) (λ k i from t. from (lower k x t)) (d.0 m x e),
@@ -335,9 +322,9 @@ module _ (graph : BTreeMap Name Node) (f : Name) (node : Node) (here : get name_
   }
 
   visited : (m : ℕ) → m ≤ height → (m < height → m ≡ least) → take (length old.stack.items) new.stack.items ≡ old.stack.items →
-      ((k : ℕ) (g : Name) → height ≤ k → stands new.stack.items k g ≡ true →
+      ((k : ℕ) (g : Name) → height ≤ k → IsOpenAt new k g →
       (get name_cmp old.heights g ≡ None) × ((contains name_cmp new.on_cycles g ≡ true) × LeadsFrom graph new m g)) →
-      ((g : Name) → AllLead graph old.stack.items g → AllLead graph new.stack.items g) → AreRight graph new → IsVisited graph f m old new
+      ((g : Name) → AllLead graph old g → AllLead graph new g) → AreRight graph new → IsVisited graph f m old new
   visited m low is cut above back sound = record {
     opened = record {
       grown = record {
@@ -352,8 +339,8 @@ module _ (graph : BTreeMap Name Node) (f : Name) (node : Node) (here : get name_
       right = sound;
     };
     here = inr (height, rw noted.heights place, λ _. low);
-    way = λ g s. inr (way g (subst (λ k. stands start.stack.items k g ≡ true) (is (let w = stands-within old.stack.items m g s in let e = pushed.top in omega (arith, w, e)))
-        (stands-still old start (AreGrown-pushed f height old start pushed) m g s)));
+    way = λ g s. inr (way g (subst (λ k. IsOpenAt start k g) (is (let w = slice_get_within old.stack.items m g s in let e = pushed.top in omega (arith, w, e)))
+        (still-open old start (AreGrown-pushed f height old start pushed) m g s)));
   }
 
   -- the name stays open where it leads to one below it
@@ -368,25 +355,25 @@ module _ (graph : BTreeMap Name Node) (f : Name) (node : Node) (here : get name_
         ],
       ))
       (λ g h. rw same (opened.back g (λ k x s. elim (pushed-or f height old start pushed k x s) [ inl o ↦ h k x o | inr e ↦ subst (λ y. Reaches graph y g) e (onward g h) ])))
-      (right (λ k g s. rw same at s) (λ k g s t. absurd (let q = sym s ∙ rw same at t in cc)))
+      (right (λ k g s. rw same at s) (λ k g s t. absurd (t (rw same s))))
     where
       later : (x : Name) → IsFrom graph now least x → IsFrom graph new least x
       later x h = IsFrom-to graph now new least least x (λ k i. rw noted.heights i) (λ k i from s. from (rw same at s)) h
 
-      onward : (g : Name) → AllLead graph old.stack.items g → Reaches graph f g
+      onward : (g : Name) → AllLead graph old g → Reaches graph f g
       onward g h =
           let x = slice_index_or old.stack.items least f in
-          let s = stands-at old.stack.items least f (let e = pushed.top in omega (arith, l, e)) in
-          let r = way x (stands-still old start (AreGrown-pushed f height old start pushed) least x s) in
+          let s = slice_get-get_or old.stack.items least f (let e = pushed.top in omega (arith, l, e)) in
+          let r = way x (still-open old start (AreGrown-pushed f height old start pushed) least x s) in
           Reaches-trans graph f x g r.0 r.1 (h least x s)
 
   -- and is closed with those above it where it leads to none
   pub IsVisited-closed : new.stack.items ≡ take height now.stack.items → height ≤ least → IsVisited graph f height old new
   IsVisited-closed cut l =
       visited height (omega arith) (λ m. absurd (omega (arith, m))) (ap (take (length old.stack.items)) same ∙ take_all (length old.stack.items) old.stack.items (omega arith))
-      (λ k g high s. absurd (stands-beyond old.stack.items k height g pushed.top high (rw same at s))) (λ g h. rw same h)
-      (right (λ k g s. stands-still old now grown k g (rw same at s)) (λ k g s t. elim (cases_lt k height) [
-        | inl low ↦ absurd (let q = sym (stood old now grown k g (let e = pushed.top in omega (arith, low, e)) s) ∙ rw same at t in cc)
+      (λ k g high s. absurd (not-open old k height g pushed.top high (rw same at s))) (λ g h. rw same h)
+      (right (λ k g s. still-open old now grown k g (rw same at s)) (λ k g s t. elim (cases_lt k height) [
+        | inl low ↦ absurd (t (rw same (same-below old now grown k (let e = pushed.top in omega (arith, low, e)) ∙ s)))
         | inr high ↦ elim (those k g high s) [
           | inl e ↦ subst (IsDone graph new) e (λ m x i. shut m x (leads x i), decided)
           | inr p ↦ (λ m x i. shut m x (p.1 x i), inl p.0)
@@ -397,8 +384,8 @@ module _ (graph : BTreeMap Name Node) (f : Name) (node : Node) (here : get name_
       same = cut ∙ rw pushed.top grown.stack
 
       shut : (m : ℕ) (x : Name) → IsFrom graph now least x → IsFrom graph new m x
-      shut m x h = IsFrom-to graph now new least m x (λ k i. rw noted.heights i) (λ k i from s. let o = rw same at s in let high = from (stands-still old now grown k x o) in
-          absurd (stands-beyond old.stack.items k height x pushed.top (omega (arith, l, high)) o)) h
+      shut m x h = IsFrom-to graph now new least m x (λ k i. rw noted.heights i) (λ k i from s. let o = rw same at s in let high = from (still-open old now grown k x o) in
+          absurd (not-open old k height x pushed.top (omega (arith, l, high)) o)) h
 
 -- ---- all templates
 
@@ -415,8 +402,8 @@ module _ (graph : BTreeMap Name Node) where
 
 module _ (graph : BTreeMap Name Node) (empty visits : Visits) (none : empty.stack.items ≡ []) (opened : AreOpened graph 0 empty visits) where
   -- all names that are open lead anywhere, as there is none at first
-  pub AllLead-any : (f : Name) → AllLead graph visits.stack.items f
-  AllLead-any f = opened.back f (λ k g s. absurd (let q : false ≡ true = rw none at s in cc))
+  pub AllLead-any : (f : Name) → AllLead graph visits f
+  AllLead-any f = opened.back f (λ k g s. absurd (not-open empty k 0 g (sym (ap length none)) (omega arith) s))
 
   pub AreOpened-more : (least : ℕ) (new : Visits) → AreOpened graph least visits new → AreOpened graph 0 empty new
   AreOpened-more least new more = subst (λ k. AreOpened graph k empty new) (let e : min 0 least ≡ 0 = omega arith in e) (AreOpened-trans graph 0 least empty visits new opened more)
@@ -427,7 +414,7 @@ module _ (graph : BTreeMap Name Node) (empty visits : Visits) (none : empty.stac
     opened.right.sound f,
     λ c. let node = path_node graph f f c.0 c.1 in elim (seen node) [
       | inl n ↦ absurd (let q : false ≡ true = subst (λ o. IsSome o) n node in cc)
-      | inr h ↦ elim (truth (stands visits.stack.items h.0 f)) [
+      | inr h ↦ elim (open-or visits h.0 f) [
         | inl s ↦ (opened.above h.0 f (let e = ap length none in omega (arith, e)) s).0
         | inr s ↦ elim (opened.right.done f (h.0, h.1, s)).1 [ inl m ↦ m | inr n ↦ absurd (n c) ]
       ]

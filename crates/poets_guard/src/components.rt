@@ -5,7 +5,7 @@ ghost use Rattle.poets_value.specs.Names.{name_cmp};
 ghost use Rattle.poets_guard.specs.Graph.{HasEdge};
 ghost use Rattle.poets_guard.specs.FirstCycle.{LiesOnCycle};
 ghost use Rattle.poets_guard.specs.Searched.{HasNodesOf};
-ghost use Rattle.poets_guard.specs.Visited.{stands, AllLead, AreRight, IsVisited};
+ghost use Rattle.poets_guard.specs.Visited.{IsOpenAt, AllLead, AreRight, IsVisited};
 
 use crate::endings::insert_if;
 use crate::graph::Graph;
@@ -26,7 +26,7 @@ struct Visits {
 impl Visits {
     // Whether the name is open at this height.
     fn is_open(&self, name: Name, height: usize) -> bool
-        ensures { result ≡ stands self.now.stack.items height name }
+        ensures { IsTrue result ↔ IsOpenAt self.now height name }
     {
         match self.stack.get(height) {
             Some(other) => *other == name,
@@ -49,7 +49,7 @@ impl Visits {
     // Gives the least height of the open names that it leads to, or the number of those that were open.
     fn visit(&mut self, graph: &Graph, name: Name) -> Result<usize, Memory>
         requires right { AreRight graph.now self.old }
-        requires reach { AllLead graph.now self.old.stack.items name }
+        requires lead { AllLead graph.now self.old name }
         ensures { IfOk result (λ least. IsVisited graph.now name least self.old self.new) }
     {
         let height = self.stack.len();

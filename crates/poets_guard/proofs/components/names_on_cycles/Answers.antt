@@ -19,7 +19,7 @@ loop-template-init c = record {
 pub visit-requires : goal.visit-requires
 visit-requires c = record {
   right = c.loop-template.invariant.opened.right;
-  reach = AllLead-any c.args.graph.now _ c.loop-template.visits c.new-2.ensures.items c.loop-template.invariant.opened c.template-item.result.name;
+  lead = AllLead-any c.args.graph.now _ c.loop-template.visits c.new-2.ensures.items c.loop-template.invariant.opened c.template-item.result.name;
 }
 
 pub loop-template-preserved : goal.loop-template-preserved

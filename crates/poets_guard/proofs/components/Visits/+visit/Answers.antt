@@ -5,24 +5,24 @@ use Rattle.poets_guard.specs.Graph.{HasEdge}
 use Rattle.poets_guard.specs.Visited.{IsPushed, AreRight, IsFrom}
 use Rattle.poets_guard.specs.declared.components.Visits.{Visits}
 use Rattle.poets_guard.proofs.Walking.{edge-at, edges-all}
-use Rattle.poets_guard.proofs.Visiting.{stands-beyond, stands-one, IsVisited-before, AreOpened-self, AreOpened-trans, AreRight-pushed, longer, few, AllLead-next, seen-more, way-more, IsVisited-open, IsVisited-closed}
+use Rattle.poets_guard.proofs.Visiting.{not-open, IsVisited-before, AreOpened-self, AreOpened-trans, AreRight-pushed, longer, few, AllLead-next, seen-more, way-more, IsVisited-open, IsVisited-closed}
 use Rattle.poets_guard.proofs.components.Visits.+visit.Goals as goal
 
 pub returns-in_default : goal.returns-in_default
 returns-in_default t c =
     IsVisited-before c.args.graph.now c.args.self.now c.args.name c.len-height.result c.requires.right (inl (sym c.in_default.ensures.value))
-    (λ g s. absurd (stands-beyond c.args.self.now.stack.items c.len-height.result c.len-height.result g (c.len-height.ensures ∙ c.args.self.now.stack.ok.0) (omega arith) s))
+    (λ g s. absurd (not-open c.args.self.now c.len-height.result c.len-height.result g (c.len-height.ensures ∙ c.args.self.now.stack.ok.0) (omega arith) s))
 
 pub returns-then-is_open : goal.returns-then-is_open
 returns-then-is_open t c =
     IsVisited-before c.args.graph.now c.args.self.now c.args.name c.in-Some-get.known.now c.requires.right (inr (c.in-Some-get.known.now, sym c.in-Some-get.ensures.value, λ _. omega arith))
-    (λ g s. stands-one c.args.self.now.stack.items c.in-Some-get.known.now c.args.name g (sym c.is_open.ensures ∙ c.if-is_open.true) s)
+    (λ g s. let q = sym (c.is_open.ensures.0 c.if-is_open.true) ∙ s in cc)
 
 pub returns-else-is_open : goal.returns-else-is_open
 returns-else-is_open t c =
     IsVisited-before c.args.graph.now c.args.self.now c.args.name c.len-height.result c.requires.right
-    (inr (c.in-Some-get.known.now, sym c.in-Some-get.ensures.value, λ s. absurd (let q = sym s ∙ sym c.is_open.ensures ∙ c.if-is_open.false in cc)))
-    (λ g s. absurd (stands-beyond c.args.self.now.stack.items c.len-height.result c.len-height.result g (c.len-height.ensures ∙ c.args.self.now.stack.ok.0) (omega arith) s))
+    (inr (c.in-Some-get.known.now, sym c.in-Some-get.ensures.value, λ s. absurd (let q = sym (c.is_open.ensures.1 s) ∙ c.if-is_open.false in cc)))
+    (λ g s. absurd (not-open c.args.self.now c.len-height.result c.len-height.result g (c.len-height.ensures ∙ c.args.self.now.stack.ok.0) (omega arith) s))
 
 pub loop-next-init : goal.loop-next-init
 loop-next-init t c = record {
@@ -30,7 +30,7 @@ loop-next-init t c = record {
   opened = AreOpened-self c.args.graph.now start (c.len-height.result + 1)
       (AreRight-pushed c.args.name c.len-height.result c.args.self.now start pushed c.args.graph.now c.in-Some.node.now (sym c.in-Some.ensures.value) c.requires.right);
   seen = λ g e. absurd cc;
-  way = λ g s. absurd (stands-beyond start.stack.items (c.len-height.result + 1) (c.len-height.result + 1) g (sym (longer c.args.name c.len-height.result c.args.self.now start pushed)) (omega arith) s);
+  way = λ g s. absurd (not-open start (c.len-height.result + 1) (c.len-height.result + 1) g (sym (longer c.args.name c.len-height.result c.args.self.now start pushed)) (omega arith) s);
 }
   where
     start : Visits
@@ -52,7 +52,7 @@ visit-requires t c = (
       let s = c.loop-next.invariant.opened.grown.as_many in omega (arith, m, n, f, s)),
   (
     c.loop-next.invariant.opened.right,
-    c.loop-next.invariant.opened.back next (AllLead-next c.args.name c.len-height.result c.args.self.now start c.loop-next.invariant.pushed c.args.graph.now next c.requires.reach edge),
+    c.loop-next.invariant.opened.back next (AllLead-next c.args.name c.len-height.result c.args.self.now start c.loop-next.invariant.pushed c.args.graph.now next c.requires.lead edge),
   ),
 )
   where
@@ -94,7 +94,7 @@ returns-then-least-height t c =
     IsVisited-open c.args.graph.now c.args.name c.in-Some.node.now (sym c.in-Some.ensures.value) c.len-height.result c.loop-next.least c.args.self.now _ c.loop-next.self c.mark.new.self
     c.loop-next.invariant.pushed c.loop-next.invariant.opened
     (edges-all c.args.graph.now c.args.name c.in-Some.node.now c.as_slice-next-items.result.now c.loop-next.next-index (sym c.in-Some.ensures.value) c.as_slice-next-items.ensures
-    (IsFrom c.args.graph.now c.loop-next.self c.loop-next.least) c.loop-next-test.false c.loop-next.invariant.seen) c.loop-next.invariant.way c.requires.reach
+    (IsFrom c.args.graph.now c.loop-next.self c.loop-next.least) c.loop-next-test.false c.loop-next.invariant.seen) c.loop-next.invariant.way c.requires.lead
     (record { heights = c.in_ok-mark.ensures.heights; on_cycle = c.in_ok-mark.ensures.on_cycle; others = c.in_ok-mark.ensures.others; still = c.in_ok-mark.ensures.still })
     (ap (λ v. v.items) c.in_ok-mark.ensures.stack) c.if-least-height.true
 
@@ -104,6 +104,6 @@ returns t c =
     (record { heights = c.mark.new.self.heights; stack = c.truncate.new.self; on_cycles = c.mark.new.self.on_cycles })
     c.loop-next.invariant.pushed c.loop-next.invariant.opened
     (edges-all c.args.graph.now c.args.name c.in-Some.node.now c.as_slice-next-items.result.now c.loop-next.next-index (sym c.in-Some.ensures.value) c.as_slice-next-items.ensures
-    (IsFrom c.args.graph.now c.loop-next.self c.loop-next.least) c.loop-next-test.false c.loop-next.invariant.seen) c.loop-next.invariant.way c.requires.reach
+    (IsFrom c.args.graph.now c.loop-next.self c.loop-next.least) c.loop-next-test.false c.loop-next.invariant.seen) c.loop-next.invariant.way c.requires.lead
     (record { heights = c.in_ok-mark.ensures.heights; on_cycle = c.in_ok-mark.ensures.on_cycle; others = c.in_ok-mark.ensures.others; still = c.in_ok-mark.ensures.still })
     (c.truncate.ensures.items ∙ ap (λ v. take c.len-height.result v.items) c.in_ok-mark.ensures.stack) c.if-least-height.false
