@@ -24,7 +24,7 @@ use Rattle.poets_syntax.specs.Typed.{is_among}
 use Rattle.poets_syntax.proofs.Guarding.{further}
 use Rattle.poets_syntax.proofs.Replacing.{truth}
 use Rattle.poets_guard.specs.declared.graph.Node.{Node}
-use Rattle.poets_guard.specs.declared.components.Visits.{Visits}
+use Rattle.poets_guard.specs.declared.visits.Visits.{Visits}
 use Rattle.poets_guard.specs.Graph.{HasEdge}
 use Rattle.poets_guard.specs.Walks.{Reaches}
 use Rattle.poets_guard.specs.FirstCycle.{LiesOnCycle}

@@ -6,7 +6,7 @@ use Rattle.std.specs.BTreeSet.{contains}
 use Rattle.poets_value.specs.declared.value.Name.{Name}
 use Rattle.poets_value.specs.Names.{name_cmp}
 use Rattle.poets_guard.specs.declared.graph.Node.{Node}
-use Rattle.poets_guard.specs.declared.components.Visits.{Visits}
+use Rattle.poets_guard.specs.declared.visits.Visits.{Visits}
 use Rattle.poets_guard.specs.Graph.{HasEdge}
 use Rattle.poets_guard.specs.Walks.{Reaches}
 use Rattle.poets_guard.specs.FirstCycle.{LiesOnCycle}

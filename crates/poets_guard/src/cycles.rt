@@ -8,8 +8,8 @@ ghost use Rattle.poets_guard.specs.Walks.{HasCycle};
 ghost use Rattle.poets_guard.specs.FirstCycle.{IsFirstOf, LiesOnCycle};
 ghost use Rattle.poets_guard.specs.Searched.{HaveNodes, IsSearched, LeadsOn, HasNodesOf};
 
-use crate::components::names_on_cycles;
 use crate::graph::Graph;
+use crate::visits::names_on_cycles;
 use poets_syntax::Book;
 use poets_syntax::build::push;
 use poets_value::{List, Memory, Name};

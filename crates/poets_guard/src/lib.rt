@@ -1,7 +1,6 @@
 //! Guarded books, and what is known of their templates.
 #![tactic(auto)]
 
-mod components;
 mod cycles;
 mod endings;
 mod graph;
@@ -9,6 +8,7 @@ mod guard;
 mod rules;
 #[cfg(test)]
 mod tests;
+mod visits;
 mod widths;
 
 pub use guard::{GuardFault, study};

@@ -2,10 +2,10 @@ use Rattle.std.proofs.Common.{arith, subst, take, ◌∙◌, All}
 use Rattle.std.proofs.lemmas.List.{take_all}
 use Rattle.std.proofs.lemmas.List.Elements.{All-nil, All-weaker}
 use Rattle.poets_guard.specs.Visited.{IsFrom}
-use Rattle.poets_guard.specs.declared.components.Visits.{Visits}
+use Rattle.poets_guard.specs.declared.visits.Visits.{Visits}
 use Rattle.poets_guard.proofs.Finding.{names_of, All-names, among-all}
 use Rattle.poets_guard.proofs.Visiting.{AreOpened-self, AreRight-empty, AllLead-any, AreOpened-more, IsFrom-later, IsFrom-less, on_cycles-exact}
-use Rattle.poets_guard.proofs.components.names_on_cycles.Goals as goal
+use Rattle.poets_guard.proofs.visits.names_on_cycles.Goals as goal
 
 pub loop-template-init : goal.loop-template-init
 loop-template-init c = record {

@@ -3,10 +3,10 @@ use Rattle.std.specs.Prelude.{slice_index_or}
 use Rattle.poets_value.specs.declared.value.Name.{Name}
 use Rattle.poets_guard.specs.Graph.{HasEdge}
 use Rattle.poets_guard.specs.Visited.{IsPushed, AreRight, IsFrom}
-use Rattle.poets_guard.specs.declared.components.Visits.{Visits}
+use Rattle.poets_guard.specs.declared.visits.Visits.{Visits}
 use Rattle.poets_guard.proofs.Walking.{edge-at, edges-all}
 use Rattle.poets_guard.proofs.Visiting.{not-open, IsVisited-before, AreOpened-self, AreOpened-trans, AreRight-pushed, longer, few, AllLead-next, seen-more, way-more, IsVisited-open, IsVisited-closed}
-use Rattle.poets_guard.proofs.components.Visits.+visit.Goals as goal
+use Rattle.poets_guard.proofs.visits.Visits.+visit.Goals as goal
 
 pub returns-in_default : goal.returns-in_default
 returns-in_default t c =
@@ -91,19 +91,19 @@ loop-next-preserved t c = record {
 
 pub returns-then-least-height : goal.returns-then-least-height
 returns-then-least-height t c =
-    IsVisited-open c.args.graph.now c.args.name c.in-Some.node.now (sym c.in-Some.ensures.value) c.len-height.result c.loop-next.least c.args.self.now _ c.loop-next.self c.mark.new.self
+    IsVisited-open c.args.graph.now c.args.name c.in-Some.node.now (sym c.in-Some.ensures.value) c.len-height.result c.loop-next.least c.args.self.now _ c.loop-next.self c.note.new.self
     c.loop-next.invariant.pushed c.loop-next.invariant.opened
     (edges-all c.args.graph.now c.args.name c.in-Some.node.now c.as_slice-next-items.result.now c.loop-next.next-index (sym c.in-Some.ensures.value) c.as_slice-next-items.ensures
     (IsFrom c.args.graph.now c.loop-next.self c.loop-next.least) c.loop-next-test.false c.loop-next.invariant.seen) c.loop-next.invariant.way c.requires.lead
-    (record { heights = c.in_ok-mark.ensures.heights; on_cycle = c.in_ok-mark.ensures.on_cycle; others = c.in_ok-mark.ensures.others; still = c.in_ok-mark.ensures.still })
-    (ap (λ v. v.items) c.in_ok-mark.ensures.stack) c.if-least-height.true
+    (record { heights = c.in_ok-note.ensures.heights; on_cycle = c.in_ok-note.ensures.on_cycle; others = c.in_ok-note.ensures.others; still = c.in_ok-note.ensures.still })
+    (ap (λ v. v.items) c.in_ok-note.ensures.stack) c.if-least-height.true
 
 pub returns : goal.returns
 returns t c =
     IsVisited-closed c.args.graph.now c.args.name c.in-Some.node.now (sym c.in-Some.ensures.value) c.len-height.result c.loop-next.least c.args.self.now _ c.loop-next.self
-    (record { heights = c.mark.new.self.heights; stack = c.truncate.new.self; on_cycles = c.mark.new.self.on_cycles })
+    (record { heights = c.note.new.self.heights; stack = c.truncate.new.self; on_cycles = c.note.new.self.on_cycles })
     c.loop-next.invariant.pushed c.loop-next.invariant.opened
     (edges-all c.args.graph.now c.args.name c.in-Some.node.now c.as_slice-next-items.result.now c.loop-next.next-index (sym c.in-Some.ensures.value) c.as_slice-next-items.ensures
     (IsFrom c.args.graph.now c.loop-next.self c.loop-next.least) c.loop-next-test.false c.loop-next.invariant.seen) c.loop-next.invariant.way c.requires.lead
-    (record { heights = c.in_ok-mark.ensures.heights; on_cycle = c.in_ok-mark.ensures.on_cycle; others = c.in_ok-mark.ensures.others; still = c.in_ok-mark.ensures.still })
-    (c.truncate.ensures.items ∙ ap (λ v. take c.len-height.result v.items) c.in_ok-mark.ensures.stack) c.if-least-height.false
+    (record { heights = c.in_ok-note.ensures.heights; on_cycle = c.in_ok-note.ensures.on_cycle; others = c.in_ok-note.ensures.others; still = c.in_ok-note.ensures.still })
+    (c.truncate.ensures.items ∙ ap (λ v. take c.len-height.result v.items) c.in_ok-note.ensures.stack) c.if-least-height.false

@@ -14,8 +14,8 @@ use poets_value::{Memory, Name};
 use std::alloc::Global;
 use std::collections::{BTreeMap, BTreeSet};
 
-// The names that were visited, each at its height: the number of names that were open when it was met.
-// A name is open, at its height, until no name that it leads to leads to one below it.
+// The names that were visited, each with its height on the stack.
+// A name is open while it stands there. Those from a height on are taken off once none of them leads to one below.
 #[derive(Drop)]
 struct Visits {
     heights: BTreeMap<Name, usize>,
@@ -34,8 +34,8 @@ impl Visits {
         }
     }
 
-    // Says that the name at this height lies on a cycle, if it leads to an open name there or below.
-    fn mark(&mut self, name: Name, height: usize, least: usize) -> Result<(), Memory>
+    // Notes that the name at this height lies on a cycle, if it leads to an open name there or below.
+    fn note(&mut self, name: Name, height: usize, least: usize) -> Result<(), Memory>
         ensures heights { self.new.heights ≡ self.old.heights }
         ensures stack { self.new.stack ≡ self.old.stack }
         ensures on_cycle { OnOk result (least ≤ height → contains name_cmp self.new.on_cycles name ≡ true) }
@@ -70,7 +70,7 @@ impl Visits {
         for next in node.exposed.as_slice() {
             least = least.min(self.visit(graph, *next)?);
         }
-        self.mark(name, height, least)?;
+        self.note(name, height, least)?;
         if least < height {
             return Ok(least);
         }
