@@ -45,8 +45,8 @@ impl Visits {
         insert_if(least <= height, &mut self.on_cycles, name)
     }
 
-    // Visits a name to which all open names lead, and those that it leads to.
-    // Gives the least height of the open names that it leads to, or the number of those that were open.
+    // Visits a name to which all open names lead, and all that it leads to.
+    // Gives the least height of a name that was open before and to which an edge leads from those, or how many were open.
     fn visit(&mut self, graph: &Graph, name: Name) -> Result<usize, Memory>
         requires right { AreRight graph.now self.old }
         requires lead { AllLead graph.now self.old name }
@@ -57,9 +57,8 @@ impl Visits {
             return Ok(height);
         };
         if let Some(known) = self.heights.get(&name) {
-            let known = *known;
-            return Ok(if self.is_open(name, known) {
-                known
+            return Ok(if self.is_open(name, *known) {
+                *known
             } else {
                 height
             });

@@ -2,7 +2,7 @@ use Rattle.std.proofs.Common.{inl, inr, take, ◌+◌, arith, refl, sym, ◌∙�
 use Rattle.std.specs.Prelude.{slice_index_or}
 use Rattle.poets_value.specs.declared.value.Name.{Name}
 use Rattle.poets_guard.specs.Graph.{HasEdge}
-use Rattle.poets_guard.specs.Visited.{IsPushed, AreRight, IsFrom}
+use Rattle.poets_guard.specs.Visited.{IsPushed, IsFrom}
 use Rattle.poets_guard.specs.declared.visits.Visits.{Visits}
 use Rattle.poets_guard.proofs.Walking.{edge-at, edges-all}
 use Rattle.poets_guard.proofs.Visiting.{not-open, IsVisited-before, AreOpened-self, AreOpened-trans, AreRight-pushed, longer, few, AllLead-next, seen-more, way-more, IsVisited-open, IsVisited-closed}
@@ -48,20 +48,15 @@ loop-next-init t c = record {
 
 pub visit-requires : goal.visit-requires
 visit-requires t c = (
-  (let m = c.decreases in let n = c.loop-next.invariant.pushed.as_many in let f = few c.args.graph.now c.insert.new.self c.in_ok-insert.ensures.ordered start_right.have_nodes in
+  (let m = c.decreases in let n = c.loop-next.invariant.pushed.as_many in let right = AreRight-pushed c.args.name c.len-height.result c.args.self.now _ c.loop-next.invariant.pushed c.args.graph.now c.in-Some.node.now (sym c.in-Some.ensures.value) c.requires.right in
+      let f = few c.args.graph.now c.insert.new.self c.in_ok-insert.ensures.ordered right.have_nodes in
       let s = c.loop-next.invariant.opened.grown.as_many in omega (arith, m, n, f, s)),
   (
     c.loop-next.invariant.opened.right,
-    c.loop-next.invariant.opened.back next (AllLead-next c.args.name c.len-height.result c.args.self.now start c.loop-next.invariant.pushed c.args.graph.now next c.requires.lead edge),
+    c.loop-next.invariant.opened.back next (AllLead-next c.args.name c.len-height.result c.args.self.now _ c.loop-next.invariant.pushed c.args.graph.now next c.requires.lead edge),
   ),
 )
   where
-    start : Visits
-    start = record { heights = c.insert.new.self; stack = c.push.new.self; on_cycles = c.args.self.now.on_cycles }
-
-    start_right : AreRight c.args.graph.now start
-    start_right = AreRight-pushed c.args.name c.len-height.result c.args.self.now start c.loop-next.invariant.pushed c.args.graph.now c.in-Some.node.now (sym c.in-Some.ensures.value) c.requires.right
-
     next : Name
     next = slice_index_or c.as_slice-next-items.result.now c.loop-next.next-index (record { id = 0 })
 
@@ -72,16 +67,13 @@ visit-requires t c = (
 pub loop-next-preserved : goal.loop-next-preserved
 loop-next-preserved t c = record {
   pushed = c.loop-next.invariant.pushed;
-  opened = rw c.min-least.ensures (AreOpened-trans c.args.graph.now c.loop-next.least c.in_ok-visit.field-0 start c.loop-next.self c.visit.new.self c.loop-next.invariant.opened c.in_ok-visit.ensures.opened);
+  opened = rw c.min-least.ensures (AreOpened-trans c.args.graph.now c.loop-next.least c.in_ok-visit.field-0 _ c.loop-next.self c.visit.new.self c.loop-next.invariant.opened c.in_ok-visit.ensures.opened);
   seen = rw c.min-least.ensures (seen-more c.args.graph.now c.loop-next.self c.visit.new.self c.loop-next.least c.in_ok-visit.field-0 c.as_slice-next-items.result.now c.loop-next.next-index (record { id = 0 })
       c.loop-next-test.true c.in_ok-visit.ensures.opened.grown c.loop-next.invariant.seen c.in_ok-visit.ensures.here);
-  way = rw c.min-least.ensures (way-more c.args.graph.now start c.loop-next.self c.loop-next.least c.in_ok-visit.field-0 c.args.name next c.loop-next.invariant.opened.grown edge
+  way = rw c.min-least.ensures (way-more c.args.graph.now _ c.loop-next.self c.loop-next.least c.in_ok-visit.field-0 c.args.name next c.loop-next.invariant.opened.grown edge
       c.loop-next.invariant.way c.in_ok-visit.ensures.way);
 }
   where
-    start : Visits
-    start = record { heights = c.insert.new.self; stack = c.push.new.self; on_cycles = c.args.self.now.on_cycles }
-
     next : Name
     next = slice_index_or c.as_slice-next-items.result.now c.loop-next.next-index (record { id = 0 })
 
