@@ -8,7 +8,7 @@ use Rattle.poets_syntax.specs.Book.{Definition, template_in}
 use Rattle.poets_syntax.specs.Checked.{IsChecked, names_of_templates_and}
 use Rattle.poets_syntax.specs.Typed.{IsTypedTemplate}
 use Rattle.poets_syntax.proofs.Replacing.{truth}
-use Rattle.poets_guard.specs.Examples.{book_of, looping, looping_first, sending, hopeless}
+use Rattle.poets_guard.specs.Examples.{book_of, looping, looping_first, sending, hopeless, circling}
 
 typed_named : (P : Definition → Type 0) (templates : List Definition) → AllByRecursion P templates → (f : Name) (t : Definition) → template_in templates f ≡ Some t → P t
 typed_named P [] h f t i = absurd cc
@@ -50,3 +50,7 @@ sending_checked = checked_by (sending binders (name 0) (name 1)).templates ((ref
 pub hopeless_checked : IsChecked (hopeless binders (name 0) (name 1))
 unfolding IsDistinct
 hopeless_checked = checked_by (hopeless binders (name 0) (name 1)).templates ((refl, refl), ((refl, refl), tt)) ((refl, tt), (tt, tt))
+
+pub circling_checked : IsChecked (circling (name 0) (name 1) (name 6))
+unfolding IsDistinct
+circling_checked = checked_by (circling (name 0) (name 1) (name 6)).templates ((refl, refl), ((refl, refl), ((refl, refl), tt))) ((refl, (refl, tt)), ((refl, tt), (tt, tt)))

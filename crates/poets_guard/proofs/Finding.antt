@@ -1,8 +1,8 @@
 -- What the loops over the templates find: marks, or the first cycle.
-use Rattle.std.proofs.Common.{◌≡◌, ℕ, zero, suc, ◌+◌, ◌≤◌, ◌<◌, arith, true, false, List, [], ◌∷◌, ◌++◌, length, map, take, drop, All, refl, sym, ◌∙◌, ap, subst, inl, inr}
-use Rattle.std.specs.Prelude.{slice_index_or, IsSome}
+use Rattle.std.proofs.Common.{◌≡◌, ℕ, zero, suc, ◌+◌, ◌≤◌, ◌<◌, arith, true, false, List, [], ◌∷◌, ◌++◌, length, map, take, drop, All, sym, ◌∙◌, ap, subst, inl, inr}
+use Rattle.std.specs.Prelude.{slice_index_or}
 use Rattle.std.specs.List.{AllZip}
-use Rattle.std.specs.BTreeMap.{BTreeMap, get}
+use Rattle.std.specs.BTreeMap.{BTreeMap}
 use Rattle.std.specs.BTreeSet.{BTreeSet, contains}
 use Rattle.std.proofs.lemmas.List.{take_more, take_all}
 use Rattle.std.proofs.lemmas.List.Elements.{All-head, All-tail, All-push}
@@ -11,15 +11,16 @@ use Rattle.poets_value.specs.Names.{name_cmp}
 use Rattle.poets_expr.specs.Env.{same_name}
 use Rattle.poets_expr.proofs.SameTrees.{name_one}
 use Rattle.poets_syntax.specs.declared.term.Template.{Template}
-use Rattle.poets_syntax.specs.Guarded.{IsPath, IsCycle}
+use Rattle.poets_syntax.specs.Guarded.{IsCycle}
 use Rattle.poets_syntax.specs.Typed.{is_among}
 use Rattle.poets_guard.specs.declared.graph.Node.{Node}
 use Rattle.poets_guard.specs.Graph.{HasEdge}
 use Rattle.poets_guard.specs.Walks.{HasCycle}
 use Rattle.poets_guard.specs.FirstCycle.{LiesOnCycle, IsFirstOf}
-use Rattle.poets_guard.specs.Searched.{IsPassed, IsSearched, LeadsOn, HasNodesOf}
+use Rattle.poets_guard.specs.Searched.{IsPassed, IsSearched, HasNodesOf}
 use Rattle.poets_guard.proofs.Places.{StandsAt}
 use Rattle.poets_guard.proofs.Marking.{either_true}
+use Rattle.poets_guard.proofs.Walking.{path_node}
 use Rattle.poets_guard.proofs.Searching.{no_path}
 
 -- one pair more
@@ -52,7 +53,12 @@ names-more [] k t s = absurd (let l = s.within in omega (arith, l))
 names-more (u ∷ templates) zero t s = ap (λ v. v.name ∷ []) (sym s.is)
 names-more (u ∷ templates) (suc k) t s = rw (one_more k) (ap (λ xs. u.name ∷ xs) (names-more templates k t (record { within = (let l = s.within in omega (arith, l)); is = s.is })))
 
-among-all : (P : Name → Type 0) (names : List Name) → All P names → (f : Name) → is_among names f ≡ true → P f
+-- of all but the last and of the last
+pub All-names : (P : Name → Type 0) (templates : List Template) (k : ℕ) (t : Template) → k < length templates → t ≡ slice_index_or templates k t →
+    All P (names_of (take k templates)) → P t.name → All P (names_of (take (k + 1) templates))
+All-names P templates k t l is all here = rw (names-more templates k t (record { within = l; is = is })) (All-push P (names_of (take k templates)) t.name all here)
+
+pub among-all : (P : Name → Type 0) (names : List Name) → All P names → (f : Name) → is_among names f ≡ true → P f
 among-all P [] h f k = absurd cc
 among-all P (x ∷ names) h f k = elim (either_true (same_name f x) (is_among names f) k) [
   | inl e ↦ subst P (sym (name_one f x e)) (All-head P x names h)
@@ -60,34 +66,27 @@ among-all P (x ∷ names) h f k = elim (either_true (same_name f x) (is_among na
 ]
 
 module _ (graph : BTreeMap Name Node) where
-  -- the path that is found is the first cycle
-  pub IsFirstOf-found : (templates : List Template) (k : ℕ) (t : Template) → StandsAt templates k t → (old path : List Name) → old ≡ [] →
-      LeadsOn graph t.name t.name old path → All (λ f. ¬ (LiesOnCycle (HasEdge graph) f)) (names_of (take k templates)) →
-      IsFirstOf (HasEdge graph) (names_of templates) path
-  IsFirstOf-found templates k t s old path empty led none =
-      let begins : path ≡ t.name ∷ led.0 = led.1 ∙ ap (λ xs. xs ++ t.name ∷ led.0) empty in
-      record {
-        earlier = names_of (take k templates);
-        first = t.name;
-        later = names_of (drop (k + 1) templates);
-        others = led.0;
-        split = names-cut templates k t s;
-        begins = begins;
-        is_cycle = subst (IsCycle (HasEdge graph)) (sym begins) led.2;
-        none = none;
-      }
+  -- the cycle on which the template lies is the first
+  pub IsFirstOf-found : (templates : List Template) (k : ℕ) (t : Template) → StandsAt templates k t → (cycle others : List Name) → cycle ≡ t.name ∷ others →
+      IsCycle (HasEdge graph) (t.name ∷ others) → All (λ f. ¬ (LiesOnCycle (HasEdge graph) f)) (names_of (take k templates)) → IsFirstOf (HasEdge graph) (names_of templates) cycle
+  IsFirstOf-found templates k t s cycle others begins is none = record {
+    earlier = names_of (take k templates);
+    first = t.name;
+    later = names_of (drop (k + 1) templates);
+    others = others;
+    split = names-cut templates k t s;
+    begins = begins;
+    is_cycle = subst (IsCycle (HasEdge graph)) (sym begins) is;
+    none = none;
+  }
 
-  -- a template from which the search found no path to itself lies on no cycle
-  pub none-more : (templates : List Template) (k : ℕ) (t : Template) → StandsAt templates k t → (old new : BTreeSet Name) → old.keys ≡ [] →
-      IsSearched graph t.name t.name old new → All (λ f. ¬ (LiesOnCycle (HasEdge graph) f)) (names_of (take k templates)) →
-      All (λ f. ¬ (LiesOnCycle (HasEdge graph) f)) (names_of (take (k + 1) templates))
-  none-more templates k t s old new empty searched none =
-      rw (names-more templates k t s) (All-push (λ f. ¬ (LiesOnCycle (HasEdge graph) f)) (names_of (take k templates)) t.name none
-      (λ c. no_path graph t.name new passed t.name c.0 searched.0 c.1))
+  -- the search from a name on a cycle to itself finds a path
+  pub found-cycle : (f : Name) (old new : BTreeSet Name) → old.keys ≡ [] → IsSearched graph f f old new → LiesOnCycle (HasEdge graph) f → ⊥
+  found-cycle f old new empty searched c = no_path graph f new passed f c.0 searched.0 c.1
     where
-      passed : (f : Name) → contains name_cmp new f ≡ true → IsPassed graph t.name new f
-      passed f h = elim (searched.1.passed f h) [
-        | inl o ↦ absurd (let e : false ≡ true = sym (ap (λ xs. contains name_cmp (record { keys = xs }) f) empty) ∙ o in cc)
+      passed : (g : Name) → contains name_cmp new g ≡ true → IsPassed graph f new g
+      passed g h = elim (searched.1.passed g h) [
+        | inl o ↦ absurd (let e : false ≡ true = sym (ap (λ xs. contains name_cmp (record { keys = xs }) g) empty) ∙ o in cc)
         | inr p ↦ p
       ]
 
@@ -96,12 +95,8 @@ module _ (graph : BTreeMap Name Node) where
       All (λ f. ¬ (LiesOnCycle (HasEdge graph) f)) (names_of (take k templates)) → ⊥
   not_none templates k l c nodes none = by c.0 c.1
     where
-      first : (f g : Name) (names : List Name) → IsPath (HasEdge graph) f names g → IsSome (get name_cmp graph f)
-      first f g [] p = rw p.1 refl
-      first f g (x ∷ names) p = rw p.0.1 refl
-
       by : (names : List Name) → IsCycle (HasEdge graph) names → ⊥
       by [] p = p
       by (f ∷ names) p =
           among-all (λ f. ¬ (LiesOnCycle (HasEdge graph) f)) (names_of (take k templates)) none f
-          (rw (take_all k templates l) (nodes f (first f f names p))) (names, p)
+          (rw (take_all k templates l) (nodes f (path_node graph f f names p))) (names, p)

@@ -4,6 +4,7 @@ pub mod Marking
 pub mod Concluding
 pub mod Walking
 pub mod Searching
+pub mod Visiting
 pub mod Finding
 pub mod Exposing
 pub mod Studying

@@ -1,11 +1,10 @@
 -- The search for a path finds one exactly where there is one.
-use Rattle.std.proofs.Common.{◌≡◌, ◌≢◌, ℕ, ◌+◌, ◌≤◌, ◌<◌, arith, true, cond, List, [], ◌∷◌, ◌++◌, length, take, Option, Some, None, refl, sym, ◌∙◌, ap, subst, inl, inr, append_assoc}
+use Rattle.std.proofs.Common.{◌≡◌, ◌≢◌, ℕ, ◌+◌, ◌≤◌, ◌<◌, arith, true, cond, List, [], ◌∷◌, ◌++◌, length, take, Some, None, refl, sym, ◌∙◌, ap, subst, inl, inr, append_assoc}
 use Rattle.std.specs.Prelude.{slice_index_or, IsSome}
 use Rattle.std.specs.Ordering.{is_eq}
 use Rattle.std.specs.Cmp.{eq_by_cmp_equiv}
 use Rattle.std.specs.BTreeMap.{BTreeMap, get}
 use Rattle.std.specs.BTreeSet.{BTreeSet, contains, IsOrdered}
-use Rattle.std.proofs.lemmas.List.{take_all}
 use Rattle.std.proofs.lemmas.Map.Keys.{IsDistinct-from_sorted}
 use Rattle.std.proofs.lemmas.Map.Steps.{length-le_from_keys}
 use Rattle.poets_value.specs.declared.value.Name.{Name}
@@ -17,7 +16,7 @@ use Rattle.poets_guard.specs.declared.graph.Node.{Node}
 use Rattle.poets_guard.specs.Graph.{HasEdge}
 use Rattle.poets_guard.specs.Searched.{HaveNodes, IsSeen, IsPassed, IsSearching, IsSearched, LeadsOn}
 use Rattle.poets_guard.proofs.Marking.{said, still_said, now_said}
-use Rattle.poets_guard.proofs.Walking.{among_more}
+use Rattle.poets_guard.proofs.Walking.{among_more, edges-all}
 
 module _ (graph : BTreeMap Name Node) where
   -- what is seen stays seen
@@ -72,7 +71,7 @@ module _ (graph : BTreeMap Name Node) where
       kept = λ g e. searching.kept g (still_said (contains name_cmp old) (contains name_cmp inserted) f more g e);
       passed = λ g e. elim (searching.passed g e) [
         | inl i ↦ elim (said (contains name_cmp old) (contains name_cmp inserted) f more g i) [
-          | inl q ↦ inr (subst (IsPassed graph goal new) q here_passed)
+          | inl q ↦ inr (subst (IsPassed graph goal new) q (edges-all graph f n names k here all (λ x. IsSeen graph new x × (x ≢ goal)) l passed))
           | inr o ↦ inl o
         ]
         | inr p ↦ inr p
@@ -81,13 +80,6 @@ module _ (graph : BTreeMap Name Node) where
       as_many = (let m = searching.as_many in omega (arith, longer, m));
     },
   )
-    where
-      one : {o : Option Node} {x y : Node} → o ≡ Some x → o ≡ Some y → x ≡ y
-      one i j = cc
-
-      here_passed : IsPassed graph goal new f
-      here_passed g e = passed g (let same : e.0 ≡ n = one e.1 here in
-          rw (take_all k names l ∙ all) (subst (λ m. is_among m.exposed.items g ≡ true) same e.2))
 
   -- names with nodes are no more than the nodes
   pub no_more_seen : (seen : BTreeSet Name) → HaveNodes graph seen → IsOrdered name_cmp seen → length seen.keys ≤ length graph.entries

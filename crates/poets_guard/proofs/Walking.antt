@@ -42,6 +42,20 @@ pub among_more : (names : List Name) (k : ℕ) (d y : Name) → k < length names
     (is_among (take k names) y ≡ true) ⊎ (y ≡ slice_index_or names k d)
 among_more names k d y l h = among_push (take k names) (slice_index_or names k d) y (rw (take_more names k d l) at h)
 
+-- ---- edges
+
+module _ (graph : BTreeMap Name Node) (f : Name) (n : Node) (names : List Name) (k : ℕ) (here : get name_cmp graph f ≡ Some n) (all : names ≡ n.exposed.items) where
+  -- an edge leads to each exposed name
+  pub edge-at : (d : Name) → k < length names → HasEdge graph f (slice_index_or names k d)
+  edge-at d l = (n, here, subst (λ xs. is_among xs (slice_index_or names k d) ≡ true) all (among_at names k d l))
+
+  -- and to no others
+  pub edges-all : (P : Name → Type 0) → length names ≤ k → ((g : Name) → is_among (take k names) g ≡ true → P g) → (g : Name) → HasEdge graph f g → P g
+  edges-all P l each g e = each g (let same : e.0 ≡ n = one e.1 here in rw (take_all k names l ∙ all) (subst (λ m. is_among m.exposed.items g ≡ true) same e.2))
+    where
+      one : {o : Option Node} {x y : Node} → o ≡ Some x → o ≡ Some y → x ≡ y
+      one i j = cc
+
 -- ---- cycles
 
 module _ (graph : BTreeMap Name Node) where
@@ -73,6 +87,11 @@ module _ (graph : BTreeMap Name Node) where
   has_node : (o : Option Node) (n : Node) → o ≡ Some n → IsSome o
   has_node o n e = rw e refl
 
+  -- a name from which a path leads has a node
+  pub path_node : (f g : Name) (names : List Name) → IsPath (HasEdge graph) f names g → IsSome (get name_cmp graph f)
+  path_node f g [] p = has_node (get name_cmp graph f) p.0 p.1
+  path_node f g (x ∷ names) p = has_node (get name_cmp graph f) p.0.0 p.0.1
+
   -- names that reach one are names of the graph, and so are no more than its nodes
   pub few : (old inserted : BTreeSet Name) (f : Name) (n : Node) → AllReach graph old f →
       ((q : Name) → contains name_cmp inserted q ≡ cond (is_eq (name_cmp f q)) true (contains name_cmp old q)) → IsOrdered name_cmp inserted →
@@ -81,12 +100,8 @@ module _ (graph : BTreeMap Name Node) where
       length-le_from_keys (eq_by_cmp_equiv name_cmp_total) inserted.keys graph.entries (IsDistinct-from_sorted name_cmp inserted.keys ordered)
       (λ q h. elim (said (contains name_cmp old) (contains name_cmp inserted) f more q h) [
         | inl e ↦ has_node (get name_cmp graph q) n (ap (get name_cmp graph) (sym e) ∙ here)
-        | inr k ↦ (let p = reach q k in first q f p.0 p.1)
+        | inr k ↦ (let p = reach q k in path_node q f p.0 p.1)
       ])
-    where
-      first : (x y : Name) (names : List Name) → IsPath (HasEdge graph) x names y → IsSome (get name_cmp graph x)
-      first x y [] p = has_node (get name_cmp graph x) p.0 p.1
-      first x y (z ∷ names) p = has_node (get name_cmp graph x) p.0.0 p.0.1
 
   -- ---- widths
 
@@ -101,17 +116,10 @@ module _ (graph : BTreeMap Name Node) where
       ((g : Name) → is_among (take k names) g ≡ true → PathsEnd graph g) →
       ((width : Name → ℕ) → IsWidthOf graph width → exposed ≡ cut (sum_by width (take k names))) → wide ≡ cut (n.own + exposed) → HasWidth graph f wide
   HasWidth-node f n exposed wide names k here all l ends sum is = (
-    PathsEnd.Ends (λ g e. ends g (let same : e.0 ≡ n = one e.1 here in
-        rw (whole ∙ all) (subst (λ m. is_among m.exposed.items g ≡ true) same e.2))),
-    λ width fits. (let s = sum width fits in let t : sum_by width (take k names) ≡ sum_by width n.exposed.items = ap (sum_by width) (whole ∙ all) in
+    PathsEnd.Ends (edges-all graph f n names k here all (PathsEnd graph) l ends),
+    λ width fits. (let s = sum width fits in let t : sum_by width (take k names) ≡ sum_by width n.exposed.items = ap (sum_by width) (take_all k names l ∙ all) in
         let w = fits f ∙ ap (width_at width) here in omega (arith, s, t, w, is)),
   )
-    where
-      one : {o : Option Node} {x y : Node} → o ≡ Some x → o ≡ Some y → x ≡ y
-      one i j = cc
-
-      whole : take k names ≡ names
-      whole = take_all k names l
 
   -- one exposed name more
   pub ends_more : (names : List Name) (k : ℕ) (d : Name) → k < length names → ((g : Name) → is_among (take k names) g ≡ true → PathsEnd graph g) →

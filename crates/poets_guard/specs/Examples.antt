@@ -41,3 +41,9 @@ sending b f g = book_of (template f (Plus (anything b (applied f)) Success) ∷ 
 -- template g() = f() ; g();;
 abbrev pub hopeless : Binders → Name → Name → Definitions
 hopeless b f g = book_of (template f (anything b (applied f)) ∷ template g (Seq (applied f) (applied g)) ∷ [])
+
+-- template f() = h() + g();;
+-- template g() = h() || Success;;
+-- template h() = g() || Success;;
+abbrev pub circling : Name → Name → Name → Definitions
+circling f g h = book_of (template f (Plus (applied h) (applied g)) ∷ template g (Par (applied h) Success) ∷ template h (Par (applied g) Success) ∷ [])

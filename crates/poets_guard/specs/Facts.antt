@@ -1,9 +1,9 @@
 -- Facts of contracts that may end, and the rules by which they follow.
-use Rattle.std.specs.Prelude.{◌≡◌, ℕ, ◌+◌, Bool, true, false, ◌&&◌, List, [], ◌∷◌, ◌++◌, length, take, map, All, Option, Some, None, is_some, option_map, Contains, slice_get, slice_index_or, if◌then◌else◌}
-use Rattle.std.specs.List.{flat_map}
+use Rattle.std.specs.Prelude.{◌≡◌, ℕ, ◌≤◌, ◌<◌, Bool, true, false, ◌&&◌, List, [], ◌∷◌, length, take, map, All, Option, Some, None, is_some, option_map, Contains, slice_get, slice_index_or}
 use Rattle.poets_value.specs.declared.value.Name.{Name}
 use Rattle.poets_syntax.specs.declared.term.Template.{Template}
-use Rattle.poets_syntax.specs.Contract.{Contract, Success, Failure, Transmit, Plus, Par, Seq, App, contract_of}
+use Rattle.poets_syntax.specs.Contract.{Contract, contract_of}
+use Rattle.poets_syntax.specs.Applied.{ApplicationsFit}
 use Rattle.poets_syntax.specs.Book.{Definitions, Definition, definition_of, template_in}
 use Rattle.poets_guard.specs.declared.rules.Rule.{Rule}
 use Rattle.poets_guard.specs.declared.endings.Rules.{Rules}
@@ -19,53 +19,9 @@ known_of known None = false
 abbrev pub says : (known : ℕ → Bool) → (facts : Name → Option ℕ) → Name → Bool
 says known facts f = known_of known (facts f)
 
--- how many `||` and `;` of the contract have facts of their own
-abbrev pub joints : (granted : Bool) → Contract → ℕ
-joints granted Success = 0
-joints granted Failure = 0
-joints granted (Transmit b p c) = if granted then joints granted c else 0
-joints granted (Plus a b) = joints granted a + joints granted b
-joints granted (Par a b) = 1 + joints granted a + joints granted b
-joints granted (Seq a b) = 1 + joints granted a + joints granted b
-joints granted (App f args) = 0
-
--- their facts say that their first parts may end, and what was given
-abbrev pub parts : (granted : Bool) → (given : List Contract) → Contract → List (List Contract)
-parts granted given Success = []
-parts granted given Failure = []
-parts granted given (Transmit b p c) = if granted then parts granted given c else []
-parts granted given (Plus a b) = parts granted given a ++ parts granted given b
-parts granted given (Par a b) = (a ∷ given) ∷ (parts granted given a ++ parts granted (a ∷ given) b)
-parts granted given (Seq a b) = (a ∷ given) ∷ (parts granted given a ++ parts granted (a ∷ given) b)
-parts granted given (App f args) = []
-
--- the rule by which a goal follows from two facts, if there is a second
-abbrev pub rule_from : ℕ → Option ℕ → (goal : ℕ) → List Rule
-rule_from k (Some i) goal = record { first = k; second = i; conclusion = goal } ∷ []
-rule_from k None goal = []
-
--- the rules by which a goal follows from a given fact where the contract may end, whose joints have the facts from `n` on
-abbrev pub rules_of : (granted : Bool) → (facts : Name → Option ℕ) → Contract → (given goal n : ℕ) → List Rule
-rules_of granted facts Success given goal n = rule_from given (Some 0) goal
-rules_of granted facts Failure given goal n = []
-rules_of granted facts (Transmit b p c) given goal n = if granted then rules_of granted facts c given goal n else []
-rules_of granted facts (Plus a b) given goal n = rules_of granted facts a given goal n ++ rules_of granted facts b given goal (n + joints granted a)
-rules_of granted facts (Par a b) given goal n = rules_of granted facts a given n (n + 1) ++ rules_of granted facts b n goal (n + 1 + joints granted a)
-rules_of granted facts (Seq a b) given goal n = rules_of granted facts a given n (n + 1) ++ rules_of granted facts b n goal (n + 1 + joints granted a)
-rules_of granted facts (App f args) given goal n = rule_from given (facts f) goal
-
--- the joints of the contract were given facts, and its rules were added
-pub record AreAdded (granted : Bool) (facts : Name → Option ℕ) (c : Contract) (given goal : ℕ) (old new : Rules) : Type 0 where
-  pub count : new.count ≡ old.count + joints granted c
-  pub rules : new.rules.items ≡ old.rules.items ++ rules_of granted facts c given goal old.count
-
 -- what the first facts say that may end: nothing, and then each the body of a template
 abbrev pub bodies : List Template → List (List Contract)
 bodies templates = [] ∷ map (λ t. contract_of t.body ∷ []) templates
-
--- what each fact says that may end: after those the facts of the joints
-abbrev pub meanings : (granted : Bool) → List Template → List (List Contract)
-meanings granted templates = bodies templates ++ flat_map (λ t. parts granted [] (contract_of t.body)) templates
 
 -- each of the contracts may end
 abbrev pub AllMayEnd : Definitions → (granted : Bool) → List Contract → Type 0
@@ -98,10 +54,29 @@ abbrev pub IsComplete : (granted : Bool) → (facts : Name → Option ℕ) → �
 IsComplete granted facts n templates rules = (known : ℕ → Bool) → IsClosed known rules → (f : Name) (t : Definition) →
     template_in (first_templates n templates) f ≡ Some t → ends granted (says known facts) t.body ≡ true → says known facts f ≡ true
 
+-- the facts say that these may end, where that of a template says so of its body; and the rules are right
+pub record AreMeant (book : Definitions) (granted : Bool) (facts : Name → Option ℕ) (meant : List (List Contract)) (s : Rules) : Type 0 where
+  pub many : length meant ≡ s.count
+  pub some : 0 < length meant
+  pub given : Holds book granted meant 0
+  pub named : (f : Name) (k : ℕ) (t : Definition) → facts f ≡ Some k → template_in book.templates f ≡ Some t → (k < length meant) × (slice_index_or meant k [] ≡ t.body ∷ [])
+  pub right : All (IsRight book granted meant) s.rules.items
+
+-- the facts are more, and the first say what they said
+pub record GoOn (old new : List (List Contract)) : Type 0 where
+  pub longer : length old ≤ length new
+  pub same : (k : ℕ) → k < length old → slice_index_or new k [] ≡ slice_index_or old k []
+
+-- where a fact is given, a goal follows by the new rules if the contract may end, and may be said only then
+pub record AreAdded (granted : Bool) (facts : Name → Option ℕ) (c : Contract) (given goal : ℕ) (old new : Rules) : Type 0 where
+  pub complete : (known : ℕ → Bool) → IsClosed known new.rules.items → IsClosed known old.rules.items × (known given ≡ true → ends granted (says known facts) c ≡ true → known goal ≡ true)
+  pub sound : (book : Definitions) (meant : List (List Contract)) → ApplicationsFit book c → AreMeant book granted facts meant old → given < length meant → goal < length meant →
+      (Holds book granted meant given → MayEnd book granted c → Holds book granted meant goal) → (more : List (List Contract)) × GoOn meant more × AreMeant book granted facts more new
+
 -- the rules of the bodies of the first so many templates
 pub record IsBuilt (book : Definitions) (granted : Bool) (templates : List Template) (facts : Name → Option ℕ) (n : ℕ) (s : Rules) : Type 0 where
-  pub count : s.count ≡ length templates + 1 + length (flat_map (λ t. parts granted [] (contract_of t.body)) (take n templates))
-  pub right : All (IsRight book granted (meanings granted templates)) s.rules.items
+  pub meant : List (List Contract)
+  pub right : AreMeant book granted facts meant s
   pub complete : IsComplete granted facts n templates s.rules.items
 
 -- the set has those of the first so many templates that are said to end, and no others

@@ -6,5 +6,6 @@ pub mod Walks
 pub mod Marked
 pub mod FirstCycle
 pub mod Searched
+pub mod Visited
 pub mod Fault
 pub mod Examples

@@ -1,13 +1,15 @@
 //! The first cycle of the graph.
-ghost use Rattle.std.specs.Prelude.{◌≡◌, IfOk, Ok, true, false, map};
+ghost use Rattle.std.specs.Prelude.{◌≡◌, List as Names, ◌∷◌, IfOk, Ok, true, false, map};
 ghost use Rattle.std.specs.BTreeSet.{contains};
 ghost use Rattle.poets_value.specs.Names.{name_cmp};
 ghost use Rattle.poets_guard.specs.Graph.{HasEdge};
+ghost use Rattle.poets_syntax.specs.Guarded.{IsCycle};
 ghost use Rattle.poets_guard.specs.Walks.{HasCycle};
-ghost use Rattle.poets_guard.specs.FirstCycle.{IsFirstOf};
+ghost use Rattle.poets_guard.specs.FirstCycle.{IsFirstOf, LiesOnCycle};
 ghost use Rattle.poets_guard.specs.Searched.{HaveNodes, IsSearched, LeadsOn, HasNodesOf};
 
 use crate::graph::Graph;
+use crate::visits::names_on_cycles;
 use poets_syntax::Book;
 use poets_syntax::build::push;
 use poets_value::{List, Memory, Name};
@@ -43,17 +45,29 @@ fn lead(
     Ok(false)
 }
 
+// The cycle on which a name lies, from the name on.
+fn cycle_from(alloc: Global, graph: &Graph, name: Name) -> Result<List<Name>, Memory>
+    requires { LiesOnCycle (HasEdge graph.now) name }
+    ensures { IfOk result (λ cycle. (others : Names Name) × (cycle.items ≡ name ∷ others) × IsCycle (HasEdge graph.now) (name ∷ others)) }
+{
+    let mut seen = BTreeSet::new(alloc);
+    let mut path = List::new(alloc);
+    if !lead(graph, name, name, &mut seen, &mut path)? {
+        unreachable!();
+    }
+    Ok(path)
+}
+
 /// The cycle that begins with the first template that lies on one.
 pub(crate) fn first_cycle(alloc: Global, book: &Book, graph: &Graph) -> Result<List<Name>, Memory>
     requires cycle { HasCycle graph.now }
     requires names { HasNodesOf graph.now book.now.templates.items }
     ensures { IfOk result (λ cycle. IsFirstOf (HasEdge graph.now) (map (λ t. t.name) book.now.templates.items) cycle.items) }
 {
+    let on_cycles = names_on_cycles(alloc, book, graph)?;
     for template in book.templates.as_slice() {
-        let mut seen = BTreeSet::new(alloc);
-        let mut path = List::new(alloc);
-        if lead(graph, template.name, template.name, &mut seen, &mut path)? {
-            return Ok(path);
+        if on_cycles.contains(&template.name) {
+            return cycle_from(alloc, graph, template.name);
         }
     }
     unreachable!()

@@ -9,7 +9,7 @@ ghost use Rattle.poets_syntax.specs.Book.{definitions_of};
 ghost use Rattle.poets_syntax.specs.Checked.{IsChecked};
 ghost use Rattle.poets_guard.specs.Endings.{IsExact};
 ghost use Rattle.poets_guard.specs.Rules.{is_known};
-ghost use Rattle.poets_guard.specs.Facts.{says, rule_from, AreAdded, AreFacts, IsBuilt};
+ghost use Rattle.poets_guard.specs.Facts.{says, AreAdded, AreFacts, IsBuilt};
 
 use crate::rules::{GIVEN, Rule, consequences};
 use poets_syntax::{Book, Template, Term};
@@ -42,14 +42,11 @@ impl Rules {
         Ok(fact)
     }
 
-    // Adds the rule by which a goal follows from two facts, if there is a second.
-    fn add(&mut self, first: usize, second: Option<usize>, goal: usize) -> Result<(), Memory>
+    // Adds the rule by which a goal follows from two facts.
+    fn add(&mut self, first: usize, second: usize, goal: usize) -> Result<(), Memory>
         ensures count { self.new.count ≡ self.old.count }
-        ensures rules { OnOk result (self.new.rules.items ≡ self.old.rules.items ++ rule_from first second goal) }
+        ensures rules { OnOk result (self.new.rules.items ≡ self.old.rules.items ++ record { first = first; second = second; conclusion = goal } ∷ []) }
     {
-        let Some(second) = second else {
-            return Ok(());
-        };
         self.rules.push(Rule {
             first,
             second,
@@ -71,7 +68,7 @@ impl Rules {
         ensures { OnOk result (AreAdded granted (get name_cmp facts.now) (contract_of term.now) given goal self.old self.new) }
     {
         match term {
-            Term::Success => self.add(given, Some(GIVEN), goal),
+            Term::Success => self.add(given, GIVEN, goal),
             Term::Failure => Ok(()),
             Term::Transmit { then, .. } => {
                 if granted {
@@ -88,7 +85,10 @@ impl Rules {
                 self.conclude(granted, facts, a, given, first)?;
                 self.conclude(granted, facts, b, first, goal)
             }
-            Term::App { name, .. } => self.add(given, facts.get(name).copied(), goal),
+            Term::App { name, .. } => match facts.get(name) {
+                Some(fact) => self.add(given, *fact, goal),
+                None => Ok(()),
+            },
         }
     }
 }
@@ -150,14 +150,14 @@ fn may_end(facts: &Facts, known: &[bool], name: &Name) -> bool
     }
 }
 
-// Adds a name where the test holds.
-fn insert_if(test: bool, ending: &mut BTreeSet<Name>, name: Name) -> Result<(), Memory>
-    ensures { OnOk result ((f : Name) → contains name_cmp ending.new f ≡ (if same_name name f then test || contains name_cmp ending.old f else contains name_cmp ending.old f)) }
+/// Adds a name where the test holds.
+pub(crate) fn insert_if(test: bool, names: &mut BTreeSet<Name>, name: Name) -> Result<(), Memory>
+    ensures { OnOk result ((f : Name) → contains name_cmp names.new f ≡ (if same_name name f then test || contains name_cmp names.old f else contains name_cmp names.old f)) }
 {
     if !test {
         return Ok(());
     }
-    ending.insert(name)?;
+    names.insert(name)?;
     Ok(())
 }
 

@@ -8,6 +8,7 @@ mod guard;
 mod rules;
 #[cfg(test)]
 mod tests;
+mod visits;
 mod widths;
 
 pub use guard::{GuardFault, study};

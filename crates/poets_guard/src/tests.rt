@@ -2,7 +2,7 @@
 ghost use Rattle.std.specs.Prelude.{◌≡◌, ◌++◌, ◌∷◌, [], IfOk, map};
 ghost use Rattle.poets_syntax.specs.Contract.{contract_of};
 ghost use Rattle.poets_syntax.specs.Book.{definition_of, definitions_of};
-ghost use Rattle.poets_guard.specs.Examples.{applied as applied_lem, anything as anything_lem, template as template_lem, book_of as book_lem, looping as looping_lem, looping_first as looping_first_lem, sending as sending_lem, hopeless as hopeless_lem};
+ghost use Rattle.poets_guard.specs.Examples.{applied as applied_lem, anything as anything_lem, template as template_lem, book_of as book_lem, looping as looping_lem, looping_first as looping_first_lem, sending as sending_lem, hopeless as hopeless_lem, circling as circling_lem};
 
 use crate::{GuardFault, study};
 use poets_expr::{Decls, Expr};
@@ -16,6 +16,8 @@ use std::test::Fail;
 const F: Name = Name { id: 0 };
 
 const G: Name = Name { id: 1 };
+
+const H: Name = Name { id: 6 };
 
 // The binders (a, b, r, t).
 const BINDERS: Binders = Binders {
@@ -112,12 +114,26 @@ fn hopeless(alloc: Global) -> Result<Book, Memory>
     Ok(book(alloc, templates))
 }
 
-// The study found the cycle of one template.
-fn is_loop(found: Result<Studied, GuardFault>, name: Name) -> bool {
+// template f() = h() + g();;
+// template g() = h() || Success;;
+// template h() = g() || Success;;
+fn circling(alloc: Global) -> Result<Book, Memory>
+    ensures { IfOk result (λ b. definitions_of b ≡ circling_lem F G H) }
+{
+    let mut templates = List::new(alloc);
+    let body = plus(alloc, applied(alloc, H), applied(alloc, G))?;
+    push(&mut templates, template(alloc, F, body))?;
+    let body = par(alloc, applied(alloc, H), Term::Success)?;
+    push(&mut templates, template(alloc, G, body))?;
+    let body = par(alloc, applied(alloc, G), Term::Success)?;
+    push(&mut templates, template(alloc, H, body))?;
+    Ok(book(alloc, templates))
+}
+
+// The study found this cycle.
+fn has_cycle(found: Result<Studied, GuardFault>, names: &[Name]) -> bool {
     match found {
-        Err(GuardFault::Unguarded { cycle }) => {
-            cycle.len() == 1 && cycle.get(0).copied() == Some(name)
-        }
+        Err(GuardFault::Unguarded { cycle }) => cycle.as_slice() == names,
         _ => false,
     }
 }
@@ -135,7 +151,7 @@ fn has_marks(found: Result<Studied, GuardFault>, f: Mark, g: Mark) -> bool {
 fn a_template_beside_itself_is_unguarded(rt: HostRuntime) -> Result<(), Fail> {
     let alloc = rt.alloc();
     let found = study(alloc, looping(alloc)?);
-    assert!(rt; is_loop(found, F));
+    assert!(rt; has_cycle(found, &[F]));
     Ok(())
 }
 
@@ -143,7 +159,15 @@ fn a_template_beside_itself_is_unguarded(rt: HostRuntime) -> Result<(), Fail> {
 fn what_comes_after_a_part_that_is_not_nullable_is_guarded(rt: HostRuntime) -> Result<(), Fail> {
     let alloc = rt.alloc();
     let found = study(alloc, looping_first(alloc)?);
-    assert!(rt; is_loop(found, G));
+    assert!(rt; has_cycle(found, &[G]));
+    Ok(())
+}
+
+#[test]
+fn the_cycle_begins_with_its_first_declared_template(rt: HostRuntime) -> Result<(), Fail> {
+    let alloc = rt.alloc();
+    let found = study(alloc, circling(alloc)?);
+    assert!(rt; has_cycle(found, &[G, H]));
     Ok(())
 }
 

@@ -1,11 +1,10 @@
 use Rattle.std.proofs.Common.{◌≡◌, arith, refl, sym, ◌∙◌, ap, subst, true, false, [], ◌∷◌, ◌++◌}
 use Rattle.std.specs.Prelude.{slice_index_or, Ok}
 use Rattle.poets_value.specs.declared.value.Name.{Name}
-use Rattle.poets_syntax.specs.Typed.{is_among}
 use Rattle.poets_guard.specs.Graph.{HasEdge}
 use Rattle.poets_expr.proofs.SameTrees.{name_one}
 use Rattle.poets_guard.proofs.Places.{same_name-one}
-use Rattle.poets_guard.proofs.Walking.{among_at}
+use Rattle.poets_guard.proofs.Walking.{edge-at}
 use Rattle.poets_guard.proofs.Searching.{IsSearching-self, IsSearching-trans, HaveNodes-more, passed_more, IsSearched-node, no_more_seen, LeadsOn-next}
 use Rattle.poets_guard.proofs.cycles.+lead.Goals as goal
 use Rattle.poets_guard.proofs.cycles.+lead.Goals.{then-eq-via-then-eq, then-eq-via-else-eq+in_ok-lead+then-branch}
@@ -46,12 +45,8 @@ returns-then-eq-clause-led t c = λ _. elim c.then-eq.branch [
     next = slice_index_or c.as_slice-next-items.result.now c.loop-next.next-index (record { id = 0 })
 
     edge : HasEdge c.args.graph.now c.args.from next
-    edge = (
-      c.in-Some.node.now,
-      sym c.in-Some.ensures.value,
-      subst (λ names. is_among names next ≡ true) c.as_slice-next-items.ensures
-          (among_at c.as_slice-next-items.result.now c.loop-next.next-index (record { id = 0 }) c.loop-next-test.true),
-    )
+    edge = edge-at c.args.graph.now c.args.from c.in-Some.node.now c.as_slice-next-items.result.now c.loop-next.next-index (sym c.in-Some.ensures.value) c.as_slice-next-items.ensures (record { id = 0 })
+        c.loop-next-test.true
 
 pub loop-next-preserved : goal.loop-next-preserved
 loop-next-preserved t c = record {

@@ -1,23 +1,26 @@
-use Rattle.std.proofs.Common.{ap, subst, sym}
-use Rattle.std.specs.Prelude.{Ok}
+use Rattle.std.proofs.Common.{◌≡◌, true, false, ◌∙◌, sym, subst}
+use Rattle.std.proofs.lemmas.Result.{IfOk-weaker}
 use Rattle.poets_guard.specs.Graph.{HasEdge}
-use Rattle.poets_guard.specs.FirstCycle.{IsFirstOf}
+use Rattle.poets_guard.specs.FirstCycle.{IsFirstOf, LiesOnCycle}
 use Rattle.poets_guard.specs.Searched.{HasNodesOf}
-use Rattle.poets_guard.proofs.Finding.{names_of, IsFirstOf-found, none-more, not_none}
+use Rattle.poets_guard.proofs.Finding.{names_of, IsFirstOf-found, All-names, not_none}
 use Rattle.poets_guard.proofs.cycles.first_cycle.Goals as goal
 
-pub returns-then-branch : goal.returns-then-branch
-returns-then-branch c =
-    subst (λ ts. IsFirstOf (HasEdge c.args.graph.now) (names_of ts) c.lead.new.path.items) c.as_slice-template-items.ensures
+pub cycle_from-requires : goal.cycle_from-requires
+cycle_from-requires c = (c.in_ok-on_cycles.ensures c.template-item.result.name).0 (sym c.contains.ensures ∙ c.if-contains.true)
+
+pub returns-then-contains : goal.returns-then-contains
+returns-then-contains c =
+    IfOk-weaker c.cycle_from.result _ (λ cycle. IsFirstOf (HasEdge c.args.graph.now) (names_of c.args.book.now.templates.items) cycle.items)
+    (λ cycle h. subst (λ ts. IsFirstOf (HasEdge c.args.graph.now) (names_of ts) cycle.items) c.as_slice-template-items.ensures
     (IsFirstOf-found c.args.graph.now c.as_slice-template-items.result.now c.loop-template.template-index c.template-item.result
-    (record { within = c.loop-template-test.true; is = c.template-item.is })
-    c.new-path.result.items c.lead.new.path.items c.new-path.ensures (c.in_ok-lead.ensures.led (ap Ok c.if-branch.true)) c.loop-template.invariant)
+    (record { within = c.loop-template-test.true; is = c.template-item.is }) cycle.items h.0 h.1 h.2 c.loop-template.invariant))
+    c.cycle_from.ensures
 
 pub loop-template-preserved : goal.loop-template-preserved
 loop-template-preserved c =
-    none-more c.args.graph.now c.as_slice-template-items.result.now c.loop-template.template-index c.template-item.result
-    (record { within = c.loop-template-test.true; is = c.template-item.is })
-    c.new-seen.result c.lead.new.seen c.new-seen.ensures.empty (c.in_ok-lead.ensures.searched (ap Ok c.if-branch.false)) c.loop-template.invariant
+    All-names (λ f. ¬ (LiesOnCycle (HasEdge c.args.graph.now) f)) c.as_slice-template-items.result.now c.loop-template.template-index c.template-item.result c.loop-template-test.true c.template-item.is
+    c.loop-template.invariant (λ l. let q : true ≡ false = sym ((c.in_ok-on_cycles.ensures c.template-item.result.name).1 l) ∙ sym c.contains.ensures ∙ c.if-contains.false in cc)
 
 pub unreachable-requires : goal.unreachable-requires
 unreachable-requires c =

@@ -15,7 +15,7 @@ loop-template-preserved c =
     IsTold-more c.args.book.now c.requires c.loop-template.template-index c.template-item.result
     (StandsAt-same c.as_slice-template-items.result.now c.args.book.now.templates.items c.loop-template.template-index c.template-item.result
     c.as_slice-template-items.ensures c.loop-template-test.true c.template-item.is)
-    (says (is_known c.in_ok-known.known.items) (get name_cmp c.in_ok-facts.facts)) (contains name_cmp c.loop-template.ending) (contains name_cmp c.insert_if.new.ending)
+    (says (is_known c.in_ok-known.known.items) (get name_cmp c.in_ok-facts.facts)) (contains name_cmp c.loop-template.ending) (contains name_cmp c.insert_if.new.names)
     (λ f. c.in_ok-insert_if.ensures f ∙ ap (λ test. if same_name c.template-item.result.name f then test || contains name_cmp c.loop-template.ending f else contains name_cmp c.loop-template.ending f)
     (c.may_end-test.ensures ∙ ap (λ known. says (is_known known) (get name_cmp c.in_ok-facts.facts) c.template-item.result.name) c.deref.ensures.value))
     c.loop-template.invariant

@@ -1,10 +1,9 @@
-use Rattle.std.proofs.Common.{◌≡◌, arith, sym, ap, subst, true}
+use Rattle.std.proofs.Common.{◌≡◌, arith, sym, ap, true}
 use Rattle.std.specs.Prelude.{slice_index_or, is_some}
 use Rattle.poets_value.specs.declared.value.Name.{Name}
-use Rattle.poets_syntax.specs.Typed.{is_among}
 use Rattle.poets_guard.specs.Graph.{HasEdge}
 use Rattle.poets_guard.specs.Walks.{HasWidth}
-use Rattle.poets_guard.proofs.Walking.{met_again, few, AllReach-next, HasWidth-none, HasWidth-node, HaveWidths-more, HaveSameNames-removed, HaveSameNames-trans, among_at, ends_more, sum_more}
+use Rattle.poets_guard.proofs.Walking.{met_again, few, AllReach-next, HasWidth-none, HasWidth-node, HaveWidths-more, HaveSameNames-removed, HaveSameNames-trans, edge-at, ends_more, sum_more}
 use Rattle.poets_guard.proofs.widths.+width.Goals as goal
 
 pub returns-in-Some-clause-width : goal.returns-in-Some-clause-width
@@ -35,12 +34,8 @@ width-requires t c = (
     next = slice_index_or c.as_slice-next-items.result.now c.loop-next.next-index (record { id = 0 })
 
     edge : HasEdge c.args.graph.now c.args.name next
-    edge = (
-      c.in-Some-get.node.now,
-      sym c.in-Some-get.ensures.value,
-      subst (λ names. is_among names next ≡ true) c.as_slice-next-items.ensures
-          (among_at c.as_slice-next-items.result.now c.loop-next.next-index (record { id = 0 }) c.loop-next-test.true),
-    )
+    edge = edge-at c.args.graph.now c.args.name c.in-Some-get.node.now c.as_slice-next-items.result.now c.loop-next.next-index (sym c.in-Some-get.ensures.value) c.as_slice-next-items.ensures (record { id = 0 })
+        c.loop-next-test.true
 
 pub loop-next-preserved : goal.loop-next-preserved
 loop-next-preserved t c = record {
