@@ -2,10 +2,12 @@
 ghost use Rattle.std.specs.Prelude.{◌≡◌, ℕ, ◌≤◌, length, [], List as AnttList, IfOk, IfErr};
 ghost use Rattle.poets_lex.specs.Lexes.{Lexes};
 ghost use Rattle.poets_lex.specs.Table.{Table};
-ghost use Rattle.poets_call.specs.Sentences.{Sentence};
-ghost use Rattle.poets_grammar.specs.Tokens.{AreNatural};
+ghost use Rattle.poets_call.specs.Sentences.{Sentence, sentences_of};
+ghost use Rattle.poets_grammar.specs.Tokens.{AreNatural, toks};
 ghost use Rattle.poets_session.specs.Sessions.{IsSession, Holds, Text};
-ghost use Rattle.poets_session.specs.Refusals.{IsRefused};
+ghost use Rattle.poets_session.specs.Pieces.{pieces_of};
+ghost use Rattle.poets_session.specs.Refusals.{IsRefused, IsStopped};
+ghost use Rattle.poets_session.specs.Splitting.{AreSaid};
 ghost use Rattle.poets_session.specs.Causes.{IsFirstFault, IsCauseOf};
 ghost use Rattle.poets_session.specs.Parts.{HoldParts};
 
@@ -14,6 +16,7 @@ use crate::counting::check_places;
 use crate::scripts::{Calls, calls_in};
 use crate::splitting::statements;
 use crate::{Form, Session, SessionCause, SessionFault};
+use poets_call::Statement;
 use poets_lex::{Names, Token, tokens};
 use poets_report::Report;
 use poets_syntax::Studied;
@@ -29,13 +32,22 @@ pub(crate) struct Parts {
     pub(crate) calls: Calls,
 }
 
-// What the tokens of a text say as a session of the form.
-fn parts_of(alloc: Global, form: Form, tokens: &[Token]) -> Result<Parts, SessionCause>
-    requires { AreNatural tokens.now }
-    ensures session { (text : Text) (names : Table) → Lexes [] text 0 tokens.now names → IfOk result (λ p. (statements : AnttList Sentence) × IsSession text form names statements × HoldParts statements p) }
-    ensures refused { (text : Text) (names : Table) → Lexes [] text 0 tokens.now names → IfErr result (IsCauseOf (IsRefused text form names)) }
+// The statements of the tokens, which are given up.
+fn statements_of(alloc: Global, tokens: List<Token>) -> Result<List<Statement>, SessionCause>
+    requires { AreNatural tokens.items }
+    ensures said { IfOk result (λ found. AreSaid (pieces_of (toks tokens.items)) (sentences_of found.items)) }
+    ensures stopped { IfErr result (IsCauseOf (IsStopped (pieces_of (toks tokens.items)))) }
 {
-    let statements = statements(alloc, tokens)?;
+    statements(alloc, tokens.as_slice())
+}
+
+// What the tokens of a text say as a session of the form.
+fn parts_of(alloc: Global, form: Form, tokens: List<Token>) -> Result<Parts, SessionCause>
+    requires { AreNatural tokens.items }
+    ensures session { (text : Text) (names : Table) → Lexes [] text 0 tokens.items names → IfOk result (λ p. (statements : AnttList Sentence) × IsSession text form names statements × HoldParts statements p) }
+    ensures refused { (text : Text) (names : Table) → Lexes [] text 0 tokens.items names → IfErr result (IsCauseOf (IsRefused text form names)) }
+{
+    let statements = statements_of(alloc, tokens)?;
     check_places(form, statements.as_slice())?;
     let Checked { book, reports } = check_types(alloc, statements.as_slice())?;
     let studied = study_book(alloc, book, statements.as_slice())?;
@@ -66,7 +78,7 @@ pub fn read(alloc: Global, text: &[u8], form: Form) -> Result<Session, SessionFa
             });
         }
     };
-    match parts_of(alloc, form, tokens.as_slice()) {
+    match parts_of(alloc, form, tokens) {
         Ok(parts) => Ok(Session {
             names,
             studied: parts.studied,

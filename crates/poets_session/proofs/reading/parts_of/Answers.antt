@@ -13,20 +13,20 @@ use Rattle.poets_session.proofs.reading.parts_of.Goals as goal
 pub returns-in_err-statements-clause-refused : goal.returns-in_err-statements-clause-refused
 returns-in_err-statements-clause-refused c = λ text names lexed.
     let e = err_from_is_err_and c.from_residual.result c.from_residual.ensures.1 in
-    rw (e.1, e.2) (unread_refused text c.args.form names c.args.tokens.now c.in_err-statements.field-0.0 lexed c.in_err-statements.ensures.stopped)
+    rw (e.1, e.2) (unread_refused text c.args.form names c.args.tokens.items c.in_err-statements.field-0.0 lexed c.in_err-statements.ensures.stopped)
 
 pub returns-in_err-check_places-clause-refused : goal.returns-in_err-check_places-clause-refused
 returns-in_err-check_places-clause-refused c = λ text names lexed.
     let r = c.from_residual-in_err-check_places in let e = err_from_is_err_and r.result r.ensures.1 in
     let out = subst (λ l. place_fault c.args.form (sentences_of l) ≡ Some (fault_of c.in_err-check_places.field-0.0)) c.as_slice.ensures c.in_err-check_places.ensures.out in
-    rw (e.1, e.2) (place_refused text c.args.form names c.args.tokens.now (sentences_of c.in_ok-statements.statements.items) c.in_err-check_places.field-0.0 lexed c.in_ok-statements.ensures.said out)
+    rw (e.1, e.2) (place_refused text c.args.form names c.args.tokens.items (sentences_of c.in_ok-statements.statements.items) c.in_err-check_places.field-0.0 lexed c.in_ok-statements.ensures.said out)
 
 pub returns-in_err-book-clause-refused : goal.returns-in_err-book-clause-refused
 returns-in_err-book-clause-refused c = λ text names lexed.
     let r = c.from_residual-in_err-book in let e = err_from_is_err_and r.result r.ensures.1 in
     let placed = subst (λ l. place_fault c.args.form (sentences_of l) ≡ None) c.as_slice.ensures c.in_ok-check_places.ensures.placed in
     let fault = subst (λ l. IsCauseOf (IsTypeRefusal (first_fault (sentences_of l))) c.in_err-book.field-0.0) c.as_slice-2.ensures c.in_err-book.ensures.fault in
-    rw (e.1, e.2) (type_refused text c.args.form names c.args.tokens.now (sentences_of c.in_ok-statements.statements.items) c.in_err-book.field-0.0 lexed c.in_ok-statements.ensures.said placed fault)
+    rw (e.1, e.2) (type_refused text c.args.form names c.args.tokens.items (sentences_of c.in_ok-statements.statements.items) c.in_err-book.field-0.0 lexed c.in_ok-statements.ensures.said placed fault)
 
 pub returns-in_err-studied-clause-refused : goal.returns-in_err-studied-clause-refused
 returns-in_err-studied-clause-refused c = λ text names lexed.
@@ -34,7 +34,7 @@ returns-in_err-studied-clause-refused c = λ text names lexed.
     let placed = subst (λ l. place_fault c.args.form (sentences_of l) ≡ None) c.as_slice.ensures c.in_ok-check_places.ensures.placed in
     let typed = subst (λ l. first_fault (sentences_of l) ≡ None) c.as_slice-2.ensures c.in_ok-book.ensures.passes in
     let cycle = subst (λ l. IsCauseOf (IsGuardRefusal (sentences_of l)) c.in_err-studied.field-0.0) c.as_slice-3.ensures c.in_err-studied.ensures.unguarded in
-    rw (e.1, e.2) (guard_refused text c.args.form names c.args.tokens.now (sentences_of c.in_ok-statements.statements.items) c.in_err-studied.field-0.0 lexed c.in_ok-statements.ensures.said placed typed cycle)
+    rw (e.1, e.2) (guard_refused text c.args.form names c.args.tokens.items (sentences_of c.in_ok-statements.statements.items) c.in_err-studied.field-0.0 lexed c.in_ok-statements.ensures.said placed typed cycle)
 
 pub calls_in-requires : goal.calls_in-requires
 calls_in-requires c =

@@ -1,6 +1,5 @@
 use Rattle.std.proofs.Common.{◌≡◌, sym, subst}
 use Rattle.poets_lex.specs.Lexes.{FirstFault}
-use Rattle.poets_grammar.specs.Tokens.{AreNatural}
 use Rattle.poets_session.specs.Refusals.{IsRefused}
 use Rattle.poets_session.specs.Causes.{IsCauseOf}
 use Rattle.poets_grammar.proofs.Lexed.{read_natural}
@@ -13,4 +12,4 @@ returns-in-Err-clause-refused c =
     (lex_refused c.args.text.now c.args.form c.tokens.new.names c.in-Err.fault (subst (λ t. (c.in-Err.fault ≡ _ → ⊥) → FirstFault t c.args.text.now c.in-Err.fault) c.new-names.ensures c.in-Err.ensures.fault))
 
 pub parts_of-requires : goal.parts_of-requires
-parts_of-requires c = subst AreNatural (sym c.as_slice.ensures) (read_natural c.in-Ok.ensures.ok)
+parts_of-requires c = read_natural c.in-Ok.ensures.ok
