@@ -6,7 +6,7 @@ Usage: bench/calculus.py [PROGRAM]      (PROGRAM: crates/poets/out/poets, made b
 Beside what bench/measuring.py prints, each family is told the cost of the last quarter of its commands to that of the
 first: it must stay below the same bound.
 """
-from measuring import measure_growth
+from measuring import Case, measure_growth
 
 HEAD = "agents ann, bob;;\nkinds Oil, USD;;\n"
 COMMANDS = 65_536
@@ -19,7 +19,7 @@ def recursive(share):
     count = int(COMMANDS * share) - 1
     template = "template any() = Success + transmit(a, b, r, t | true). any();;\n"
     lines = "transmit c ann bob 1 Oil @2006-01-01;;\n" * count
-    return "run", (HEAD + template + "clerk;;\nregister c = any();;\n" + lines).encode(), count + 1
+    return Case("run", (HEAD + template + "clerk;;\nregister c = any();;\n" + lines).encode(), count + 1)
 
 
 def deliveries(share):
@@ -30,7 +30,7 @@ def deliveries(share):
         f"register c{number} = {parts};;\n"
         + "".join(f"transmit c{number} ann bob {i} Oil @2006-01-01;;\n" for i in reversed(range(PARTS)))
         for number in range(count))
-    return "run", (HEAD + "clerk;;\n" + lines).encode(), count * (PARTS + 1)
+    return Case("run", (HEAD + "clerk;;\n" + lines).encode(), count * (PARTS + 1))
 
 
 def chain(share):
@@ -39,7 +39,7 @@ def chain(share):
     templates = "".join(f"template f{i}() = f{i + 1}();;\n" for i in range(CHAIN - 1))
     last = f"template f{CHAIN - 1}() = Success + transmit(a, b, r, t | true). f0();;\n"
     lines = "transmit c ann bob 1 Oil @2006-01-01;;\n" * count
-    return "run", (HEAD + templates + last + "clerk;;\nregister c = f0();;\n" + lines).encode(), count + 1
+    return Case("run", (HEAD + templates + last + "clerk;;\nregister c = f0();;\n" + lines).encode(), count + 1)
 
 
 if __name__ == "__main__":

@@ -5,7 +5,7 @@ Usage: bench/first_path.py [PROGRAM]      (PROGRAM: crates/poets/out/poets, made
 
 What is printed, and when the script fails, bench/measuring.py tells.
 """
-from measuring import measure
+from measuring import Case, measure
 
 HEAD = "agents ann, bob;;\nkinds Oil, USD;;\nclerk;;\n"
 LIMIT = 16_777_216
@@ -17,7 +17,7 @@ def blanks(share):
     """Comments and white space."""
     line = b"# nothing but a remark, with bytes past ASCII: \xc3\xa9\xc3\xa8\n \t\r\n"
     size = int(LIMIT * share)
-    return "run", (line * (size // len(line) + 1))[:size].rsplit(b"#", 1)[0], size
+    return Case("run", (line * (size // len(line) + 1))[:size].rsplit(b"#", 1)[0], size)
 
 
 def transmissions(share):
@@ -26,7 +26,7 @@ def transmissions(share):
     contract = "transmit(a, b, r, t | kind(r) = Oil). transmit(c, d, q, w | kind(q) = Oil). Success"
     line = "transmit deal ann bob 7 Oil @2006-05-03;;\n"
     text = (HEAD + f"register deal = {contract};;\n" + line * count).encode()
-    return "run", text, count + 1
+    return Case("run", text, count + 1)
 
 
 def contract(share):
@@ -35,7 +35,7 @@ def contract(share):
     alternatives = (int(OPERATORS * share) - 1 + 1) // 3
     parts = [f"transmit(a, b, r, t | amount(r) = {i}). Success" for i in range(alternatives)]
     text = (HEAD + "register big =\n" + "\n+ ".join(parts) + ";;\n" + "transmit big ann bob 1 Oil @2006-05-03;;\n").encode()
-    return "run", text, alternatives
+    return Case("run", text, alternatives)
 
 
 if __name__ == "__main__":

@@ -5,7 +5,7 @@ Usage: bench/front_end.py [PROGRAM]      (PROGRAM: crates/poets/out/poets, made 
 
 What is printed, and when the script fails, bench/measuring.py tells.
 """
-from measuring import measure
+from measuring import Case, measure
 
 HEAD = "agents ann, bob;;\nkinds Oil, USD;;\n"
 LIMIT = 16_777_216
@@ -13,12 +13,14 @@ COMMANDS = 65_536
 TEMPLATES = 256
 BRACKETS = 200
 OPERATORS = 1_000
+# A token takes 24 bytes and a node of a tree some 70. A compact text has a token for each byte, or a node for every few.
+COMPACT = 40
 
 
-def of_bytes(words, text):
+def of_bytes(words, text, **bounds):
     """A text whose cost is told by the byte."""
-    bytes = text.encode()
-    return words, bytes, len(bytes)
+    held = text.encode()
+    return Case(words, held, len(held), **bounds)
 
 
 def template(number, size):
@@ -52,12 +54,13 @@ def books_by_size(share):
     return book(TEMPLATES, int(240 * share))
 
 
-def dense(share, operator):
-    """A book in which each template applies every later one, three times, and the last is `Success`."""
+def dense(share, operator, last="Success", **bounds):
+    """A book in which each template applies every later one, three times."""
     count = int(TEMPLATES * share)
     names = [f"f{number}()" for number in range(count)]
-    bodies = [f" {operator} ".join(3 * names[number + 1:]) or "Success" for number in range(count)]
-    return of_bytes("check", "".join(f"template {name} =\n{body};;\n" for name, body in zip(names, bodies)))
+    bodies = [f" {operator} ".join(3 * names[number + 1:]) for number in range(count - 1)] + [last]
+    text = "".join(f"template {name} =\n{body};;\n" for name, body in zip(names, bodies))
+    return of_bytes("check", text, most_memory=COMPACT, **bounds)
 
 
 def dense_choices(share):
@@ -70,6 +73,12 @@ def dense_parallels(share):
     return dense(share, "||")
 
 
+def dense_unguarded(share):
+    """Up to 256 templates, each with all later ones side by side, and the last beside itself."""
+    last = f"f{int(TEMPLATES * share) - 1}()"
+    return dense(share, "||", f"{last} || {last}", status=1)
+
+
 def commands(share):
     """Up to 65,536 commands: contracts, and seven transmissions on each."""
     count = int(COMMANDS * share) // 8
@@ -80,7 +89,7 @@ def commands(share):
     lines = [f"register c{number} = {contract};;\n"
              + "".join(f"transmit c{number} ann bob 7 {kind} @2006-05-03;;\n" for kind in kinds)
              for number in range(count)]
-    return "run", (HEAD + "clerk;;\n" + "".join(lines)).encode(), 8 * count
+    return Case("run", (HEAD + "clerk;;\n" + "".join(lines)).encode(), 8 * count)
 
 
 def names(share):
@@ -94,14 +103,14 @@ def names(share):
     return of_bytes("check", begin + "".join(listed) + end)
 
 
-def repeated(share, contracts):
+def repeated(share, contracts, **bounds):
     """Registrations of the contracts in turn, up to 8 MB."""
     size = int(2**23 * share)
     lines, held = [HEAD + "clerk;;\n"], 0
     while held < size:
         lines.append(f"register c{len(lines)} = {contracts[len(lines) % len(contracts)]};;\n")
         held += len(lines[-1])
-    return of_bytes("run", "".join(lines))
+    return of_bytes("run", "".join(lines), **bounds)
 
 
 def tested(predicate):
@@ -118,7 +127,7 @@ def brackets(share):
         tested("(" * inner + "true" + ")" * inner),
         tested("amount(r) = " + "(1 + " * inner + "1" + ")" * inner),
         "(Success ; " * BRACKETS + "Success" + ")" * BRACKETS,
-    ])
+    ], most_memory=COMPACT)
 
 
 def operators(share):
@@ -138,4 +147,5 @@ def operators(share):
 
 
 if __name__ == "__main__":
-    measure((books_by_number, books_by_size, dense_choices, dense_parallels, commands, names, brackets, operators))
+    measure((books_by_number, books_by_size, dense_choices, dense_parallels, dense_unguarded, commands, names, brackets,
+             operators))

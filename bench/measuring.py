@@ -1,9 +1,10 @@
 """Times the built program on generated texts, a quarter, a half and the whole of each size.
 
-A family is a function from a share of its size to the words, the text and the number of units that its cost is told in
-(bytes or commands). For each share `measure` prints seconds (the least of five runs), peak memory and the cost of a
-unit. It ends the script with status 1 where the cost of the whole is 1.3 times that of a quarter or more, where peak
-memory passes 20 times the text plus 16 MB, or where the program ends with another status than 0.
+A family is a function from a share of its size to a case: the words, the text, and the number of units that its cost is
+told in (bytes or commands). For each share `measure` prints seconds (the least of five runs), peak memory and the cost of
+a unit. It ends the script with status 1 where the cost of the whole is 1.3 times that of a quarter or more, where peak
+memory passes its bound, which is 20 times the text plus 16 MB unless the case gives another, or where the program ends
+with another status than the case gives.
 
 A peak below that of a Python process, some 10 MB, is told as that.
 """
@@ -13,10 +14,14 @@ import subprocess
 import sys
 import tempfile
 import time
+from collections import namedtuple
 
 PROGRAM = pathlib.Path(__file__).resolve().parent.parent / "crates/poets/out/poets"
 SHARES = (0.25, 0.5, 1.0)
 MOST_RATIO = 1.3
+
+# A run that is measured, its status, and how many times the text, beside 16 MB, its memory may take.
+Case = namedtuple("Case", "words text units status most_memory", defaults=(0, 20))
 
 
 def once(program, words, path):
@@ -52,14 +57,14 @@ def measure_family(program, family, shares=SHARES):
     costs = []
     spent = []
     for share in shares:
-        words, text, units = family(share)
-        seconds, peak, status = run(program, words, text)
-        costs.append(seconds / units)
+        case = family(share)
+        seconds, peak, status = run(program, case.words, case.text)
+        costs.append(seconds / case.units)
         spent.append(seconds)
-        room = 20 * len(text) + 16 * 2**20
-        print(f"  {share:4} {len(text):>9} bytes {units:>9} units  status {status}  {seconds:7.3f} s"
-              f"  {1e6 * seconds / units:9.4f} us a unit  peak {peak / 2**20:7.1f} MB (allowed {room / 2**20:.1f})", flush=True)
-        kept &= status == 0 and peak < room
+        room = case.most_memory * len(case.text) + 16 * 2**20
+        print(f"  {share:4} {len(case.text):>9} bytes {case.units:>9} units  status {status}  {seconds:7.3f} s"
+              f"  {1e6 * costs[-1]:9.4f} us a unit  peak {peak / 2**20:7.1f} MB (allowed {room / 2**20:.1f})", flush=True)
+        kept &= status == case.status and peak < room
     ratio = costs[-1] / costs[0]
     print(f"  cost of the whole to that of a quarter: {ratio:.2f}", flush=True)
     return kept and ratio < MOST_RATIO, spent

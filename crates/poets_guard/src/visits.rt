@@ -1,4 +1,4 @@
-//! Which names of the graph lie on cycles.
+//! Which names of the graph lie on cycles, by Tarjan's search for strongly connected components.
 ghost use Rattle.std.specs.Prelude.{◌≡◌, ◌↔◌, ◌≤◌, ◌⊎◌, true, IfOk, OnOk, IsTrue};
 ghost use Rattle.std.specs.BTreeSet.{contains};
 ghost use Rattle.poets_value.specs.Names.{name_cmp};
