@@ -1,7 +1,7 @@
 """Times the built program on generated texts, a quarter, a half and the whole of each size.
 
 A family is a function from a share of its size to a case: the words, the text, and the number of units that its cost is
-told in (bytes or commands). For each share `measure` prints seconds (the least of five runs), peak memory and the cost of
+told in (bytes or commands). For each share `measure` prints seconds (the least of seven runs), peak memory and the cost of
 a unit. It ends the script with status 1 where the cost of the whole is 1.3 times that of a quarter or more, where peak
 memory passes its bound, which is 20 times the text plus 16 MB unless the case gives another, or where the program ends
 with another status than the case gives.
@@ -19,6 +19,7 @@ from collections import namedtuple
 PROGRAM = pathlib.Path(__file__).resolve().parent.parent / "crates/poets/out/poets"
 SHARES = (0.25, 0.5, 1.0)
 MOST_RATIO = 1.3
+ROUNDS = 7
 
 # A run that is measured, its status, and how many times the text, beside 16 MB, its memory may take.
 Case = namedtuple("Case", "words text units status most_memory", defaults=(0, 20))
@@ -37,35 +38,32 @@ def once(program, words, path):
     return seconds, usage.ru_maxrss * 1024, os.waitstatus_to_exitcode(status)
 
 
-def run(program, words, text):
-    """The least seconds of five runs, the peak memory in bytes, and the greatest status."""
+def told(program, case):
+    """Seconds, peak memory in bytes and status of one run of the case."""
     with tempfile.NamedTemporaryFile() as file:
-        file.write(text)
+        file.write(case.text)
         file.flush()
-        runs = []
-        for _ in range(5):
-            told = subprocess.run(
-                [sys.executable, "-S", __file__, program, words, file.name], capture_output=True, check=True, text=True)
-            runs.append([float(word) for word in told.stdout.split()])
-        return min(r[0] for r in runs), max(r[1] for r in runs), int(max(abs(r[2]) for r in runs))
+        told = subprocess.run(
+            [sys.executable, "-S", __file__, program, case.words, file.name], capture_output=True, check=True, text=True)
+    return [float(word) for word in told.stdout.split()]
 
 
 def measure_family(program, family, shares=SHARES):
     """Prints what the family costs at the shares. Answers whether it kept its bounds, and the seconds."""
     print(family.__doc__)
+    cases = [family(share) for share in shares]
+    # the shares take turns, so that what else the machine does falls on all of them
+    rounds = [[told(program, case) for case in cases] for _ in range(ROUNDS)]
     kept = True
-    costs = []
     spent = []
-    for share in shares:
-        case = family(share)
-        seconds, peak, status = run(program, case.words, case.text)
-        costs.append(seconds / case.units)
+    for share, case, runs in zip(shares, cases, zip(*rounds)):
+        seconds, peak, status = min(r[0] for r in runs), max(r[1] for r in runs), int(max(abs(r[2]) for r in runs))
         spent.append(seconds)
         room = case.most_memory * len(case.text) + 16 * 2**20
         print(f"  {share:4} {len(case.text):>9} bytes {case.units:>9} units  status {status}  {seconds:7.3f} s"
-              f"  {1e6 * costs[-1]:9.4f} us a unit  peak {peak / 2**20:7.1f} MB (allowed {room / 2**20:.1f})", flush=True)
+              f"  {1e6 * seconds / case.units:9.4f} us a unit  peak {peak / 2**20:7.1f} MB (allowed {room / 2**20:.1f})", flush=True)
         kept &= status == case.status and peak < room
-    ratio = costs[-1] / costs[0]
+    ratio = spent[-1] / cases[-1].units / (spent[0] / cases[0].units)
     print(f"  cost of the whole to that of a quarter: {ratio:.2f}", flush=True)
     return kept and ratio < MOST_RATIO, spent
 

@@ -2,7 +2,7 @@
 #![tactic(auto)]
 
 use poets_io::{StdSink, StdSource};
-use poets_top::{NO_MEMORY, USAGE, run};
+use poets_top::{NO_MEMORY, READ_FAULT, USAGE, WRITE_FAULT, run};
 use std::process::ExitCode;
 use std::{env, io};
 
@@ -12,25 +12,27 @@ fn main(rt: HostRuntime) -> ExitCode {
         Ok(args) => {
             for word in args.skip(1) {
                 if words.push(word).is_err() {
-                    return ExitCode::from(NO_MEMORY);
+                    return end(&rt, NO_MEMORY);
                 }
             }
         }
-        Err(error) if error.kind() == io::ErrorKind::OutOfMemory => {
-            return ExitCode::from(NO_MEMORY);
-        }
-        Err(_) => return usage(&rt),
+        Err(error) if error.kind() == io::ErrorKind::OutOfMemory => return end(&rt, NO_MEMORY),
+        Err(_) => return end(&rt, USAGE),
     }
     let mut source = StdSource::new(rt.reader());
     let mut sink = StdSink::new(io::writer(&rt));
-    match run(rt.alloc(), words.as_slice(), &mut source, &mut sink).status {
-        USAGE => usage(&rt),
-        status => ExitCode::from(status),
-    }
+    let outcome = run(rt.alloc(), words.as_slice(), &mut source, &mut sink);
+    end(&rt, outcome.status)
 }
 
-// Tells how the program is called.
-fn usage(rt: &HostRuntime) -> ExitCode {
-    let _ = eprintln!(rt; "usage: poets check | run");
-    ExitCode::from(USAGE)
+// Ends with the status, and tells on standard error what standard output does not.
+fn end(rt: &HostRuntime, status: u8) -> ExitCode {
+    let _ = match status {
+        USAGE => eprintln!(rt; "usage: poets check | run"),
+        NO_MEMORY => eprintln!(rt; "poets: out of memory"),
+        READ_FAULT => eprintln!(rt; "poets: standard input cannot be read"),
+        WRITE_FAULT => eprintln!(rt; "poets: standard output cannot be written"),
+        _ => Ok(()),
+    };
+    ExitCode::from(status)
 }
