@@ -1,5 +1,6 @@
 pub mod CutTexts
 pub mod Decimal
+pub mod EveryText
 pub mod Found
 pub mod Fronts
 pub mod FirstBytes

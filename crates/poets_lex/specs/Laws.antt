@@ -24,6 +24,13 @@ OneFault =
     (before : Table) (text : List ℕ) (a b : LexFault)
     → FirstFault before text a → FirstFault before text b → a ≡ b
 
+-- a text that has no tokens cannot be without a fault
+abbrev pub EveryTextIsCut : Type 0
+EveryTextIsCut =
+    (before : Table) (text : List ℕ)
+    → ((tokens : List Token) (after : Table) → ¬ (Lexes before text 0 tokens after))
+    → ¬ ((fault : LexFault) → ¬ (FirstFault before text fault))
+
 -- the tokens stand in the text one after the other, from the place on, each where its bytes are
 abbrev pub Stand : Table → List ℕ → ℕ → List Token → Type 0
 Stand table text place [] = Unit {0}

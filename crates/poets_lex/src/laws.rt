@@ -1,5 +1,5 @@
 //! Laws of tokens, each stated by a function that does nothing.
-ghost use Rattle.poets_lex.specs.Laws.{OneReading, NoReadingAtFault, OneFault, TokensStand};
+ghost use Rattle.poets_lex.specs.Laws.{OneReading, NoReadingAtFault, OneFault, EveryTextIsCut, TokensStand};
 
 /// A text has one list of tokens, and leaves one table of names.
 pub fn one_reading()
@@ -14,6 +14,11 @@ pub fn no_reading_at_fault()
 /// A text has one first fault at most.
 pub fn one_fault()
     ensures { OneFault }
+{}
+
+/// A text that has no tokens cannot be without a fault.
+pub fn every_text_is_cut()
+    ensures { EveryTextIsCut }
 {}
 
 /// The tokens' spans rise, and the bytes of each span are its token's.

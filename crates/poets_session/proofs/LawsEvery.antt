@@ -1,4 +1,4 @@
--- Every text is a session, or is refused. As in `LawsEveryLexed`, both answers to what is not tested lead to a contradiction.
+-- Every text is a session, or is refused. As in `poets_lex.proofs.EveryText`, both answers to what is not tested lead to a contradiction.
 use Rattle.std.proofs.Common.{◌≡◌, ℕ, zero, suc, List, [], ◌∷◌, ◌++◌, ⊎_elim, Option, Some, None, All, map, length, refl, sym, ap, subst, ◌∙◌}
 use Rattle.std.specs.List.{AllZip, flat_map}
 use Rattle.std.proofs.lemmas.Bool.{cases_Bool}
@@ -27,7 +27,7 @@ use Rattle.poets_session.specs.Checking.{declares}
 use Rattle.poets_session.proofs.Saying.{Standing, standing_first, standing_more, standing_end}
 use Rattle.poets_session.proofs.Cycling.{at_sentence, not_declared, first_declared}
 use Rattle.poets_session.proofs.Refusing.{read_as}
-use Rattle.poets_session.proofs.LawsEveryLexed.{every_lexed}
+use Rattle.poets_lex.proofs.EveryText.{every-text}
 
 -- ---- statements
 
@@ -114,7 +114,7 @@ every_checked {names = names} {statements = statements} none read None e None f 
 pub every_text : (text : Text) (form : Form) → IsNoSession text form → ((names : Table) (r : Refusal) → ¬ (IsRefused text form names r)) → ⊥
 every_text text form no_session no_refusal =
     let none : IsNeither text form = record { no_session = no_session; no_refusal = no_refusal } in
-    every_lexed text
+    every-text [] text
     (λ tokens names lexed.
     let pieces = pieces_of (toks tokens) in
     unsaid_after pieces pieces []

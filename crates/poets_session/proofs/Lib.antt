@@ -8,6 +8,5 @@ pub mod Refusing
 pub mod LawsSaid
 pub mod LawsCycles
 pub mod LawsRefused
-pub mod LawsEveryLexed
 pub mod LawsEvery
 pub mod LawsFitting

@@ -19,6 +19,7 @@ use Rattle.poets_lex.specs.Texts.{word_text, sign_text}
 use Rattle.poets_lex.specs.Table.{Table, place_of, with_text}
 use Rattle.poets_lex.specs.Lexes.{IsTextOf, IsLongest, IsLongestSign, table_with, Piece, Reads, Lexes, IsFaultAt, FirstFault}
 use Rattle.poets_lex.specs.Front.{FirstToken, TakesPiece}
+use Rattle.poets_lex.specs.Laws.{EveryTextIsCut}
 use Rattle.poets_lex.proofs.FirstBytes.{BeginsClass, class_of_token, token-class}
 use Rattle.poets_lex.proofs.Found.{known, unknown, position-push}
 use Rattle.poets_lex.proofs.Lexemes.{number-token, number-long, word-token, name-token, name-long, name-front-is, blank-piece, comment-piece}
@@ -121,22 +122,22 @@ piece_some (Piece.Comment bytes line ends) = omega arith
 piece_some (Piece.Lexeme {after = after} {bytes = bytes} token is) = class_some (class_of_token token.what) bytes (token-class after token.what bytes is.text)
 
 -- neither tokens nor a fault
-record IsUnlexed (text : List ℕ) : Type 0 where
-  no_tokens : (tokens : List Token) (names : Table) → Lexes [] text 0 tokens names → ⊥
-  no_fault : (fault : LexFault) → FirstFault [] text fault → ⊥
+record IsUncut (before : Table) (text : List ℕ) : Type 0 where
+  no_tokens : (tokens : List Token) (after : Table) → Lexes before text 0 tokens after → ⊥
+  no_fault : (fault : LexFault) → FirstFault before text fault → ⊥
 
-unlexed_after : (most : ℕ) (text rest : List ℕ) (place : ℕ) (tokens : List Token) (names : Table) → IsUnlexed text → length rest ≤ most →
-    Reads [] text 0 tokens names rest → place + length rest ≡ length text → ⊥
-unlexed_after most text [] place tokens names none few read here = none.no_tokens tokens names read
-unlexed_after zero text (byte ∷ rest) place tokens names none few read here = absurd (omega (arith, few))
-unlexed_after (suc most) text (byte ∷ rest) place tokens names none few read here =
+uncut-after : (before : Table) (most : ℕ) (text rest : List ℕ) (place : ℕ) (tokens : List Token) (names : Table) → IsUncut before text → length rest ≤ most →
+    Reads before text 0 tokens names rest → place + length rest ≡ length text → ⊥
+uncut-after before most text [] place tokens names none few read here = none.no_tokens tokens names read
+uncut-after before zero text (byte ∷ rest) place tokens names none few read here = absurd (omega (arith, few))
+uncut-after before (suc most) text (byte ∷ rest) place tokens names none few read here =
     never_stuck names place byte rest (record {
       no_piece = λ bytes later more after cut piece.
           let lengths : suc (length rest) ≡ length bytes + length later = ap length cut ∙ length-append bytes later in
-          unlexed_after most text later (place + length bytes) (tokens ++ more) after none (omega (arith, few, lengths, piece_some piece))
+          uncut-after before most text later (place + length bytes) (tokens ++ more) after none (omega (arith, few, lengths, piece_some piece))
           (Reads-push read (omega (arith, here)) cut piece) (omega (arith, here, lengths));
       no_fault = λ fault is. none.no_fault fault (record { tokens = tokens; after = names; rest = byte ∷ rest; place = place; read = read; here = here; found = is });
     })
 
-pub every_lexed : (text : List ℕ) → ((tokens : List Token) (names : Table) → Lexes [] text 0 tokens names → ⊥) → ((fault : LexFault) → FirstFault [] text fault → ⊥) → ⊥
-every_lexed text none free = unlexed_after (length text) text text 0 [] [] (record { no_tokens = none; no_fault = free }) (omega arith) Reads.Nothing (omega arith)
+pub every-text : EveryTextIsCut
+every-text before text none free = uncut-after before (length text) text text 0 [] before (record { no_tokens = none; no_fault = free }) (omega arith) Reads.Nothing (omega arith)
