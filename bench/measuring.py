@@ -1,4 +1,4 @@
-"""Times the built program on generated texts, a quarter, a half and the whole of each size.
+"""Times the built program on generated texts, a quarter, a half (or three quarters) and the whole of each size.
 
 A family is a function from a share of its size to a case: the words, the text, and the number of units that its cost is
 told in (bytes or commands). For each share `measure` prints seconds (the least of seven runs), peak memory and the cost of
