@@ -5,7 +5,7 @@ use Rattle.poets_call.specs.Ledger.{Ledger}
 use Rattle.poets_call.specs.Frame.{Frame}
 use Rattle.poets_call.specs.Replies.{Replies, Legal}
 
--- a command has one reply
+-- a command has at most one reply
 abbrev pub OneReply : Type 0
 OneReply = (f : Frame) (ledger : Ledger) (request : Request) (r r' : Response) →
     Replies f ledger request r → Replies f ledger request r' → r ≡ r'

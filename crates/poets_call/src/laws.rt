@@ -1,7 +1,7 @@
 //! Laws of replies, each carried by a function that does nothing.
 ghost use Rattle.poets_call.specs.Laws.{OneReply, OneHistory, OneFrame};
 
-/// After the same history a command has one reply.
+/// After the same history a command has at most one reply.
 pub fn one_reply()
     ensures { OneReply }
 {}

@@ -48,7 +48,7 @@ pub record Stands (s : StudiedBook) (reports : List Report) (calls : List Call) 
   pub same : calls_of history ≡ calls
   pub ledger : IsLedger s (ledger_of history) rows log
 
--- a command that the engine may be given: its contract is well-formed, and the numbers of arguments in it fit; its event is between declared agents
+-- a command that the engine may be given: a registration of a well-formed contract with the right numbers of arguments, or a transmission of a declared event
 abbrev pub IsTaken : Definitions → Request → Type 0
 IsTaken book (Request.Register x c) = IsWellFormed book.declared c × CountsFit book c
 IsTaken book (Request.Transmit x e) = IsDeclaredEvent book.declared e

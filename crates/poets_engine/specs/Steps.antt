@@ -36,7 +36,7 @@ judged refusal true is_large c = Refused refusal
 judged refusal false true c = Refused Response.TooLarge
 judged refusal false false c = Kept c
 
--- a contract that nothing performs is refused, and one that is too large
+-- a contract that no number of granted steps performs is refused, and one that is too large
 abbrev pub judge : StudiedBook → Response → Contract → Choice
 judge s refusal c = judged refusal (is_failure c) (nat_lt widest (width (definitions_of s.book) (marks_of s) c)) c
 

@@ -81,8 +81,11 @@ impl Engine {
         &self.history
     }
 
-    /// Makes a call. All memory is taken before the first change, so that after want of memory nothing
-    /// changed. After a refusal only the call is added to the history.
+    /// Makes a call: a registration of a well-formed contract with the right numbers of arguments, or a transmission
+    /// of a declared event, and no other command. `finish` hands out the reply.
+    ///
+    /// All memory is taken before the first change, so that after want of memory nothing changed. After a refusal only
+    /// the call is added to the history.
     pub fn apply<T>(
         &mut self,
         alloc: Global,

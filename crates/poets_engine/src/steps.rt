@@ -41,7 +41,7 @@ fn is_failure(term: &Term) -> bool
     }
 }
 
-// Refuses a contract that nothing performs by the given reply, and one that is too large.
+// Refuses a contract that no number of granted steps performs by the given reply, and one that is too large.
 fn judge(studied: &Studied, refusal: Reply, term: Term) -> Decision
     requires { CountsFit (definitions_of studied.now.book) (contract_of term) }
     ensures choice { choice_of result ≡ judge_lem studied.now (response_of refusal) (contract_of term) }

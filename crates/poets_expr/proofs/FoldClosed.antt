@@ -1,5 +1,5 @@
 -- Folding closed expressions keeps their values.
-use Rattle.std.proofs.Common.{◌≡◌, Bool, true, false, not, ◌&&◌, is_some, List, [], ◌∷◌, ◌++◌, filter, refl, sym, ◌∙◌, ap, ap₂, Option, Some, None, IfSome, ◌⊎◌, inl, inr, if◌then◌else◌}
+use Rattle.std.proofs.Common.{◌≡◌, Bool, true, false, not, ◌&&◌, is_some, List, [], ◌∷◌, ◌++◌, filter, refl, sym, ◌∙◌, ap, ap₂, Option, Some, None, IfSome, inl, inr}
 use Rattle.std.specs.List.{list_all}
 use Rattle.std.proofs.lemmas.List.Folds.{list_all-append}
 use Rattle.poets_value.specs.declared.value.Name.{Name}
@@ -10,7 +10,7 @@ use Rattle.poets_value.specs.declared.value.Value.TheVariants as V
 use Rattle.poets_expr.specs.declared.expr.Expr.{Expr}
 use Rattle.poets_expr.specs.declared.expr.Expr.TheVariants as E
 use Rattle.poets_expr.specs.Expression.{Expression, Literal, Undefined, Named, Unary, Make, Binary, If, EachLiteral, expression_of}
-use Rattle.poets_expr.specs.Env.{Declared, Env, same_name, value_in, itself, PairsAreUndeclared}
+use Rattle.poets_expr.specs.Env.{Declared, Env, same_name, itself, PairsAreUndeclared}
 use Rattle.poets_expr.specs.Val.{val, unary, binary, strict, resource_of}
 use Rattle.poets_expr.specs.Subst.{literal_of, IsDeclared}
 use Rattle.poets_expr.specs.Free.{names_of, distinct, free_names_of}
@@ -19,7 +19,7 @@ use Rattle.poets_expr.proofs.SameTrees.{both_true, name_one}
 use Rattle.poets_expr.proofs.ValSubst.{truth_of, val-literal_of, KeepsDeclared-undeclared}
 use Rattle.poets_expr.proofs.Values.{IsKept, val-kept}
 
-declared_some : (o : Option Ty) → is_some o ≡ true → (o ≡ None → ⊥)
+pub declared_some : (o : Option Ty) → is_some o ≡ true → (o ≡ None → ⊥)
 declared_some None h e = cc
 declared_some (Some t) h e = cc
 

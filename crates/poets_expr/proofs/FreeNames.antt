@@ -1,12 +1,11 @@
 -- Adding each name unless it is there gives each name once.
-use Rattle.std.proofs.Common.{◌≡◌, ℕ, Bool, true, false, not, ◌&&◌, ◌||◌, cond, List, [], ◌∷◌, ◌++◌, filter, refl, sym, ◌∙◌, ap, ◌⊎◌, inl, inr, append_assoc, append-nil}
+use Rattle.std.proofs.Common.{◌≡◌, Bool, true, false, not, ◌&&◌, ◌||◌, cond, List, [], ◌∷◌, ◌++◌, filter, refl, sym, ◌∙◌, ap, append_assoc, append-nil}
 use Rattle.std.specs.List.{list_any}
 use Rattle.std.proofs.lemmas.List.Folds.{list_any-append}
-use Rattle.std.proofs.lemmas.List.Elements.{filter_agree}
 use Rattle.poets_value.specs.declared.value.Name.{Name}
 use Rattle.poets_expr.specs.Expression.{Expression}
 use Rattle.poets_expr.specs.Env.{same_name}
-use Rattle.poets_expr.specs.Free.{names_of, distinct, free_names_of, with_name, with_names}
+use Rattle.poets_expr.specs.Free.{names_of, distinct, free_names_of, with_names}
 use Rattle.poets_expr.proofs.SameTrees.{name_one}
 
 filter-filter : (p q r : Name → Bool) → ((y : Name) → r y ≡ (q y && p y)) → (ys : List Name) → filter p (filter q ys) ≡ filter r ys

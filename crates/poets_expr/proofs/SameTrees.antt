@@ -1,5 +1,5 @@
 -- The tests for equal trees are right.
-use Rattle.std.proofs.Common.{eq-eqb, IsTrue, ◌↔◌, ◌≡◌, ℕ, zero, suc, Bool, true, false, ◌&&◌, nat_eq, List, [], ◌∷◌, refl, sym, ◌∙◌, ap, ap₂, ℤ, pos, negsuc}
+use Rattle.std.proofs.Common.{eq-eqb, IsTrue, ◌↔◌, ◌≡◌, ℕ, zero, suc, Bool, true, false, ◌&&◌, nat_eq, refl, sym, ◌∙◌, ap, ap₂, ℤ, pos, negsuc}
 use Rattle.std.proofs.lemmas.Bool.{eqb-true}
 use Rattle.poets_value.specs.declared.value.Name.{Name}
 use Rattle.poets_value.specs.declared.value.Ty.{Ty}
@@ -10,7 +10,7 @@ use Rattle.poets_expr.specs.declared.expr.Op.{Op}
 use Rattle.poets_expr.specs.declared.expr.Op.TheVariants as O
 use Rattle.poets_expr.specs.Expression.{UnaryOp, Minus, Not, AmountOf, KindOf, Expression, Literal, Undefined, Named, Unary, Make, Binary, If}
 use Rattle.poets_expr.specs.Env.{same_name}
-use Rattle.poets_expr.specs.Val.{equal, same_value, int_eq, bool_eq}
+use Rattle.poets_expr.specs.Val.{same_value, int_eq, bool_eq}
 use Rattle.poets_expr.specs.Same.{same, op_place, ty_place, unary_place}
 
 pub both_true : (a b : Bool) → (a && b) ≡ true → (a ≡ true) × (b ≡ true)

@@ -1,5 +1,5 @@
 -- The value of an expression whose names were replaced.
-use Rattle.std.proofs.Common.{◌≡◌, Bool, true, false, All, List, [], ◌∷◌, ◌++◌, refl, sym, ◌∙◌, ap, ap₂, Option, Some, None, ◌⊎◌, inl, inr}
+use Rattle.std.proofs.Common.{◌≡◌, Bool, true, false, [], ◌∷◌, ◌++◌, refl, sym, ◌∙◌, ap, ap₂, Option, Some, None, ◌⊎◌, inl, inr}
 use Rattle.std.proofs.lemmas.List.Elements.{All-head, All-tail, All-nil}
 use Rattle.std.proofs.lemmas.List.{append-nil}
 use Rattle.poets_value.specs.declared.value.Name.{Name}
@@ -7,8 +7,8 @@ use Rattle.poets_value.specs.declared.value.Ty.{Ty}
 use Rattle.poets_value.specs.declared.value.Value.{Value}
 use Rattle.poets_value.specs.declared.value.Value.TheVariants as V
 use Rattle.poets_expr.specs.Expression.{Expression, Literal, Undefined, Named, Unary, Make, Binary, If}
-use Rattle.poets_expr.specs.Env.{Declared, Env, same_name, itself, value_in, PairsAreUndeclared}
-use Rattle.poets_expr.specs.Val.{val, unary, binary, strict, resource_of, chosen}
+use Rattle.poets_expr.specs.Env.{Declared, Env, same_name, value_in, PairsAreUndeclared}
+use Rattle.poets_expr.specs.Val.{val, unary, binary, strict, resource_of}
 use Rattle.poets_expr.specs.Subst.{Givens, literal_of, replaced, subst, env_of, IsDeclared, AreDeclared}
 use Rattle.poets_expr.specs.Fold.{KeepsDeclared}
 use Rattle.poets_expr.proofs.SameTrees.{name_one}

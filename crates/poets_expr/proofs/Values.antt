@@ -1,5 +1,5 @@
 -- What the literals and the names' values have, and the operators keep, the value has.
-use Rattle.std.proofs.Common.{◌≡◌, Bool, true, false, not, List, [], refl, Option, Some, None, IfSome, if◌then◌else◌, ℤ, pos, ◌+ℤ◌, ◌-ℤ◌, ◌*ℤ◌, neg_ℤ}
+use Rattle.std.proofs.Common.{◌≡◌, Bool, true, false, not, refl, Option, Some, None, IfSome, if◌then◌else◌, ℤ, pos, ◌+ℤ◌, ◌-ℤ◌, ◌*ℤ◌, neg_ℤ}
 use Rattle.std.specs.Prelude.{int_div, int_rem, int_lt, int_le}
 use Rattle.poets_value.specs.declared.value.Name.{Name}
 use Rattle.poets_value.specs.declared.value.Resource.{Resource}

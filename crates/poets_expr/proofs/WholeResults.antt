@@ -1,5 +1,5 @@
 -- What is made of whole expressions and values is whole.
-use Rattle.std.proofs.Common.{◌≡◌, Bool, true, false, ◌&&◌, All, List, [], ◌∷◌, refl, Option, Some, None, IfSome, ◌⊎◌, inl, inr}
+use Rattle.std.proofs.Common.{[], ◌∷◌, Option, Some, None, inl, inr}
 use Rattle.std.proofs.lemmas.List.Elements.{All-head, All-tail, All-nil}
 use Rattle.poets_value.specs.declared.value.Name.{Name}
 use Rattle.poets_value.specs.declared.value.Ty.{Ty}
@@ -7,7 +7,7 @@ use Rattle.poets_value.specs.declared.value.Ty.TheVariants as T
 use Rattle.poets_value.specs.declared.value.Value.{Value}
 use Rattle.poets_value.specs.declared.value.Value.TheVariants as V
 use Rattle.poets_value.specs.Whole.{IsWholeValue}
-use Rattle.poets_expr.specs.Expression.{Expression, Literal, Undefined, Named, Unary, Make, Binary, If, EachLiteral}
+use Rattle.poets_expr.specs.Expression.{Expression, Literal, Undefined, Named, Unary, Make, Binary, If}
 use Rattle.poets_expr.specs.Env.{Declared, Env, same_name, value_in, itself}
 use Rattle.poets_expr.specs.Val.{val}
 use Rattle.poets_expr.specs.Subst.{Givens, literal_of, replaced, subst}

@@ -1,5 +1,5 @@
 -- The laws of expressions, as statements.
-use Rattle.std.specs.Prelude.{◌≡◌, IsTrue, List, [], ◌++◌, Option, Some, is_some}
+use Rattle.std.specs.Prelude.{◌≡◌, IsTrue, [], ◌++◌, Option, Some, is_some}
 use Rattle.std.specs.List.{list_all}
 use Rattle.poets_value.specs.declared.value.Name.{Name}
 use Rattle.poets_value.specs.declared.value.Ty.{Ty}

@@ -1,13 +1,12 @@
 -- The test whether two trees are equal.
-use Rattle.std.specs.Prelude.{ℕ, Bool, true, false, ◌&&◌, nat_eq, List, [], ◌∷◌}
+use Rattle.std.specs.Prelude.{ℕ, Bool, false, ◌&&◌, nat_eq}
 use Rattle.poets_value.specs.declared.value.Ty.{Ty}
 use Rattle.poets_value.specs.declared.value.Ty.TheVariants as T
-use Rattle.poets_value.specs.declared.value.Value.{Value}
 use Rattle.poets_expr.specs.declared.expr.Op.{Op}
 use Rattle.poets_expr.specs.declared.expr.Op.TheVariants as O
 use Rattle.poets_expr.specs.Expression.{UnaryOp, Minus, Not, AmountOf, KindOf, Expression, Literal, Undefined, Named, Unary, Make, Binary, If}
 use Rattle.poets_expr.specs.Env.{same_name}
-use Rattle.poets_expr.specs.Val.{equal, same_value}
+use Rattle.poets_expr.specs.Val.{same_value}
 
 -- the place of an operator, of a type, and of an operator of one operand among their kin
 abbrev pub op_place : Op → ℕ

@@ -1,5 +1,5 @@
 -- What is whole: each number in it is a whole number of the language, and each day one of its days.
-use Rattle.std.specs.Prelude.{List, All, Option, IfSome}
+use Rattle.std.specs.Prelude.{All, Option, IfSome}
 use Rattle.poets_value.specs.declared.value.Value.{Value}
 use Rattle.poets_value.specs.Whole.{IsWholeValue}
 use Rattle.poets_expr.specs.Expression.{Expression, EachLiteral}

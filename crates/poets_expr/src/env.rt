@@ -36,7 +36,7 @@ impl<L> Model for Asks<L> {
 }
 
 impl<L> Asks<L> {
-    /// No evaluation yet.
+    /// No evaluation yet. The ledger is any value: only its type counts.
     pub fn new(ledger: L) -> Asks<L>
         ensures { result ≡ 0 }
     {

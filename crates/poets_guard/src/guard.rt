@@ -34,7 +34,7 @@ impl From<Memory> for GuardFault {
     }
 }
 
-/// The book with the marks of its templates. Of a book that is not guarded, the cycle that begins
+/// The book, which is checked, with the marks of its templates. Of a book that is not guarded, a cycle that begins
 /// with the first declared template that lies on one.
 pub fn study(alloc: Global, book: Book) -> Result<Studied, GuardFault>
     requires checked { IsChecked (definitions_of book) }

@@ -1,5 +1,5 @@
 -- Texts written token by token are cut into these tokens.
-use Rattle.std.proofs.Common.{◌≡◌, ℕ, suc, ◌+◌, ◌-◌, ◌*◌, ◌/◌, ◌%◌, ◌^◌, ◌<◌, ◌≤◌, Bool, true, false, ◌&&◌, List, [], ◌∷◌, ◌++◌, length, get_or, map, fold, refl, sym, ap, subst, ◌∙◌, arith, ℤ, pos, Some, slice_get}
+use Rattle.std.proofs.Common.{◌≡◌, ℕ, ◌+◌, ◌/◌, ◌%◌, ◌^◌, ◌<◌, ◌≤◌, Bool, true, false, List, [], ◌∷◌, ◌++◌, length, get_or, map, refl, sym, ap, ◌∙◌, arith, ℤ, pos, slice_get}
 use Rattle.std.specs.Bool.{IsTrue}
 use Rattle.std.specs.Prelude.{unwrap_or, not, ◌||◌, ◌==◌}
 use Rattle.std.specs.Fmt as F
@@ -19,7 +19,7 @@ use Rattle.poets_lex.specs.declared.token.Sign.TheVariants as S
 use Rattle.poets_lex.specs.declared.token.Tok.{Tok}
 use Rattle.poets_lex.specs.declared.token.Tok.TheVariants as K
 use Rattle.poets_lex.specs.declared.token.Token.{Token}
-use Rattle.poets_lex.specs.Bytes.{is_in_name, decimal, BeginsWithout, Begins}
+use Rattle.poets_lex.specs.Bytes.{is_in_name, decimal, BeginsWithout}
 use Rattle.poets_lex.specs.Texts.{word_text, sign_text}
 use Rattle.poets_lex.specs.Table.{Table, IsTable}
 use Rattle.poets_lex.specs.Lexes.{IsNumber, IsTextOf, IsLongest, IsLongestSign, table_with, Piece, Reads, Lexes}

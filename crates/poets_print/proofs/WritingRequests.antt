@@ -1,13 +1,11 @@
 -- What the text of a command is: that command. What is written reads back.
-use Rattle.std.proofs.Common.{◌≡◌, ℕ, List, [], ◌∷◌, ◌++◌, refl, arith, append_assoc, ℤ, pos, negsuc, ◌≤ℤ◌}
+use Rattle.std.proofs.Common.{◌≡◌, ℕ, List, [], ◌∷◌, ◌++◌, refl, arith, append_assoc, ℤ, pos, negsuc}
 use Rattle.std.specs.Prelude.{codes}
-use Rattle.std.specs.Bool.{IsTrue}
 use Rattle.std.specs.Fmt.{decimal}
 use Rattle.std.proofs.lemmas.Int.{ints}
 use Rattle.std.proofs.lemmas.List.{append-nil}
 use Rattle.poets_value.specs.declared.value.Name.{Name}
 use Rattle.poets_value.specs.Civil.{day_text}
-use Rattle.poets_value.specs.Whole.{is_whole, is_day}
 use Rattle.poets_value.proofs.EachDay.{IsDayText-day_text}
 use Rattle.poets_call.specs.Calls as R
 use Rattle.poets_call.specs.Calls.{Request}
@@ -20,7 +18,7 @@ use Rattle.poets_lex.proofs.CutTexts.{IsCutInto, cut_end, cut_space, cut_word, c
 use Rattle.poets_grammar.specs.Statements.{IsCommand, IsSentence}
 use Rattle.poets_print.specs.Texts.{call_text, listed, name_text}
 use Rattle.poets_print.specs.Lines.{request_text}
-use Rattle.poets_print.specs.Laws.{IsListed, CanWriteRequest, IsWholeRequest, ContractReadsBack, CommandReadsBack}
+use Rattle.poets_print.specs.Laws.{CanWriteRequest, IsWholeRequest, ContractReadsBack, CommandReadsBack}
 use Rattle.poets_print.proofs.Writing.{IsTextOf}
 use Rattle.poets_print.proofs.WritingContracts.{writes_call, writes_names, writes_contract}
 

@@ -12,7 +12,7 @@ pub fn order_of_keys()
     ensures same { (j k : Key) → IsTrue (same_key j k) ↔ (j ≡ k) }
 {}
 
-/// A report has one answer over a list of events.
+/// A report has at most one answer over a list of events.
 pub fn one_answer()
     ensures { OneAnswer }
 {}

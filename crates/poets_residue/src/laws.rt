@@ -48,7 +48,7 @@ pub fn trace_followed()
     ensures performed { TracePerformed }
 {}
 
-/// After a trace the residual is `Failure` exactly where nothing can finish; where it is not, something can.
+/// After a trace the residual is `Failure` exactly where no number of granted steps finishes; where it is not, some number does.
 pub fn trace_hopeless()
     ensures hopeless { TraceHopeless }
     ensures hopeful { TraceHopeful }

@@ -231,7 +231,8 @@ fn residual_of<L>(
 }
 
 /// The residual of a contract by an event.
-/// It asks each predicate that could take the event, and each argument that it meets, at most once.
+/// It takes at most as many evaluations as the contract is wide. Applications have as many arguments as their templates
+/// have parameters, as in typed contracts.
 pub fn residual<L>(
     alloc: Global,
     studied: &Studied,

@@ -9,7 +9,7 @@ use Rattle.poets_session.specs.Texts.{refusal_text}
 use Rattle.poets_session.specs.Written.{IsWrittenRequest, IsWritten}
 use Rattle.poets_session.specs.declared.form.Form.{Form}
 
--- a text is one session at most
+-- a text is one session of a form at most
 abbrev pub OneSession : Type 0
 OneSession =
     (text : Text) (form : Form) (names others : Table) (a b : List Sentence)
@@ -26,7 +26,7 @@ pub data AreAlike : Refusal → Refusal → Type 0 where
   Same : {r : Refusal} → AreAlike r r
   Cycles : {number : ℕ} {f : Name} {others more : List Name} → AreAlike (Unguarded number (f ∷ others)) (Unguarded number (f ∷ more))
 
--- a text is refused in one way at most, but for how the first cycle goes on
+-- a text is refused in one way at most as a session of a form, but for how the first cycle goes on
 abbrev pub OneRefusal : Type 0
 OneRefusal =
     (text : Text) (form : Form) (names others : Table) (r s : Refusal)
@@ -38,7 +38,7 @@ OneLine =
     (text : Text) (form : Form) (names others : Table) (r s : Refusal)
     → IsRefused text form names r → IsRefused text form others s → refusal_text names r ≡ refusal_text others s
 
--- a text that is no session of the form is refused: it cannot be that no refusal holds of it
+-- of a text that is no session of the form it cannot be that no refusal holds
 abbrev pub EveryTextIsRead : Type 0
 EveryTextIsRead = (text : Text) (form : Form) → IsNoSession text form → ¬ ((names : Table) (r : Refusal) → ¬ (IsRefused text form names r))
 

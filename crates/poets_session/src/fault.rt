@@ -19,7 +19,7 @@ pub enum SessionCause {
     Misplaced { statement: u64 },
     /// A statement is one too many, or has the number of no clerk.
     TooMany { statement: u64 },
-    /// A statement is not typed.
+    /// A name is declared twice, or a statement is not typed.
     Types(TypeFault),
     /// Templates unfold for ever; the statement declares the first of the cycle.
     Guard { statement: u64, fault: GuardFault },

@@ -1,7 +1,7 @@
 //! The laws of sessions.
 ghost use Rattle.poets_session.specs.Laws.{OneSession, NoSessionRefused, OneRefusal, OneLine, EveryTextIsRead, SessionsAreWritten, CommandsAreWritten};
 
-/// A text is one session at most.
+/// A text is one session of a form at most.
 pub fn one_session()
     ensures { OneSession }
 {}
@@ -11,13 +11,13 @@ pub fn no_session_refused()
     ensures { NoSessionRefused }
 {}
 
-/// A text is refused in one way at most, but for how the first cycle goes on, and by one line.
+/// A text is refused in one way at most as a session of a form, but for how the first cycle goes on, and by one line.
 pub fn one_refusal()
     ensures refusal { OneRefusal }
     ensures line { OneLine }
 {}
 
-/// A text that is no session of a form is refused by it.
+/// Of a text that is no session of a form it cannot be that no refusal holds.
 pub fn every_text_is_read()
     ensures { EveryTextIsRead }
 {}

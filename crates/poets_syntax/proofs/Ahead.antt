@@ -1,5 +1,5 @@
 -- In a guarded book no more templates are unfolded in a row than there are: each is taken from the list of those to come.
-use Rattle.std.proofs.Common.{◌≡◌, ℕ, zero, suc, ◌+◌, ◌≤◌, arith, Bool, true, false, not, ◌||◌, List, [], ◌∷◌, length, map, filter, refl, sym, ◌∙◌, ap, subst, Some, ◌⊎◌, inl, inr}
+use Rattle.std.proofs.Common.{◌≡◌, suc, ◌+◌, ◌≤◌, arith, Bool, true, false, not, ◌||◌, List, [], ◌∷◌, length, map, filter, refl, sym, ◌∙◌, ap, subst, Some, ◌⊎◌, inl, inr}
 use Rattle.poets_value.specs.declared.value.Name.{Name}
 use Rattle.poets_expr.specs.Env.{same_name}
 use Rattle.poets_expr.specs.Expression.{Expression}

@@ -1,5 +1,5 @@
 -- Replacing names and normal forms expose no further application.
-use Rattle.std.proofs.Common.{◌≡◌, suc, Bool, true, false, ◌||◌, ◌&&◌, List, [], ◌∷◌, length, map, refl, sym, ◌∙◌, ap, ap₂, ◌⊎◌, inl, inr, Some}
+use Rattle.std.proofs.Common.{◌≡◌, suc, true, false, ◌||◌, ◌&&◌, List, [], ◌∷◌, length, map, refl, sym, ◌∙◌, ap, ap₂, inl, inr, Some}
 use Rattle.poets_value.specs.declared.value.Name.{Name}
 use Rattle.poets_expr.specs.Env.{Declared}
 use Rattle.poets_expr.specs.Expression.{Expression}
@@ -16,7 +16,7 @@ use Rattle.poets_syntax.specs.Normal.{plus, par, seq, send, folded, params_in, n
 use Rattle.poets_syntax.specs.Residual.{argument_givens, body_of}
 use Rattle.poets_syntax.proofs.Replacing.{truth, args_count}
 use Rattle.poets_syntax.proofs.Nullability.{or_first, or_second, and_both, either_true}
-use Rattle.poets_syntax.proofs.Choosing.{IsOfChoices, plus-keeps}
+use Rattle.poets_syntax.proofs.Choosing.{plus-keeps}
 
 pub length-folded : (declared : Declared) (params : List Param) (args : List Expression) → length (folded declared params args) ≡ length args
 length-folded declared [] [] = refl

@@ -1,10 +1,10 @@
 -- Paths of unguarded edges, and exposed applications.
-use Rattle.std.proofs.Common.{◌≡◌, true, List, [], ◌∷◌, ◌++◌, length, Some, ◌⊎◌, inl, inr}
+use Rattle.std.proofs.Common.{List, [], ◌∷◌}
 use Rattle.poets_value.specs.declared.value.Name.{Name}
 use Rattle.poets_expr.specs.Expression.{Expression}
 use Rattle.poets_syntax.specs.Contract.{Contract}
 use Rattle.poets_syntax.specs.Book.{Definitions}
-use Rattle.poets_syntax.specs.Marks.{Marks, AreRight, nullable}
+use Rattle.poets_syntax.specs.Marks.{Marks, AreRight}
 use Rattle.poets_syntax.specs.Applied.{CountsFit}
 use Rattle.poets_syntax.specs.Exposed.{EachExposed}
 use Rattle.poets_syntax.specs.Guarded.{Exposes, IsPath}

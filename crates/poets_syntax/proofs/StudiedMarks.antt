@@ -1,12 +1,12 @@
 -- The marks of a studied book are right.
-use Rattle.std.proofs.Common.{◌≡◌, Bool, true, false, List, [], ◌∷◌, Option, Some, ◌⊎◌, inl, inr, ◌↔◌, IsTrue, subst, sym}
+use Rattle.std.proofs.Common.{◌≡◌, Bool, List, [], ◌∷◌, Some, inl, inr, ◌↔◌, IsTrue, subst, sym}
 use Rattle.std.specs.List.{AllZip}
 use Rattle.poets_value.specs.declared.value.Name.{Name}
 use Rattle.poets_expr.specs.Env.{same_name}
 use Rattle.poets_syntax.specs.declared.studied.Mark.{Mark}
 use Rattle.poets_syntax.specs.Contract.{Contract}
 use Rattle.poets_syntax.specs.Book.{Definitions, Definition, template_in}
-use Rattle.poets_syntax.specs.Marks.{Marks, AreRight, Nullable, Hopeful}
+use Rattle.poets_syntax.specs.Marks.{AreRight, Nullable, Hopeful}
 use Rattle.poets_syntax.specs.Studied.{has_mark, marks_in, IsRightMark, IsStudiedBook}
 use Rattle.poets_syntax.proofs.Replacing.{truth}
 

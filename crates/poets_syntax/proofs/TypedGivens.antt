@@ -33,7 +33,7 @@ unfailed true among x next h = absurd cc
 unfailed false true x next h = absurd cc
 unfailed false false x next h = (refl, h)
 
-neither : (p q : Bool) → (p || q) ≡ false → (p ≡ false) × (q ≡ false)
+pub neither : (p q : Bool) → (p || q) ≡ false → (p ≡ false) × (q ≡ false)
 neither true q e = absurd cc
 neither false q e = (refl, e)
 

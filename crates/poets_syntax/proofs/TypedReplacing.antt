@@ -1,5 +1,5 @@
 -- Replacing names by literals of values of their types keeps expressions and contracts typed.
-use Rattle.std.proofs.Common.{◌≡◌, true, false, not, ◌&&◌, is_some, List, [], ◌∷◌, ◌++◌, length, map, refl, sym, ◌∙◌, ap, subst as along, Option, Some, None, inl, inr}
+use Rattle.std.proofs.Common.{◌≡◌, true, false, not, ◌&&◌, List, [], ◌∷◌, ◌++◌, length, map, refl, sym, ◌∙◌, ap, subst as along, Option, Some, None, inl, inr}
 use Rattle.std.proofs.lemmas.Bool.{eq-eqb}
 use Rattle.std.proofs.lemmas.List.Elements.{All-head, All-tail}
 use Rattle.poets_value.specs.declared.value.Name.{Name}
@@ -13,6 +13,7 @@ use Rattle.poets_expr.specs.Same.{ty_place}
 use Rattle.poets_expr.specs.Val.{val}
 use Rattle.poets_expr.specs.Subst.{Givens, subst, replaced, literal_of}
 use Rattle.poets_expr.specs.Fold.{is_closed, is_literal, is_folded, fold_closed, HasDeclaredNames}
+use Rattle.poets_expr.proofs.FoldClosed.{declared_some}
 use Rattle.poets_expr.proofs.SameTrees.{both_true, name_one}
 use Rattle.poets_syntax.specs.declared.term.Binders.{Binders}
 use Rattle.poets_syntax.specs.declared.term.Param.{Param}
@@ -43,10 +44,6 @@ type_in-bound declared b scope scope' x h =
 same_type-self : (t : Ty) → same_type t t ≡ true
 same_type-self t = eq-eqb (ty_place t) (ty_place t) refl
 
-some_declared : (o : Option Ty) → is_some o ≡ true → (o ≡ None → ⊥)
-some_declared None h e = cc
-some_declared (Some t) h e = cc
-
 -- ---- expressions
 
 module _ (declared : Declared) where
@@ -73,7 +70,7 @@ module _ (declared : Declared) where
   closed-type_of : (scope : Scope) → KeepsTypes scope → (e : Expression) → is_closed declared e ≡ true → type_of declared scope e ≡ type_of declared [] e
   closed-type_of s k (Literal v) h = refl
   closed-type_of s k (Undefined t) h = refl
-  closed-type_of s k (Named x) h = ap (name_type x) (k x (some_declared (declared x) h))
+  closed-type_of s k (Named x) h = ap (name_type x) (k x (declared_some (declared x) h))
   closed-type_of s k (Unary o a) h = rw (closed-type_of s k a h) refl
   closed-type_of s k (Make a b) h =
       let p = both_true (is_closed declared a) (is_closed declared b) h in rw (closed-type_of s k a p.0, closed-type_of s k b p.1) refl

@@ -1,8 +1,7 @@
 -- In a guarded book the width unfolds, and so many unfoldings as there are templates are enough.
-use Rattle.std.proofs.Common.{◌≡◌, ℕ, zero, suc, ◌+◌, ◌≤◌, arith, Bool, true, false, List, [], ◌∷◌, length, refl, sym, ◌∙◌, ap, ap₂, Option, Some, None, ◌⊎◌, inl, inr, if◌then◌else◌}
+use Rattle.std.proofs.Common.{◌≡◌, ℕ, zero, suc, ◌+◌, ◌≤◌, arith, List, length, refl, sym, ◌∙◌, ap, ap₂, Option, Some, None, ◌⊎◌, inl, inr}
 use Rattle.poets_value.specs.declared.value.Name.{Name}
-use Rattle.poets_expr.specs.Expression.{Expression}
-use Rattle.poets_expr.specs.Size.{nodes, nodes_of_all}
+use Rattle.poets_expr.specs.Size.{nodes_of_all}
 use Rattle.poets_syntax.specs.Contract.{Contract}
 use Rattle.poets_syntax.specs.Book.{Definitions, Definition, template_in}
 use Rattle.poets_syntax.specs.Marks.{Marks, AreRight, nullable}

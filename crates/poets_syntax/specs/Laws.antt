@@ -70,7 +70,7 @@ ReplacedPerformed = (book : Definitions) (given : Givens) (env : Env) (c : Contr
 abbrev pub ReplacedIsWhole : Type 0
 ReplacedIsWhole = (given : Givens) (c : Contract) → AreWholeGivens given → IsWholeContract c → IsWholeContract (replace given c)
 
--- a typed contract binds no declared name, and its literals are of declared kinds
+-- a typed contract binds no declared name, and the literals in arguments of its applications are of declared kinds
 abbrev pub TypedIsWellFormed : Type 0
 TypedIsWellFormed = (book : Definitions) (reports : List Name) (scope : Scope) (c : Contract) →
     IsTyped book reports scope c → IsWellFormed book.declared c

@@ -1,5 +1,5 @@
 -- Books that were studied: checked and guarded, with right marks.
-use Rattle.std.specs.Prelude.{◌≡◌, min, Bool, false, List, [], ◌∷◌, Option, Some, None, IsTrue, ◌↔◌, if◌then◌else◌}
+use Rattle.std.specs.Prelude.{◌≡◌, min, Bool, false, List, ◌∷◌, IsTrue, ◌↔◌, if◌then◌else◌}
 use Rattle.std.specs.List.{AllZip}
 use Rattle.poets_value.specs.declared.value.Name.{Name}
 use Rattle.poets_expr.specs.Env.{same_name}

@@ -17,7 +17,7 @@ pub fn boxed(alloc: Global, term: Term) -> Result<Box<Term>, Memory>
     Ok(Box::new(alloc, term)?)
 }
 
-/// The list with one more item.
+/// Adds the item at the end. After want of memory it is lost.
 pub fn push<T: Drop>(list: &mut List<T>, item: T) -> Result<(), Memory>
     ensures { IfOk result (λ _. list.new.items ≡ list.old.items ++ item ∷ []) }
 {

@@ -44,7 +44,7 @@ impl Model for Studied {
 }
 
 impl Studied {
-    /// The book with its marks, in the templates' order.
+    /// The book with its marks, in the templates' order: the book is checked and guarded, and the marks are right.
     pub fn of(book: Book, marks: List<Mark>) -> Studied
         requires { IsStudiedBook (definitions_of book) marks.items }
         ensures book { result.book ≡ book }

@@ -1,5 +1,5 @@
 -- Lists with one item changed, and what a table keeps.
-use Rattle.std.proofs.Common.{◌≡◌, ℕ, zero, suc, ◌+◌, ◌-◌, ◌<◌, ◌≤◌, Bool, true, false, List, [], ◌∷◌, ◌++◌, Option, Some, None, map, length, nat_eq, slice_get, slice_set, slice_index_or, option_map, refl, sym, rules, nat_lt, ap, ◌∙◌, arith, subst, ◌⊎◌, inl, inr, if◌then◌else◌}
+use Rattle.std.proofs.Common.{◌≡◌, ℕ, zero, suc, ◌+◌, ◌-◌, ◌<◌, Bool, false, List, [], ◌∷◌, ◌++◌, Option, Some, None, map, length, nat_eq, slice_get, slice_set, slice_index_or, option_map, refl, sym, nat_lt, ap, ◌∙◌, arith, subst, if◌then◌else◌}
 use Rattle.std.specs.List.{position, position_or_len, list_any}
 use Rattle.std.proofs.lemmas.Grind.{common_steps}
 use Rattle.std.proofs.lemmas.Bool.Decides.{nat_tests}
@@ -7,7 +7,7 @@ use Rattle.poets_value.specs.declared.value.Name.{Name}
 use Rattle.poets_value.specs.declared.event.Event.{Event}
 use Rattle.poets_value.specs.Listed.{Listed}
 use Rattle.poets_table.specs.declared.table.Row.{Row}
-use Rattle.poets_table.specs.TableView.{RowView, row_view, changed_at, number_named}
+use Rattle.poets_table.specs.TableView.{row_view, changed_at, number_named}
 use Rattle.poets_table.specs.Kept.{AreNames, IsReady}
 
 pub set_map : {A B : Type 0} (g : A → B) (f : B → B) (xs : List A) (i : ℕ) (x x' : A) →

@@ -11,7 +11,9 @@ use std::marker::Model;
 #[derive(Drop)]
 pub struct Row<T> {
     pub name: Name,
+    /// The contract as it was registered.
     pub original: T,
+    /// What is still owed.
     pub current: T,
     pub events: List<Event>,
     pub ended: bool,
@@ -64,7 +66,7 @@ impl<T> Table<T> {
         &self.log
     }
 
-    /// The row with a number.
+    /// The row with a number, which counts from 1.
     pub fn row(&self, number: u64) -> &Row<T>
         requires { IsLive number self.now.rows }
         ensures { slice_get self.now.rows (number - 1) ≡ Some (row_view result.now) }
@@ -72,7 +74,7 @@ impl<T> Table<T> {
         &self.rows[(number - 1) as usize]
     }
 
-    /// The number of the row with a name.
+    /// The number of the row with a name, if there is one.
     pub fn find(&self, name: Name) -> Option<u64>
         ensures { result ≡ number_named name self.now.rows }
     {
@@ -83,7 +85,7 @@ impl<T> Table<T> {
         Some(place as u64 + 1)
     }
 
-    /// Makes room for one event of a row and of the log.
+    /// Makes room for one event of the row with the number and of the log.
     pub fn room(&mut self, number: u64) -> Result<(), Memory>
         requires { IsLive number self.old.rows }
         ensures rows { self.new.rows ≡ self.old.rows }
@@ -98,7 +100,7 @@ impl<T> Table<T> {
         Ok(())
     }
 
-    /// Ends a row.
+    /// Ends the row with the number.
     pub fn finish(&mut self, number: u64)
         requires { IsLive number self.old.rows }
         ensures rows { self.new.rows ≡ changed_at finished (number - 1) self.old.rows }
@@ -185,13 +187,14 @@ fn append<T: Drop>(row: &mut Row<T>, event: Event, current: T)
 }
 
 impl<T: Drop> Table<T> {
-    /// Adds a row at the end.
+    /// Adds a row at the end, and answers its number. The room that was made is given up.
     pub fn add(&mut self, name: Name, original: T, current: T) -> Result<u64, Memory>
         requires { number_named name self.old.rows ≡ None }
         ensures ok { IfOk result (λ n. n ≡ length self.old.rows + 1) }
         ensures rows { OnOk result (self.new.rows ≡ self.old.rows ++ new_row name original current ∷ []) }
         ensures log { OnOk result (self.new.log ≡ self.old.log) }
         ensures err { OnErr result ((self.new.rows ≡ self.old.rows) × (self.new.log ≡ self.old.log)) }
+        ensures ready { self.new.ready ≡ 0 }
     {
         self.ready = 0;
         let alloc = *self.names.allocator();
@@ -218,12 +221,14 @@ impl<T: Drop> Table<T> {
         Ok(number)
     }
 
-    /// Adds an event to a row and to the log.
+    /// Adds an event to the row with the number, whose `current` this replaces, and to the log.
+    /// `room` has to have been called for this row, with no `add`, `enter` or failed `room` since.
     pub fn enter(&mut self, number: u64, event: Event, current: T)
         requires live { IsLive number self.old.rows }
         requires ready { self.old.ready ≡ number }
         ensures rows { self.new.rows ≡ changed_at (with_event event current) (number - 1) self.old.rows }
         ensures log { self.new.log ≡ self.old.log ++ (number, event) ∷ [] }
+        ensures ready { self.new.ready ≡ 0 }
     {
         self.ready = 0;
         note(&mut self.log, number, &event);

@@ -1,8 +1,8 @@
 -- The history of scripts: each clerk has made his own.
 use Rattle.std.proofs.Common.{◌≡◌, ℕ, zero, suc, ◌+◌, ◌<◌, ◌≤◌, nat_eq, false, List, [], ◌∷◌, ◌++◌, length, refl, sym, ◌∙◌, ap, ap₂, subst, arith, append-nil}
-use Rattle.std.specs.Prelude.{Some, slice_get, true}
-use Rattle.std.specs.List.{All, list_all}
-use Rattle.std.proofs.lemmas.Bool.{eq-eqb, eqb-true, ne_eqb}
+use Rattle.std.specs.Prelude.{Some, slice_get}
+use Rattle.std.specs.List.{All}
+use Rattle.std.proofs.lemmas.Bool.{eq-eqb, ne_eqb}
 use Rattle.std.proofs.lemmas.List.Elements.{All-nil, All-append, All-map, All-weaker}
 use Rattle.poets_call.specs.Calls.{Request, Call, HistoryEntry, calls_of, own_calls}
 use Rattle.poets_call.specs.Declarations.{book_of, reports_of}

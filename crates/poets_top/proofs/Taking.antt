@@ -1,5 +1,5 @@
 -- The engine takes the commands of a session that is typed and built.
-use Rattle.std.proofs.Common.{◌≡◌, ℕ, ◌+◌, nat_eq, Bool, true, false, List, [], ◌∷◌, Option, Some, None, length, map, refl, sym, ◌∙◌, ap, ap₂, subst, arith}
+use Rattle.std.proofs.Common.{◌≡◌, ℕ, ◌+◌, Bool, true, false, List, [], ◌∷◌, Option, Some, None, map, refl, sym, ◌∙◌, ap, ap₂, subst, arith}
 use Rattle.std.specs.Prelude.{◌&&◌, if◌then◌else◌}
 use Rattle.std.specs.Arc.{arc_value}
 use Rattle.std.specs.List.{All, list_all}
@@ -17,18 +17,17 @@ use Rattle.poets_value.specs.declared.value.Ty.TheVariants as T
 use Rattle.poets_expr.specs.Env.{Declared}
 use Rattle.poets_expr.specs.Same.{ty_place}
 use Rattle.poets_expr.proofs.SameTrees.{ty_one}
-use Rattle.poets_syntax.specs.Book.{Definition, Definitions, definition_of, definitions_of}
-use Rattle.poets_syntax.specs.declared.term.Book.{Book}
+use Rattle.poets_syntax.specs.Book.{Definitions}
 use Rattle.poets_syntax.specs.TypeOf.{Fault, WrongType, Verdict, Passes, Fails, ◌>>=◌, name_type, must_be, same_type}
 use Rattle.poets_syntax.specs.WellFormed.{IsDeclaredEvent}
 use Rattle.poets_syntax.proofs.Nullability.{CountsFit-fit}
-use Rattle.poets_syntax.proofs.Typedness.{ApplicationsFit-typed, IsWellFormed-typed}
+use Rattle.poets_syntax.proofs.Typedness.{passed, ApplicationsFit-typed, IsWellFormed-typed}
 use Rattle.poets_report.specs.Query.{Query}
 use Rattle.poets_call.specs.Calls.{Request, request_of}
 use Rattle.poets_call.specs.declared.call.Command.{Command as CodeCommand}
 use Rattle.poets_call.specs.Sentences.{Sentence, Clerk, Command}
 use Rattle.poets_call.specs.Declarations.{book_of, reports_of}
-use Rattle.poets_call.specs.TypedSentences.{NumberedFault, report_names, check_declared, check_event, check_request, check_sentence, or_else, first_of, twice_from, mistyped_from, first_fault}
+use Rattle.poets_call.specs.TypedSentences.{NumberedFault, report_names, check_declared, check_event, check_request, check_sentence, first_of, twice_from, mistyped_from, first_fault}
 use Rattle.poets_types.proofs.CheckedBooks.{or_else-none}
 use Rattle.poets_engine.specs.Rows.{IsTaken}
 use Rattle.poets_session.specs.Sessions.{commands_ahead, scripts_of, requests_of}
@@ -36,11 +35,6 @@ use Rattle.poets_top.specs.Scripts.{MayBeMade}
 use Rattle.poets_top.specs.Sessions.{is_built, all_built}
 
 -- ---- one command
-
--- what passes two checks passes each
-each_passes : (first next : Verdict (Unit {0})) → (first >>= λ _. next) ≡ Passes tt → (first ≡ Passes tt) × (next ≡ Passes tt)
-each_passes (Passes tt) next h = (refl, h)
-each_passes (Fails f) next h = absurd cc
 
 unfailed : (b : Bool) (next : Verdict (Unit {0})) (f : Fault) → (if b then next else Fails f) ≡ Passes tt → b ≡ true
 unfailed true next f h = refl
@@ -55,12 +49,12 @@ IsDeclaredEvent-checked : (declared : Declared) (e : Event) → check_event decl
 IsDeclaredEvent-checked declared e h =
     let kind = check_declared declared T.Kind e.what.kind in
     let receiver = check_declared declared T.Agent e.receiver in
-    let p = each_passes (check_declared declared T.Agent e.sender) (receiver >>= λ _. kind) h in
-    let q = each_passes receiver kind p.1 in
+    let p = passed (check_declared declared T.Agent e.sender) (λ _. receiver >>= λ _. kind) tt h in
+    let q = passed receiver (λ _. kind) tt p.2 in
     record {
-      sender = declared_as T.Agent e.sender (declared e.sender) p.0;
-      receiver = declared_as T.Agent e.receiver (declared e.receiver) q.0;
-      kind = declared_as T.Kind e.what.kind (declared e.what.kind) q.1;
+      sender = declared_as T.Agent e.sender (declared e.sender) p.1;
+      receiver = declared_as T.Agent e.receiver (declared e.receiver) q.1;
+      kind = declared_as T.Kind e.what.kind (declared e.what.kind) q.2;
     }
 
 IsTaken-checked : (book : Definitions) (reports : List Query) (r : Request) → is_built r ≡ true → check_request book reports r ≡ Passes tt → IsTaken book r

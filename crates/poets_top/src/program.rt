@@ -37,7 +37,8 @@ const LONGEST: usize = 16_777_216;
 /// history, one line by each call of `write` where the sink takes whole pieces.
 ///
 /// The words and the statuses are those of `docs/LANGUAGE.md`, "Words and statuses". A source that does not tell
-/// its bytes, as standard input does not, may have given any: the clauses then speak of those that it gave.
+/// its bytes, as standard input does not, may have given any: the clauses then say only that there are some bytes for
+/// which the run is right.
 pub fn run<S: Source, K: Sink>(
     alloc: Global,
     words: &[String],

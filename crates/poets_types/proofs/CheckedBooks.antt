@@ -21,6 +21,7 @@ use Rattle.poets_report.specs.Query.{Query}
 use Rattle.poets_call.specs.Sentences.{Sentence, Agents, Kinds, Template, Report, Clerk, Journal, Command, Numbered}
 use Rattle.poets_call.specs.Declarations.{agents_and_kinds, declared_by, template_in_statement, book_of, reports_of}
 use Rattle.poets_call.specs.TypedSentences.{NumberedFault, report_names, check_template, check_sentence, or_else, twice_from, mistyped_from}
+use Rattle.poets_syntax.proofs.TypedGivens.{neither}
 use Rattle.poets_syntax.proofs.Typedness.{passed}
 use Rattle.poets_types.proofs.Scopes.{same_name_laws}
 
@@ -96,10 +97,6 @@ record AreNew (earlier : List Name) (declared : Declared) (names : List Name) : 
   apart : IsDistinct same_name names
   free : All (IsFree earlier declared) names
   undeclared : (x : Name) → is_among earlier x ≡ true → declared x ≡ None
-
-neither : (a b : Bool) → (a || b) ≡ false → (a ≡ false) × (b ≡ false)
-neither true b e = absurd cc
-neither false b e = (refl, e)
 
 one_more : (earlier : List Name) (declared : Declared) (x : Name) (names : List Name) → is_among earlier x ≡ false → AreNew (x ∷ earlier) declared names → AreNew earlier declared (x ∷ names)
 unfolding IsFree

@@ -25,7 +25,7 @@ impl Model for Day {
 }
 
 impl Day {
-    /// The day with that number, counted from 1970-01-01.
+    /// The day with that number, counted from 1970-01-01, or `None` outside 0001-01-01 to 9999-12-31.
     pub fn from_number(number: i64) -> Option<Day>
         ensures some { IfSome result (λ d. d ≡ number) }
         ensures range { IsSome result ↔ IsDayNumber number }
@@ -46,7 +46,7 @@ impl Day {
         self.number as i64
     }
 
-    /// The day that many days later.
+    /// The day that many days later, or `None` outside 0001-01-01 to 9999-12-31.
     pub fn plus_days(&self, count: i64) -> Option<Day>
         ensures some { IfSome result (λ d. d ≡ self.now +ℤ count) }
         ensures range { IsSome result ↔ IsDayNumber (self.now +ℤ count) }

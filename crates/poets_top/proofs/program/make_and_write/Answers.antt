@@ -1,6 +1,5 @@
-use Rattle.std.proofs.Common.{◌≡◌, refl, sym, ◌∙◌, ap, subst}
+use Rattle.std.proofs.Common.{refl, sym, ◌∙◌, ap, subst}
 use Rattle.std.specs.List.{All}
-use Rattle.poets_syntax.specs.Book.{definitions_of}
 use Rattle.poets_call.specs.Calls.{history_of}
 use Rattle.poets_engine.specs.State.{frame_by}
 use Rattle.poets_session.specs.Sessions.{requests_of}

@@ -1,5 +1,4 @@
-use Rattle.std.proofs.Common.{rules, arith, ◌≡◌, ◌<◌, ◌++◌, ◌∷◌, [], map, false, sym, ◌∙◌, ap, refl, length}
-use Rattle.poets_table.specs.Kept.{AreNames}
+use Rattle.std.proofs.Common.{arith, ◌++◌, ◌∷◌, [], map, false, sym, ◌∙◌, ap, refl}
 use Rattle.poets_table.specs.TableView.{number_named}
 use Rattle.poets_table.proofs.Setting.{added_names}
 use Rattle.poets_table.proofs.table.Table.add.Goals as goal

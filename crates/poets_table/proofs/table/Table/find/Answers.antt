@@ -1,4 +1,4 @@
-use Rattle.std.proofs.Common.{rules, ◌≡◌, sym, ◌∙◌, ap, option_map, ◌+◌}
+use Rattle.std.proofs.Common.{sym, ◌∙◌, ap, option_map, ◌+◌}
 use Rattle.poets_table.specs.TableView.{number_named}
 use Rattle.poets_table.proofs.Setting.{numbers}
 use Rattle.poets_table.proofs.table.Table.find.Goals as goal

@@ -1,4 +1,4 @@
-use Rattle.std.proofs.Common.{rules, ◌≡◌, sym, ◌∙◌}
+use Rattle.std.proofs.Common.{sym, ◌∙◌}
 use Rattle.poets_table.proofs.Setting.{still_ready}
 use Rattle.poets_table.proofs.table.Table.finish.Goals as goal
 
