@@ -1,5 +1,9 @@
-//! `poets check` reads a book and `poets run` a session from standard input; both write to standard output.
+//! `poets check` reads a book, `poets run` a session and `poets replay` a journal from standard input; all write to
+//! standard output.
 #![tactic(auto)]
+
+ghost use Rattle.std.specs.Prelude.{◌≡◌};
+ghost use Rattle.std.specs.Process.{exit_status};
 
 use poets_io::{StdSink, StdSource};
 use poets_top::{NO_MEMORY, READ_FAULT, USAGE, WRITE_FAULT, run};
@@ -21,14 +25,16 @@ fn main(rt: HostRuntime) -> ExitCode {
     }
     let mut source = StdSource::new(rt.reader());
     let mut sink = StdSink::new(io::writer(&rt));
-    let outcome = run(rt.alloc(), words.as_slice(), &mut source, &mut sink);
+    let outcome = run(&rt, rt.alloc(), words.as_slice(), &mut source, &mut sink);
     end(&rt, outcome.status)
 }
 
 // Ends with the status, and tells on standard error what standard output does not.
-fn end(rt: &HostRuntime, status: u8) -> ExitCode {
+fn end(rt: &HostRuntime, status: u8) -> ExitCode
+    ensures { exit_status result ≡ status }
+{
     let _ = match status {
-        USAGE => eprintln!(rt; "usage: poets check | run"),
+        USAGE => eprintln!(rt; "usage: poets check | run | replay"),
         NO_MEMORY => eprintln!(rt; "poets: out of memory"),
         READ_FAULT => eprintln!(rt; "poets: standard input cannot be read"),
         WRITE_FAULT => eprintln!(rt; "poets: standard output cannot be written"),

@@ -16,7 +16,9 @@ use Rattle.poets_syntax.specs.May.{May}
 use Rattle.poets_syntax.specs.Plain.{plain}
 use Rattle.poets_report.specs.Keys.{Key, same_key}
 use Rattle.poets_report.specs.Query.{Query, folded, key_on, with_key}
-use Rattle.poets_report.specs.Answers.{Finding, row_at, if_any}
+use Rattle.poets_report.specs.Answers.{Finding}
+use Rattle.poets_report.specs.Keyed.{row_at}
+use Rattle.poets_report.proofs.FoldsByKey.{if_any, rows_by_key}
 use Rattle.poets_call.specs.Calls.{Request, Response, HistoryEntry}
 use Rattle.poets_call.specs.Frame.{Frame}
 use Rattle.poets_call.specs.Plain.{plain_frame}
@@ -188,7 +190,7 @@ trade_is_legal =
     let h₈ : Legal frame (take 8 trade) = Legal.More _ h₇
     (inr (no, inr ((0, May.Taken refl (May.Taken refl May.Done)), inr (is_not_too_large (omega arith), (true, (λ _. two_are_enough, λ _. refl), refl))))) in
     let h₉ : Legal frame (take 9 trade) = Legal.More _ h₈
-    (moved, refl, (Finding.Rows ((Some (V.Kind oil), Some (V.Int (pos 7))) ∷ []), record { rising = tt; each = seven_moved }, refl)) in
+    (moved, refl, (Finding.Rows ((Some (V.Kind oil), Some (V.Int (pos 7))) ∷ []), rows_by_key declared moved [] _ _ _ tt seven_moved, refl)) in
     let h₁₀ : Legal frame (take 10 trade) = Legal.More _ h₉ refl in
     let h₁₁ : Legal frame (take 11 trade) = Legal.More _ h₁₀ refl in
     let h₁₂ : Legal frame (take 12 trade) = Legal.More _ h₁₁ (sum, refl, (Finding.Single (Some (V.Int (pos 7))), refl, refl)) in

@@ -2,3 +2,5 @@ pub mod OneReplies
 pub mod Histories
 pub mod OneFrames
 pub mod Examples
+pub mod TypedRequests
+pub mod Reports

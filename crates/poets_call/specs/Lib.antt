@@ -7,3 +7,6 @@ pub mod Laws
 pub mod Sentences
 pub mod Declarations
 pub mod TypedSentences
+pub mod Rules
+pub mod Histories
+pub mod Taken

@@ -1,5 +1,5 @@
 //! Laws of replies, each carried by a function that does nothing.
-ghost use Rattle.poets_call.specs.Laws.{OneReply, OneHistory, OneFrame};
+ghost use Rattle.poets_call.specs.Laws.{OneReply, OneHistory, OneFrame, AnyFrame, AnyFrameAnswers, TypedRegistration, TypedEvent, TypedReport};
 
 /// After the same history a command has at most one reply.
 pub fn one_reply()
@@ -14,4 +14,29 @@ pub fn one_history()
 /// Which histories are legal depends on the book and the reports alone.
 pub fn one_frame()
     ensures { OneFrame }
+{}
+
+/// Whether a history is legal for a book and its reports may be asked in any frame of them.
+pub fn any_frame()
+    ensures { AnyFrame }
+{}
+
+/// So may be asked which reply answers a command after those calls.
+pub fn any_frame_answers()
+    ensures { AnyFrameAnswers }
+{}
+
+/// A typed registration is of a well-formed contract with the right numbers of arguments.
+pub fn typed_registration()
+    ensures { TypedRegistration }
+{}
+
+/// A typed transmission is of an event whose agents and kind are declared as such.
+pub fn typed_event()
+    ensures { TypedEvent }
+{}
+
+/// A typed tally, portfolio or watch is of a report that takes so many arguments.
+pub fn typed_report()
+    ensures { TypedReport }
 {}

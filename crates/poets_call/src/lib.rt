@@ -3,10 +3,15 @@
 
 mod call;
 mod laws;
+mod rules;
 mod statement;
 #[cfg(test)]
 mod tests;
 
 pub use call::{Command, Entry, Folio, Reply};
-pub use laws::{one_frame, one_history, one_reply};
+pub use laws::{
+    any_frame, any_frame_answers, one_frame, one_history, one_reply, typed_event,
+    typed_registration, typed_report,
+};
+pub use rules::{Rules, report_of};
 pub use statement::Statement;

@@ -1,10 +1,14 @@
 -- Rows under a ledger that grows.
-use Rattle.std.proofs.Common.{◌≡◌, ◌≢◌, ℕ, zero, suc, ◌+◌, ◌<◌, ◌≤◌, false, nat_eq, List, [], ◌∷◌, ◌++◌, Some, map, length, slice_get, refl, sym, ◌∙◌, ap, subst, arith, inl, inr, append-nil}
-use Rattle.std.specs.Prelude.{filter}
+use Rattle.std.proofs.Common.{◌≡◌, ◌≢◌, ℕ, zero, suc, ◌+◌, ◌<◌, ◌≤◌, Bool, true, false, ◌||◌, nat_eq, List, [], ◌∷◌, ◌++◌, Some, None, map, length, slice_get, refl, sym, ◌∙◌, ap, subst, arith, inl, inr, append-nil}
+use Rattle.std.specs.Prelude.{ℤ, ◌≤ℤ◌, int_lt, filter}
 use Rattle.std.specs.List.{All, list_any}
+use Rattle.std.proofs.Math.Bool.{or-false, or-true}
+use Rattle.std.specs.Int.Signed.{lt_z_no}
+use Rattle.std.proofs.lemmas.Float.{T_from_false}
 use Rattle.std.proofs.lemmas.Bool.{eqb-true, eq-eqb}
 use Rattle.std.proofs.lemmas.List.{map-append}
-use Rattle.std.proofs.lemmas.List.Elements.{filter-append, All-nil, All-cons, All-append, All-get_or}
+use Rattle.std.proofs.lemmas.List.Folds.{list_any-append}
+use Rattle.std.proofs.lemmas.List.Elements.{filter-append, All-nil, All-cons, All-head, All-tail, All-append, All-get_or}
 use Rattle.std.proofs.lemmas.Option.{get_or_from_slice_get, slice_get_within}
 use Rattle.poets_value.specs.declared.value.Name.{Name}
 use Rattle.poets_value.specs.declared.event.Event.{Event}
@@ -14,16 +18,20 @@ use Rattle.poets_syntax.specs.Book.{Definitions, definitions_of}
 use Rattle.poets_syntax.specs.Studied.{StudiedBook, marks_of}
 use Rattle.poets_syntax.specs.declared.term.Term.{Term}
 use Rattle.poets_syntax.specs.WellFormed.{IsWellFormed, IsDeclaredEvent}
+use Rattle.poets_value.specs.Whole.{IsWholeEvent}
+use Rattle.poets_syntax.specs.Whole.{IsWholeContract}
+use Rattle.poets_norm.proofs.WholeNormals.{IsWhole-normal}
+use Rattle.poets_syntax.specs.Marks.{Hopeful}
 use Rattle.poets_syntax.specs.Residual.{after}
 use Rattle.poets_syntax.specs.Normal.{normal}
 use Rattle.poets_syntax.specs.Width.{width}
 use Rattle.poets_residue.specs.Unfolding.{IsStudied}
 use Rattle.poets_residue.proofs.Traces.{residual_after-more, trace_fit}
-use Rattle.poets_table.specs.TableView.{RowView, changed_at, with_event, new_row}
-use Rattle.poets_call.specs.Ledger.{Ledger, trace}
+use Rattle.poets_table.specs.TableView.{RowView, changed_at, with_event, finished, new_row}
+use Rattle.poets_call.specs.Ledger.{Ledger, trace, is_ended, late_day, if_after}
 use Rattle.poets_call.specs.Replies.{widest}
-use Rattle.poets_engine.specs.Rows.{RowIs, RowsAre}
-use Rattle.poets_engine.specs.Steps.{IsKept, AreKept}
+use Rattle.poets_engine.specs.Rows.{NeverFall, RowIs, RowsAre}
+use Rattle.poets_engine.specs.Choices.{IsKept, AreKept}
 use Rattle.poets_engine.proofs.Named.{truth, named}
 
 -- the book that was studied
@@ -34,55 +42,71 @@ book_in s = definitions_of s.book
 abbrev numbered : ℕ → List (ℕ × Event) → List (ℕ × Event)
 numbered i log = filter (λ p. nat_eq p.0 i) log
 
-tail : {A : Type 0} (P : A → Type 0) (x : A) (xs : List A) → All P (x ∷ xs) → All P xs
-tail P x xs h = λ k d lt. h (suc k) d (omega (arith, lt))
-
-head : {A : Type 0} (P : A → Type 0) (x : A) (xs : List A) → All P (x ∷ xs) → P x
-head P x xs h = h 0 x (omega arith)
-
 below_no : (n m i : ℕ) → m ≤ n → n < i → nat_eq m i ≡ false
 below_no n m i h k = elim (truth (nat_eq m i)) [ inr e ↦ e | inl y ↦ absurd (let e = eqb-true m i y in omega (arith, h, k, e)) ]
+
+other_number : (n i : ℕ) → n ≢ i → nat_eq n i ≡ false
+other_number n i h = elim (truth (nat_eq n i)) [ inr e ↦ e | inl y ↦ absurd (h (eqb-true n i y)) ]
 
 -- a number past all those of the log has no events
 numbered-past : (n i : ℕ) (log : List (ℕ × Event)) → All (λ p. p.0 ≤ n) log → n < i → numbered i log ≡ []
 numbered-past n i [] h k = refl
 numbered-past n i (p ∷ log) h k =
-    rw (below_no n p.0 i (head (λ p. p.0 ≤ n) p log h) k) (numbered-past n i log (tail (λ p. p.0 ≤ n) p log h) k)
+    rw (below_no n p.0 i (All-head (λ p. p.0 ≤ n) p log h) k) (numbered-past n i log (All-tail (λ p. p.0 ≤ n) p log h) k)
 
 ended-past : (n i : ℕ) (ends : List ℕ) → All (λ m. m ≤ n) ends → n < i → list_any (λ m. nat_eq m i) ends ≡ false
 ended-past n i [] h k = refl
 ended-past n i (m ∷ ends) h k =
-    rw (below_no n m i (head (λ m. m ≤ n) m ends h) k) (ended-past n i ends (tail (λ m. m ≤ n) m ends h) k)
+    rw (below_no n m i (All-head (λ m. m ≤ n) m ends h) k) (ended-past n i ends (All-tail (λ m. m ≤ n) m ends h) k)
 
 -- one more contract
 abbrev pub with_contract : Ledger → Name → Contract → Ledger
 with_contract l x c = record l { contracts = l.contracts ++ (x, c) ∷ [] }
 
-row_kept : (s : StudiedBook) (l : Ledger) (x : Name) (c : Contract) (i : ℕ) (r : RowView Term) → RowIs s l i r → RowIs s (with_contract l x c) i r
-row_kept s l x c i r h = record { events = h.events; ended = h.ended; formed = h.formed; fit = h.fit; declared = h.declared; current = h.current; narrow = h.narrow }
+-- a row of which two ledgers say the same
+row_same : (s : StudiedBook) (l m : Ledger) (i : ℕ) (r : RowView Term) → trace m i ≡ trace l i → is_ended m i ≡ is_ended l i → RowIs s l i r → RowIs s m i r
+row_same s l m i r events ended h = record {
+  events = h.events ∙ sym events;
+  ended = h.ended ∙ sym ended;
+  formed = h.formed;
+  fit = h.fit;
+  declared = h.declared;
+  days = h.days;
+  current = h.current;
+  hopeful = h.hopeful;
+  narrow = h.narrow;
+  whole_original = h.whole_original;
+  whole_events = h.whole_events;
+  whole_current = h.whole_current;
+}
 
 -- the rows before it stay, and the new row stands after them
 pub rows_added : (s : StudiedBook) (l : Ledger) (x : Name) (c : Contract) (i : ℕ) (rows : List (RowView Term)) (r : RowView Term) →
     RowsAre s l i rows → RowIs s (with_contract l x c) (i + length rows) r → RowsAre s (with_contract l x c) i (rows ++ r ∷ [])
 rows_added s l x c i [] r h k = (subst (λ n. RowIs s (with_contract l x c) n r) (let z : i + 0 ≡ i = omega arith in z) k, tt)
 rows_added s l x c i (q ∷ rows) r h k = (
-  row_kept s l x c i q h.0,
+  row_same s l (with_contract l x c) i q refl refl h.0,
   rows_added s l x c (suc i) rows r h.1 (subst (λ n. RowIs s (with_contract l x c) n r) (let z : i + suc (length rows) ≡ suc i + length rows = omega arith in z) k),
 )
 
 -- the new row of a contract
 pub new_row_is : (s : StudiedBook) (l : Ledger) (x : Name) (c : Contract) (n : ℕ) (original current : Term) →
     All (λ p. p.0 ≤ n) l.log → All (λ m. m ≤ n) l.ends → IsWellFormed (book_in s).declared (contract_of original) → CountsFit (book_in s) (contract_of original) →
-    contract_of current ≡ normal (book_in s) (marks_of s) (contract_of original) → width (book_in s) (marks_of s) (contract_of current) ≤ widest →
-    RowIs s (with_contract l x c) (1 + n) (new_row x original current)
-new_row_is s l x c n original current logged ended formed fit e narrow = record {
+    contract_of current ≡ normal (book_in s) (marks_of s) (contract_of original) → Hopeful (book_in s) (contract_of current) →
+    width (book_in s) (marks_of s) (contract_of current) ≤ widest → IsWholeContract (contract_of original) → RowIs s (with_contract l x c) (1 + n) (new_row x original current)
+new_row_is s l x c n original current logged ended formed fit e hopeful narrow whole = record {
   events = sym (ap (map (λ p. p.1)) (numbered-past n (1 + n) l.log logged (omega arith)));
   ended = sym (ended-past n (1 + n) l.ends ended (omega arith));
   formed = formed;
   fit = fit;
   declared = All-nil (IsDeclaredEvent (book_in s).declared);
+  days = tt;
   current = e;
+  hopeful = hopeful;
   narrow = narrow;
+  whole_original = whole;
+  whole_events = All-nil IsWholeEvent;
+  whole_current = subst IsWholeContract (sym e) (IsWhole-normal (book_in s) (marks_of s) (contract_of original) whole);
 }
 
 -- one more event of a contract
@@ -96,57 +120,121 @@ trace-same l n e =
 
 trace-other : (l : Ledger) (n i : ℕ) (e : Event) → n ≢ i → trace (with_log l n e) i ≡ trace l i
 trace-other l n i e h =
-    let no : nat_eq n i ≡ false = elim (truth (nat_eq n i)) [ inr q ↦ q | inl y ↦ absurd (h (eqb-true n i y)) ] in
-    ap (map (λ p. p.1)) (filter-append (λ p. nat_eq p.0 i) l.log ((n, e) ∷ []) ∙ rw no (append-nil (numbered i l.log)))
+    ap (map (λ p. p.1)) (filter-append (λ p. nat_eq p.0 i) l.log ((n, e) ∷ []) ∙ rw (other_number n i h) (append-nil (numbered i l.log)))
 
-row_other : (s : StudiedBook) (l : Ledger) (n i : ℕ) (e : Event) (r : RowView Term) → n ≢ i → RowIs s l i r → RowIs s (with_log l n e) i r
-row_other s l n i e r ne h = record {
-  events = h.events ∙ sym (trace-other l n i e ne);
-  ended = h.ended;
-  formed = h.formed;
-  fit = h.fit;
-  declared = h.declared;
-  current = h.current;
-  narrow = h.narrow;
-}
+-- an event of a day that is not before the last one
+not_before : (day last : ℤ) → if_after day (Some last) ≡ None → last ≤ℤ day
+not_before day last e = elim (truth (int_lt day last)) [
+  | inl y ↦ absurd (let z : Some last ≡ None = rw y at e in cc)
+  | inr n ↦ lt_z_no (T_from_false (int_lt day last) n)
+]
 
-rows_other : (s : StudiedBook) (l : Ledger) (n i : ℕ) (e : Event) (rows : List (RowView Term)) → n < i → RowsAre s l i rows → RowsAre s (with_log l n e) i rows
-rows_other s l n i e [] lt h = tt
-rows_other s l n i e (r ∷ rows) lt h = (row_other s l n i e r (omega (arith, lt)) h.0, rows_other s l n (suc i) e rows (omega (arith, lt)) h.1)
+NeverFall-more : (events : List Event) (e : Event) → NeverFall events → late_day events e.day ≡ None → NeverFall (events ++ e ∷ [])
+NeverFall-more [] e h in_time = tt
+NeverFall-more (d ∷ []) e h in_time = (not_before e.day d.day in_time, tt)
+NeverFall-more (d ∷ d' ∷ events) e h in_time = (h.0, NeverFall-more (d' ∷ events) e h.1 in_time)
 
-pub row_this : (s : StudiedBook) (l : Ledger) (n : ℕ) (e : Event) (r : RowView Term) (next : Term) → RowIs s l n r → IsDeclaredEvent (book_in s).declared e →
-    contract_of next ≡ after (book_in s) (marks_of s) e (contract_of r.current) → width (book_in s) (marks_of s) (contract_of next) ≤ widest →
-    RowIs s (with_log l n e) n (with_event e next r)
-row_this s l n e r next h declared is narrow = record {
+-- what an event leaves of a row's contract, where it may be recorded
+pub record IsNext (s : StudiedBook) (r : RowView Term) (e : Event) (next : Term) : Type 0 where
+  pub event : IsDeclaredEvent (book_in s).declared e
+  pub whole_event : IsWholeEvent e
+  pub in_time : late_day r.events e.day ≡ None
+  pub residual : contract_of next ≡ after (book_in s) (marks_of s) e (contract_of r.current)
+  pub hopeful : Hopeful (book_in s) (contract_of next)
+  pub narrow : width (book_in s) (marks_of s) (contract_of next) ≤ widest
+  pub whole : IsWholeContract (contract_of next)
+
+-- the row with the number has the event too
+row_this : (s : StudiedBook) (l : Ledger) (n : ℕ) (e : Event) (r : RowView Term) (next : Term) → RowIs s l n r → IsNext s r e next → RowIs s (with_log l n e) n (with_event e next r)
+row_this s l n e r next h new = record {
   events = ap (λ t. t ++ e ∷ []) h.events ∙ sym (trace-same l n e);
   ended = h.ended;
   formed = h.formed;
   fit = h.fit;
   declared = All-append (IsDeclaredEvent (book_in s).declared) r.events (e ∷ []) h.declared
-      (All-cons (IsDeclaredEvent (book_in s).declared) e [] declared (All-nil (IsDeclaredEvent (book_in s).declared)));
-  current = is ∙ ap (after (book_in s) (marks_of s) e) h.current ∙ sym (residual_after-more (book_in s) (marks_of s) (contract_of r.original) r.events e);
-  narrow = narrow;
+      (All-cons (IsDeclaredEvent (book_in s).declared) e [] new.event (All-nil (IsDeclaredEvent (book_in s).declared)));
+  days = NeverFall-more r.events e h.days new.in_time;
+  current = new.residual ∙ ap (after (book_in s) (marks_of s) e) h.current ∙ sym (residual_after-more (book_in s) (marks_of s) (contract_of r.original) r.events e);
+  hopeful = new.hopeful;
+  narrow = new.narrow;
+  whole_original = h.whole_original;
+  whole_events = All-append IsWholeEvent r.events (e ∷ []) h.whole_events (All-cons IsWholeEvent e [] new.whole_event (All-nil IsWholeEvent));
+  whole_current = new.whole;
 }
 
+-- one more end
+abbrev pub with_end : Ledger → ℕ → Ledger
+with_end l n = record l { ends = l.ends ++ n ∷ [] }
+
+ended-last : (n i : ℕ) (b : Bool) (l : Ledger) → nat_eq n i ≡ b → is_ended (with_end l n) i ≡ is_ended l i || b
+ended-last n i b l e = list_any-append (λ m. nat_eq m i) l.ends (n ∷ []) ∙ ap (λ c. is_ended l i || c) (or-false (nat_eq n i) ∙ e)
+
+-- the row with the number is ended
+row_ended : (s : StudiedBook) (l : Ledger) (n : ℕ) (r : RowView Term) → RowIs s l n r → RowIs s (with_end l n) n (finished r)
+row_ended s l n r h = record {
+  events = h.events;
+  ended = sym (ended-last n n true l (eq-eqb n n refl) ∙ or-true (is_ended l n));
+  formed = h.formed;
+  fit = h.fit;
+  declared = h.declared;
+  days = h.days;
+  current = h.current;
+  hopeful = h.hopeful;
+  narrow = h.narrow;
+  whole_original = h.whole_original;
+  whole_events = h.whole_events;
+  whole_current = h.whole_current;
+}
+
+ended-other : (l : Ledger) (n i : ℕ) → n ≢ i → is_ended (with_end l n) i ≡ is_ended l i
+ended-other l n i ne = ended-last n i false l (other_number n i ne) ∙ or-false (is_ended l i)
+
+-- ---- one row of all
+
+-- where a ledger says the same of all numbers but one, a change of the row with this number gives its rows
+module _ (s : StudiedBook) (l m : Ledger) (n : ℕ) (change : RowView Term → RowView Term)
+    (events : (i : ℕ) → n ≢ i → trace m i ≡ trace l i) (ends : (i : ℕ) → n ≢ i → is_ended m i ≡ is_ended l i) where
+  other : (i : ℕ) (r : RowView Term) → n ≢ i → RowIs s l i r → RowIs s m i r
+  other i r ne h = row_same s l m i r (events i ne) (ends i ne) h
+
+  rows_after : (i : ℕ) (rows : List (RowView Term)) → n < i → RowsAre s l i rows → RowsAre s m i rows
+  rows_after i [] lt h = tt
+  rows_after i (r ∷ rows) lt h = (other i r (omega (arith, lt)) h.0, rows_after (suc i) rows (omega (arith, lt)) h.1)
+
+  rows_from : (i k : ℕ) (rows : List (RowView Term)) (r : RowView Term) → n ≡ i + k → RowsAre s l i rows → slice_get rows k ≡ Some r → RowIs s m n (change r) →
+      RowsAre s m i (changed_at change k rows)
+  rows_from i k [] r at h found new = tt
+  rows_from i zero (q ∷ rows) r at h found new =
+      let same : r ≡ q = cc in
+      let place : n ≡ i = omega (arith, at) in (
+        subst (λ j. RowIs s m j (change q)) place (subst (λ x. RowIs s m n (change x)) same new),
+        rows_after (suc i) rows (omega (arith, place)) h.1,
+      )
+  rows_from i (suc k) (q ∷ rows) r at h found new =
+      (other i q (omega (arith, at)) h.0, rows_from (suc i) k rows r (omega (arith, at)) h.1 found new)
+
 -- the row at a place takes the event, and the other rows stay
-pub rows_recorded : (s : StudiedBook) (l : Ledger) (n i k : ℕ) (e : Event) (next : Term) (rows : List (RowView Term)) (r : RowView Term) → n ≡ i + k →
-    RowsAre s l i rows → slice_get rows k ≡ Some r → RowIs s (with_log l n e) n (with_event e next r) →
-    RowsAre s (with_log l n e) i (changed_at (with_event e next) k rows)
-rows_recorded s l n i k e next [] r at h found new = tt
-rows_recorded s l n i zero e next (q ∷ rows) r at h found new =
-    let same : r ≡ q = cc in
-    let place : n ≡ i = omega (arith, at) in (
-      subst (λ m. RowIs s (with_log l n e) m (with_event e next q)) place (subst (λ x. RowIs s (with_log l n e) n (with_event e next x)) same new),
-      rows_other s l n (suc i) e rows (omega (arith, place)) h.1,
-    )
-rows_recorded s l n i (suc k) e next (q ∷ rows) r at h found new =
-    (row_other s l n i e q (omega (arith, at)) h.0, rows_recorded s l n (suc i) k e next rows r (omega (arith, at)) h.1 found new)
+pub rows_recorded : (s : StudiedBook) (l : Ledger) (k : ℕ) (e : Event) (next : Term) (rows : List (RowView Term)) (r : RowView Term) →
+    RowsAre s l 1 rows → slice_get rows k ≡ Some r → RowIs s l (1 + k) r → IsNext s r e next →
+    RowsAre s (with_log l (1 + k) e) 1 (changed_at (with_event e next) k rows)
+rows_recorded s l k e next rows r h found row new =
+    rows_from s l (with_log l (1 + k) e) (1 + k) (with_event e next) (λ i ne. trace-other l (1 + k) i e ne) (λ i ne. refl) 1 k rows r refl h found (row_this s l (1 + k) e r next row new)
+
+-- the row at a place is ended, and the other rows stay
+pub rows_ended : (s : StudiedBook) (l : Ledger) (k : ℕ) (rows : List (RowView Term)) (r : RowView Term) →
+    RowsAre s l 1 rows → slice_get rows k ≡ Some r → RowIs s l (1 + k) r → RowsAre s (with_end l (1 + k)) 1 (changed_at finished k rows)
+rows_ended s l k rows r h found row =
+    rows_from s l (with_end l (1 + k)) (1 + k) finished (λ i ne. refl) (λ i ne. ended-other l (1 + k) i ne) 1 k rows r refl h found (row_ended s l (1 + k) r row)
 
 -- a changed row keeps its name and its original
-pub named-changed_at : (k : ℕ) (e : Event) (next : Term) (rows : List (RowView Term)) → map named (changed_at (with_event e next) k rows) ≡ map named rows
-named-changed_at k e next [] = refl
-named-changed_at zero e next (r ∷ rows) = refl
-named-changed_at (suc k) e next (r ∷ rows) = ap (λ ps. named r ∷ ps) (named-changed_at k e next rows)
+pub named-changed_at : (change : RowView Term → RowView Term) → ((r : RowView Term) → named (change r) ≡ named r) → (k : ℕ) (rows : List (RowView Term)) →
+    map named (changed_at change k rows) ≡ map named rows
+named-changed_at change same k [] = refl
+named-changed_at change same zero (r ∷ rows) = ap (λ p. p ∷ map named rows) (same r)
+named-changed_at change same (suc k) (r ∷ rows) = ap (λ ps. named r ∷ ps) (named-changed_at change same k rows)
+
+pub place_below : {A : Type 0} (xs : List A) (k : ℕ) (x : A) → slice_get xs k ≡ Some x → 1 + k ≤ length xs
+place_below xs k x e = let h = slice_get_within xs k x e in omega (arith, h)
 
 pub length-changed_at : {A : Type 0} (f : A → A) (k : ℕ) (xs : List A) → length (changed_at f k xs) ≡ length xs
 length-changed_at f k [] = refl

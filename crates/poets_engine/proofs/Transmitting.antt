@@ -1,165 +1,179 @@
--- A transmission goes from ledger to ledger.
-use Rattle.std.proofs.Common.{◌≡◌, ℕ, zero, suc, ◌+◌, ◌-◌, ◌<◌, ◌≤◌, Bool, true, false, nat_lt, ℤ, List, [], ◌∷◌, ◌++◌, Option, Some, None, map, length, slice_get, option_map, refl, sym, ◌∙◌, ap, subst, arith, inl, inr}
+-- A transmission is made.
+use Rattle.std.proofs.Common.{◌≡◌, ℕ, ◌+◌, ◌-◌, ◌<◌, ◌≤◌, Bool, true, false, nat_lt, ℤ, List, [], ◌∷◌, ◌++◌, Option, Some, None, map, length, slice_get, refl, sym, ◌∙◌, ap, subst, arith, inl, inr}
 use Rattle.std.specs.Prelude.{IsTrue, ◌↔◌}
-use Rattle.std.specs.List.{position, All}
+use Rattle.std.specs.List.{All}
 use Rattle.std.proofs.lemmas.List.Elements.{All-nil, All-cons, All-append}
 use Rattle.poets_value.specs.declared.value.Name.{Name}
 use Rattle.poets_value.specs.declared.event.Event.{Event}
 use Rattle.poets_syntax.specs.Contract.{Contract, contract_of}
 use Rattle.poets_syntax.specs.declared.term.Term.{Term}
 use Rattle.poets_syntax.specs.Perf.{Perf}
+use Rattle.poets_syntax.specs.Marks.{Hopeful}
 use Rattle.poets_syntax.specs.May.{May}
 use Rattle.poets_syntax.specs.WellFormed.{IsDeclaredEvent}
-use Rattle.poets_syntax.specs.Studied.{StudiedBook, marks_of}
+use Rattle.poets_syntax.specs.Whole.{IsWholeContract}
+use Rattle.poets_syntax.specs.Studied.{marks_of}
 use Rattle.poets_syntax.specs.Residual.{after, residual_after}
 use Rattle.poets_syntax.specs.Width.{width}
-use Rattle.poets_residue.specs.Unfolding.{IsStudied}
+use Rattle.poets_residue.proofs.WholeResiduals.{IsWhole-after_at}
 use Rattle.poets_residue.proofs.Traces.{residual_after-more}
-use Rattle.poets_report.specs.declared.report.Report.{Report}
-use Rattle.poets_table.specs.TableView.{TableView, RowView, changed_at, with_event}
+use Rattle.poets_table.specs.TableView.{RowView, changed_at, with_event, number_named}
+use Rattle.poets_call.specs.declared.rules.Rules.{Rules}
+use Rattle.poets_call.specs.Rules.{book_of, reports_of}
 use Rattle.poets_call.specs.Calls.{Request, Response}
-use Rattle.poets_call.specs.Ledger.{Ledger, with_entry, contract_named, contract_from, number_of, number_in, trace, is_ended, late_day}
+use Rattle.poets_call.specs.Ledger.{Ledger, contract_named, number_in, trace, is_ended, late_day}
 use Rattle.poets_call.specs.Replies.{Transmits, Records, widest}
-use Rattle.poets_engine.specs.State.{HasRightMarks, frame_by}
-use Rattle.poets_engine.specs.Rows.{IsLedger, RowsAre, RowIs}
-use Rattle.poets_engine.specs.Steps.{is_failure, judged, unless_over, Unchanged, Chooses, RowTransmits, NumberTransmits, TransmitsTable}
-use Rattle.poets_engine.proofs.Named.{named, has_name, contract_from-none, contract_from-some, row_is}
-use Rattle.poets_engine.proofs.Rows.{book_in, with_log, rows_recorded, row_this, named-changed_at, length-changed_at}
-use Rattle.poets_engine.proofs.Registering.{Goes, same_ledger}
-use Rattle.poets_engine.proofs.Owed.{residual_hopeless, residual_hopeful, failure_is, no_failure, past_limit, within_limit, residual_performed}
+use Rattle.poets_call.specs.Taken.{IsTaken}
+use Rattle.poets_call.proofs.TypedRequests.{typed_event}
+use Rattle.poets_engine.specs.Store.{StoreView, RecordsEvent}
+use Rattle.poets_engine.specs.Rows.{IsLedger, RowsAre}
+use Rattle.poets_engine.specs.Choices.{Refused, Kept, is_failure, judged, unless_over, choice_by}
+use Rattle.poets_engine.specs.Makes.{Makes}
+use Rattle.poets_engine.proofs.Named.{named}
+use Rattle.poets_engine.proofs.Rows.{with_log, IsNext, place_below, rows_recorded, named-changed_at, length-changed_at}
+use Rattle.poets_engine.proofs.Standing.{frame_by, marks_by, study, Stood, leaves, changes, stood, absent}
+use Rattle.poets_engine.proofs.WatchLedgers.{watches_recorded}
+use Rattle.poets_engine.proofs.Owed.{residual_hopeless, residual_hopeful, residual_kept, failure_is, no_failure, past_limit, within_limit, residual_performed}
 
-place_below : (rows : List (RowView Term)) (k : ℕ) (r : RowView Term) → slice_get rows k ≡ Some r → 1 + k ≤ length rows
-place_below [] k r e = absurd cc
-place_below (q ∷ rows) zero r e = omega arith
-place_below (q ∷ rows) (suc k) r e = let h = place_below rows k r e in omega (arith, h)
+module _ (rules : Rules) (x : Name) (e : Event) (old : StoreView) where
+  pub transmit_absent : number_named x old.rows ≡ None → Makes rules (Request.Transmit x e) old old (Response.NoContract x)
+  transmit_absent none =
+      leaves rules (Request.Transmit x e) (Response.NoContract x) old (λ l. refl) (λ l h right. rw (absent rules l x old h none) refl)
 
-module _ (s : StudiedBook) (study : IsStudied (book_in s) (marks_of s)) (reports : List Report) (l : Ledger)
-    (x : Name) (e : Event) (event : IsDeclaredEvent (book_in s).declared e)
-    (old new : TableView Term) (response : Response) (h : IsLedger s l old.rows old.log) where
-  refused : (r : Response) → Unchanged old new → response ≡ r → with_entry l (Request.Transmit x e) r ≡ l → IsLedger s (with_entry l (Request.Transmit x e) response) new.rows new.log
-  refused r u q k = same_ledger s l (with_entry l (Request.Transmit x e) response) old new u (ap (with_entry l (Request.Transmit x e)) q ∙ k) h
+  module _ (is_taken : IsTaken (book_of rules) (reports_of rules) (Request.Transmit x e)) (n : ℕ) (r : RowView Term)
+      (found : number_named x old.rows ≡ Some n) (row : slice_get old.rows (n - 1) ≡ Some r) where
+    event : IsDeclaredEvent (book_of rules).declared e
+    event = typed_event (book_of rules) (reports_of rules) x e is_taken.typed
 
-  -- a row of the ledger, and its contract
-  module _ (k : ℕ) (r : RowView Term) (named_so : contract_named l x ≡ Some (1 + k, contract_of r.original))
-      (place : slice_get old.rows k ≡ Some r) (row : RowIs s l (1 + k) r) where
+    abbrev original : Contract
+    original = contract_of r.original
+
     -- what the row's contract becomes by the event
     abbrev next : Contract
-    next = after (book_in s) (marks_of s) e (contract_of r.current)
+    next = after (book_of rules) (marks_of rules.studied) e (contract_of r.current)
 
     abbrev size : ℕ
-    size = width (book_in s) (marks_of s) next
+    size = width (book_of rules) (marks_of rules.studied) next
 
     -- the events with this one
-    events : All (IsDeclaredEvent (book_in s).declared) (r.events ++ e ∷ [])
-    events = All-append (IsDeclaredEvent (book_in s).declared) r.events (e ∷ []) row.declared
-        (All-cons (IsDeclaredEvent (book_in s).declared) e [] event (All-nil (IsDeclaredEvent (book_in s).declared)))
+    abbrev longer_trace : List Event
+    longer_trace = r.events ++ e ∷ []
 
-    -- what the contract becomes is the residual by all of them
-    next_is : next ≡ residual_after (book_in s) (marks_of s) (contract_of r.original) (r.events ++ e ∷ [])
-    next_is = ap (after (book_in s) (marks_of s) e) row.current ∙ sym (residual_after-more (book_in s) (marks_of s) (contract_of r.original) r.events e)
+    module _ (l : Ledger) (h : IsLedger rules l old) where
+      c : Stood rules.studied l x old.rows n r
+      c = stood rules l x old h n r found row
 
-    -- the empty trace performs what is still owed exactly where the events perform the original
-    performed : (may_end : Bool) → IsTrue may_end ↔ Perf (book_in s) [] next [] → IsTrue may_end ↔ Perf (book_in s) [] (contract_of r.original) (r.events ++ e ∷ [])
-    performed may_end t =
-        let law = residual_performed (book_in s) (marks_of s) study (contract_of r.original) (r.events ++ e ∷ []) row.formed row.fit events in (
-          λ y. law.0 (subst (λ c. Perf (book_in s) [] c []) next_is (t.0 y)),
-          λ p. t.1 (subst (λ c. Perf (book_in s) [] c []) (sym next_is) (law.1 p)),
-        )
+      declared : All (IsDeclaredEvent (book_of rules).declared) longer_trace
+      declared = All-append (IsDeclaredEvent (book_of rules).declared) r.events (e ∷ []) c.is.declared
+          (All-cons (IsDeclaredEvent (book_of rules).declared) e [] event (All-nil (IsDeclaredEvent (book_of rules).declared)))
 
-    -- the row's number and trace in the ledger
-    over : is_ended l (1 + k) ≡ r.ended
-    over = sym row.ended
+      -- what the contract becomes is the residual by all of them
+      next_is : next ≡ residual_after (book_of rules) (marks_of rules.studied) original longer_trace
+      next_is = ap (after (book_of rules) (marks_of rules.studied) e) c.is.current ∙ sym (residual_after-more (book_of rules) (marks_of rules.studied) original r.events e)
 
-    past : trace l (1 + k) ≡ r.events
-    past = sym row.events
+      -- the empty trace performs what is still owed exactly where the events perform the original
+      performed : (may_end : Bool) → IsTrue may_end ↔ Perf (book_of rules) [] next [] → IsTrue may_end ↔ Perf (book_of rules) [] original longer_trace
+      performed may_end t =
+          let law = residual_performed (book_of rules) (marks_of rules.studied) (study rules l old h) original longer_trace c.is.formed c.is.fit declared in (
+            λ y. law.0 (subst (λ c. Perf (book_of rules) [] c []) next_is (t.0 y)),
+            λ p. t.1 (subst (λ c. Perf (book_of rules) [] c []) (sym next_is) (law.1 p)),
+          )
 
-    -- an open contract gets the reply by its last day
-    open_reply : (right : HasRightMarks s) (late : Option ℤ) → r.ended ≡ false → late_day r.events e.day ≡ late →
-        Records (frame_by s reports right) (contract_of r.original) r.events e late response →
-        Transmits (frame_by s reports right) l x e (contract_named l x) response
-    open_reply right late n d reply =
-        rw named_so (inr ((λ y. absurd (let z : true ≡ false = sym y ∙ over ∙ n in cc)), rw (past, d) reply))
+      -- the row's number and trace in the ledger
+      over : is_ended l (1 + c.place) ≡ r.ended
+      over = sym c.is.ended
 
-    hope : is_failure next ≡ false → (n : ℕ) × May (book_in s) [] (contract_of r.original) (r.events ++ e ∷ []) n
-    hope failed =
-        residual_hopeful (book_in s) (marks_of s) study (contract_of r.original) (r.events ++ e ∷ []) row.formed row.fit events (λ z. no_failure next failed (next_is ∙ z))
+      past : trace l (1 + c.place) ≡ r.events
+      past = sym c.is.events
 
-    transmits_on : (ended : Bool) (late : Option ℤ) (failed large : Bool) →
-        r.ended ≡ ended → late_day r.events e.day ≡ late → is_failure next ≡ failed → nat_lt widest size ≡ large →
-        Chooses (book_in s) (unless_over ended late (judged Response.Unmatched failed large next)) (k + 1) r e old new response →
-        Goes s reports (Request.Transmit x e) response l new
-    transmits_on true late failed large n d fe le a = record {
-      reply = λ right. rw named_so (inl (over ∙ n, a.0));
-      ledger = refused Response.Ended a.1 a.0 refl;
-    }
-    transmits_on false (Some day) failed large n d fe le a = record {
-      reply = λ right. open_reply right (Some day) n d a.0;
-      ledger = refused (Response.Late day) a.1 a.0 refl;
-    }
-    transmits_on false None true large n d fe le a = record {
-      reply = λ right. open_reply right None n d (inl (
-        residual_hopeless (book_in s) (marks_of s) study (contract_of r.original) (r.events ++ e ∷ []) row.formed row.fit events (sym next_is ∙ failure_is next fe),
-        a.0,
-      ));
-      ledger = refused Response.Unmatched a.1 a.0 refl;
-    }
-    transmits_on false None false true n d fe le a = record {
-      reply = λ right. open_reply right None n d
-          (inr (hope fe, inl (subst (λ c. widest < width (book_in s) (marks_of s) c) next_is (past_limit size le), a.0)));
-      ledger = refused Response.TooLarge a.1 a.0 refl;
-    }
-    transmits_on false None false false n d fe le a =
-        let narrow : size ≤ widest = within_limit size le in
-        let term : Term = a.1.0 in
-        let same : contract_of term ≡ next = a.1.1 in
-        let at : k + 1 - 1 ≡ k = omega arith in
-        let rows : new.rows ≡ changed_at (with_event e term) k old.rows = a.1.2 ∙ ap (λ i. changed_at (with_event e term) i old.rows) at in
-        let number : number_of l x ≡ 1 + k = ap number_in named_so in
-        let entry : with_entry l (Request.Transmit x e) response ≡ with_log l (1 + k) e =
-        ap (with_entry l (Request.Transmit x e)) a.0.2 ∙ ap (λ m. with_log l m e) number in
-        let log : new.log ≡ l.log ++ (1 + k, e) ∷ [] = a.2 ∙ ap (λ xs. xs ++ (k + 1, e) ∷ []) h.log ∙ ap (λ m. l.log ++ (m, e) ∷ []) (let z : k + 1 ≡ 1 + k = omega arith in z) in
-        let this : RowIs s (with_log l (1 + k) e) (1 + k) (with_event e term r) =
-        row_this s l (1 + k) e r term row event same (subst (λ c. width (book_in s) (marks_of s) c ≤ widest) (sym same) narrow) in
-        let below : 1 + k ≤ length old.rows = place_below old.rows k r place in
-        let longer : length new.rows ≡ length old.rows = ap length rows ∙ length-changed_at (with_event e term) k old.rows in
-        record {
-          reply = λ right. open_reply right None n d (inr (
-            hope fe,
-            inr (
-              (λ lt. absurd (let z : widest < size = subst (λ c. widest < width (book_in s) (marks_of s) c) (sym next_is) lt in omega (arith, narrow, z))),
-              (a.0.0, performed a.0.0 a.0.1, a.0.2),
-            ),
-          ));
-          ledger = subst (λ m. IsLedger s m new.rows new.log) (sym entry) (record {
-            contracts = ap (map named) rows ∙ named-changed_at k e term old.rows ∙ h.contracts;
-            log = log;
-            rows = subst (RowsAre s (with_log l (1 + k) e) 1) (sym rows) (rows_recorded s l (1 + k) 1 k e term old.rows r refl h.rows place this);
-            logged = subst (λ m. All (λ p. p.0 ≤ m) (l.log ++ (1 + k, e) ∷ [])) (sym longer)
-                (All-append (λ p. p.0 ≤ length old.rows) l.log ((1 + k, e) ∷ []) h.logged
-                (All-cons (λ p. p.0 ≤ length old.rows) (1 + k, e) [] below (All-nil (λ p. p.0 ≤ length old.rows))));
+      -- an open contract gets the reply by its last day
+      open_reply : (right : marks_by rules) (response : Response) (late : Option ℤ) → r.ended ≡ false → late_day r.events e.day ≡ late →
+          Records (frame_by rules right) original r.events e late response →
+          Transmits (frame_by rules right) l x e (contract_named l x) response
+      open_reply right response late running d reply =
+          rw c.named (inr ((λ y. absurd (let z : true ≡ false = sym y ∙ over ∙ running in cc)), rw (past, d) reply))
+
+      hope : is_failure next ≡ false → (n : ℕ) × May (book_of rules) [] original longer_trace n
+      hope failed =
+          residual_hopeful (book_of rules) (marks_of rules.studied) (study rules l old h) original longer_trace c.is.formed c.is.fit declared (λ z. no_failure next failed (next_is ∙ z))
+
+      -- the rows and the log with the event
+      records : (term : Term) → IsNext rules.studied r e term → (new : StoreView) → RecordsEvent (book_of rules).declared n e term old new →
+          IsLedger rules (with_log l (number_in (contract_named l x)) e) new
+      records term new_term new recorded =
+          let number = c.number in
+          let rows : new.rows ≡ changed_at (with_event e term) c.place old.rows = recorded.rows ∙ ap (λ i. changed_at (with_event e term) i old.rows) (let z : n - 1 ≡ c.place = omega (arith, number) in z) in
+          let entry : with_log l (number_in (contract_named l x)) e ≡ with_log l (1 + c.place) e = ap (λ m. with_log l m e) (ap number_in c.named) in
+          let below : 1 + c.place ≤ length old.rows = place_below old.rows c.place r c.found in
+          let longer : length new.rows ≡ length old.rows = ap length rows ∙ length-changed_at (with_event e term) c.place old.rows in
+          subst (λ m. IsLedger rules m new) (sym entry) (record {
+            studied = h.studied;
+            whole = h.whole;
+            contracts = ap (map named) rows ∙ named-changed_at (with_event e term) (λ r. refl) c.place old.rows ∙ h.contracts;
+            log = recorded.log ∙ ap (λ m. old.log ++ (m, e) ∷ []) number ∙ ap (λ xs. xs ++ (1 + c.place, e) ∷ []) h.log;
+            rows = subst (RowsAre rules.studied (with_log l (1 + c.place) e) 1) (sym rows) (rows_recorded rules.studied l c.place e term old.rows r h.rows c.found c.is new_term);
+            watches = watches_recorded rules l (1 + c.place) e old new recorded.changes recorded.brought recorded.moved h.watches;
+            logged = subst (λ m. All (λ p. p.0 ≤ m) (l.log ++ (1 + c.place, e) ∷ [])) (sym longer)
+                (All-append (λ p. p.0 ≤ length old.rows) l.log ((1 + c.place, e) ∷ []) h.logged
+                (All-cons (λ p. p.0 ≤ length old.rows) (1 + c.place, e) [] below (All-nil (λ p. p.0 ≤ length old.rows))));
             ended = subst (λ m. All (λ n. n ≤ m) l.ends) (sym longer) h.ended;
-          });
-        }
+          })
 
-  transmit_at : (k : ℕ) (o : Option (RowView Term)) → position (has_name x) old.rows ≡ Some k → slice_get old.rows k ≡ o →
-      RowTransmits s (k + 1) o e old new response → Goes s reports (Request.Transmit x e) response l new
-  transmit_at k None p g t = elim t [ ]
-  transmit_at k (Some r) p g t =
-      transmits_on k r (ap (contract_from 1 x) (sym h.contracts) ∙ contract_from-some x 1 k old.rows r p g) g (row_is s l 1 k old.rows r h.rows g)
-      r.ended (late_day r.events e.day) (is_failure (after (book_in s) (marks_of s) e (contract_of r.current)))
-      (nat_lt widest (width (book_in s) (marks_of s) (after (book_in s) (marks_of s) e (contract_of r.current)))) refl refl refl refl t
-
-  transmit_by : (o : Option ℕ) → position (has_name x) old.rows ≡ o → NumberTransmits s (option_map (λ i. i + 1) o) x e old new response →
-      Goes s reports (Request.Transmit x e) response l new
-  transmit_by None p t =
-      let none : contract_named l x ≡ None = ap (contract_from 1 x) (sym h.contracts) ∙ contract_from-none x 1 old.rows p in
-      record {
-        reply = λ right. rw (none, t.0) refl;
-        ledger = refused (Response.NoContract x) t.1 t.0 refl;
+      kept : (term : Term) → contract_of term ≡ next → late_day r.events e.day ≡ None → is_failure next ≡ false → size ≤ widest → IsNext rules.studied r e term
+      kept term same in_time failed narrow = record {
+        event = event;
+        whole_event = is_taken.whole;
+        in_time = in_time;
+        residual = same;
+        hopeful = subst (Hopeful (book_of rules)) (sym (same ∙ next_is))
+            (residual_kept (book_of rules) (marks_of rules.studied) (study rules l old h) original longer_trace c.is.formed c.is.fit declared (λ z. no_failure next failed (next_is ∙ z)));
+        narrow = subst (λ d. width (book_of rules) (marks_of rules.studied) d ≤ widest) (sym same) narrow;
+        whole = subst IsWholeContract (sym same)
+            (IsWhole-after_at (book_of rules) (marks_of rules.studied) h.whole e is_taken.whole (length (book_of rules).templates) (contract_of r.current) c.is.whole_current);
       }
-  transmit_by (Some k) p t =
-      transmit_at k (slice_get old.rows k) p refl (subst (λ n. RowTransmits s (k + 1) (slice_get old.rows n) e old new response) (let z : k + 1 - 1 ≡ k = omega arith in z) t)
 
-  -- a transmission goes from ledger to ledger
-  pub transmit_goes : TransmitsTable s x e old new response → Goes s reports (Request.Transmit x e) response l new
-  transmit_goes t = transmit_by (position (has_name x) old.rows) refl t
+    transmits_refused : (ended : Bool) (late : Option ℤ) (failed large : Bool) →
+        r.ended ≡ ended → late_day r.events e.day ≡ late → is_failure next ≡ failed → nat_lt widest size ≡ large →
+        (refusal : Response) → Refused refusal ≡ unless_over ended late (judged Response.Unmatched failed large next) → Makes rules (Request.Transmit x e) old old refusal
+    transmits_refused true late failed large n d fe le refusal q = subst (Makes rules (Request.Transmit x e) old old) (let z : Response.Ended ≡ refusal = cc in z)
+        (leaves rules (Request.Transmit x e) Response.Ended old (λ l. refl) (λ l h right. rw (c l h).named (inl (over l h ∙ n, refl))))
+    transmits_refused false (Some day) failed large n d fe le refusal q = subst (Makes rules (Request.Transmit x e) old old) (let z : Response.Late day ≡ refusal = cc in z)
+        (leaves rules (Request.Transmit x e) (Response.Late day) old (λ l. refl) (λ l h right. open_reply l h right (Response.Late day) (Some day) n d refl))
+    transmits_refused false None true large n d fe le refusal q = subst (Makes rules (Request.Transmit x e) old old) (let z : Response.Unmatched ≡ refusal = cc in z)
+        (leaves rules (Request.Transmit x e) Response.Unmatched old (λ l. refl) (λ l h right. open_reply l h right Response.Unmatched None n d (inl (
+          residual_hopeless (book_of rules) (marks_of rules.studied) (study rules l old h) original longer_trace (c l h).is.formed (c l h).is.fit (declared l h) (sym (next_is l h) ∙ failure_is next fe),
+          refl,
+        ))))
+    transmits_refused false None false true n d fe le refusal q = subst (Makes rules (Request.Transmit x e) old old) (let z : Response.TooLarge ≡ refusal = cc in z)
+        (leaves rules (Request.Transmit x e) Response.TooLarge old (λ l. refl) (λ l h right. open_reply l h right Response.TooLarge None n d
+        (inr (hope l h fe, inl (subst (λ c. widest < width (book_of rules) (marks_of rules.studied) c) (next_is l h) (past_limit size le), refl)))))
+    transmits_refused false None false false n d fe le refusal q = absurd cc
+
+    pub transmit_refused : (refusal : Response) → Refused refusal ≡ choice_by rules.studied r e → Makes rules (Request.Transmit x e) old old refusal
+    transmit_refused refusal q = transmits_refused r.ended (late_day r.events e.day) (is_failure next) (nat_lt widest size) refl refl refl refl refusal q
+
+    module _ (term : Term) (may_end : Bool) (tells : IsTrue may_end ↔ Perf (book_of rules) [] (contract_of term) []) (new : StoreView)
+        (recorded : RecordsEvent (book_of rules).declared n e term old new) where
+      transmits_kept : (ended : Bool) (late : Option ℤ) (failed large : Bool) →
+          r.ended ≡ ended → late_day r.events e.day ≡ late → is_failure next ≡ failed → nat_lt widest size ≡ large →
+          Kept (contract_of term) ≡ unless_over ended late (judged Response.Unmatched failed large next) →
+          Makes rules (Request.Transmit x e) old new (Response.Recorded (length r.events + 1) may_end)
+      transmits_kept true late failed large n d fe le q = absurd cc
+      transmits_kept false (Some day) failed large n d fe le q = absurd cc
+      transmits_kept false None true large n d fe le q = absurd cc
+      transmits_kept false None false true n d fe le q = absurd cc
+      transmits_kept false None false false n d fe le q =
+          let same : contract_of term ≡ next = cc in
+          let narrow : size ≤ widest = within_limit size le in
+          changes rules (Request.Transmit x e) (Response.Recorded (length r.events + 1) may_end) old new refl
+          (λ l h right. open_reply l h right (Response.Recorded (length r.events + 1) may_end) None n d (inr (
+            hope l h fe,
+            inr (
+              (λ lt. absurd (let z : widest < size = subst (λ c. widest < width (book_of rules) (marks_of rules.studied) c) (sym (next_is l h)) lt in omega (arith, narrow, z))),
+              (may_end, performed l h may_end (subst (λ c. IsTrue may_end ↔ Perf (book_of rules) [] c []) same tells), refl),
+            ),
+          )))
+          (λ l h. records l h term (kept l h term same d fe narrow) new recorded)
+
+      pub transmit_kept : Kept (contract_of term) ≡ choice_by rules.studied r e → Makes rules (Request.Transmit x e) old new (Response.Recorded (length r.events + 1) may_end)
+      transmit_kept q = transmits_kept r.ended (late_day r.events e.day) (is_failure next) (nat_lt widest size) refl refl refl refl q

@@ -1,4 +1,8 @@
+pub mod Store
 pub mod State
 pub mod Rows
-pub mod Steps
-pub mod Examples
+pub mod Choices
+pub mod Makes
+pub mod Evaluations
+pub mod Parts
+pub mod Laws

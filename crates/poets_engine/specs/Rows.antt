@@ -1,20 +1,37 @@
--- What an engine keeps: its rows and its log are the ledger of its history.
-use Rattle.std.specs.Prelude.{◌≡◌, ℕ, suc, ◌≤◌, List, [], ◌∷◌, map, length, All}
+-- What an engine keeps is the ledger of its history.
+use Rattle.std.specs.Prelude.{◌≡◌, ℕ, suc, ◌≤◌, ◌≤ℤ◌, List, [], ◌∷◌, map, length, All, Some}
+use Rattle.std.specs.List.{AllZip}
+use Rattle.poets_value.specs.declared.value.Name.{Name}
 use Rattle.poets_value.specs.declared.event.Event.{Event}
+use Rattle.poets_value.specs.Whole.{IsWholeTrace}
+use Rattle.poets_expr.specs.Expression.{Expression}
+use Rattle.poets_expr.specs.Val.{val}
 use Rattle.poets_syntax.specs.Contract.{contract_of}
 use Rattle.poets_syntax.specs.declared.term.Term.{Term}
 use Rattle.poets_syntax.specs.Applied.{CountsFit}
-use Rattle.poets_syntax.specs.Book.{Definitions, definitions_of}
+use Rattle.poets_syntax.specs.Book.{definitions_of}
 use Rattle.poets_syntax.specs.Studied.{StudiedBook, IsStudiedBook, marks_of}
 use Rattle.poets_syntax.specs.WellFormed.{IsWellFormed, IsDeclaredEvent}
+use Rattle.poets_syntax.specs.Whole.{IsWholeContract, AreWholeDefinitions}
+use Rattle.poets_syntax.specs.Marks.{Hopeful}
 use Rattle.poets_syntax.specs.Residual.{residual_after}
 use Rattle.poets_syntax.specs.Width.{width}
-use Rattle.poets_report.specs.declared.report.Report.{Report}
+use Rattle.poets_report.specs.Query.{query_of}
 use Rattle.poets_table.specs.TableView.{RowView}
-use Rattle.poets_call.specs.Calls.{Request, HistoryEntry, Call, calls_of}
-use Rattle.poets_call.specs.Ledger.{Ledger, ledger_of, trace, is_ended}
-use Rattle.poets_call.specs.Replies.{Legal, widest}
-use Rattle.poets_engine.specs.State.{HasRightMarks, frame_by}
+use Rattle.poets_live.specs.Watching.{WatchView, Follows}
+use Rattle.poets_call.specs.declared.rules.Rules.{Rules}
+use Rattle.poets_call.specs.Rules.{book_of, reports_of}
+use Rattle.poets_call.specs.Calls.{HistoryEntry, Call, calls_of}
+use Rattle.poets_call.specs.Ledger.{Ledger, ledger_of, events, trace, is_ended}
+use Rattle.poets_call.specs.Replies.{report_in, widest}
+use Rattle.poets_call.specs.Histories.{IsLegal}
+use Rattle.poets_engine.specs.Store.{StoreView}
+
+-- the days of the events do not fall
+abbrev pub NeverFall : List Event → Type 0
+NeverFall [] = Unit {0}
+NeverFall (e ∷ []) = Unit {0}
+NeverFall (e ∷ e' ∷ s) = (e.day ≤ℤ e'.day) × NeverFall (e' ∷ s)
 
 -- a row is what the ledger says of the contract with that number
 pub record RowIs (s : StudiedBook) (l : Ledger) (i : ℕ) (r : RowView Term) : Type 0 where
@@ -23,33 +40,42 @@ pub record RowIs (s : StudiedBook) (l : Ledger) (i : ℕ) (r : RowView Term) : T
   pub formed : IsWellFormed (definitions_of s.book).declared (contract_of r.original)
   pub fit : CountsFit (definitions_of s.book) (contract_of r.original)
   pub declared : All (IsDeclaredEvent (definitions_of s.book).declared) r.events
+  pub days : NeverFall r.events
+  -- what is owed is the residual; some granted steps perform it, and it is narrow
   pub current : contract_of r.current ≡ residual_after (definitions_of s.book) (marks_of s) (contract_of r.original) r.events
+  pub hopeful : Hopeful (definitions_of s.book) (contract_of r.current)
   pub narrow : width (definitions_of s.book) (marks_of s) (contract_of r.current) ≤ widest
+  -- all numbers and days are those of the language
+  pub whole_original : IsWholeContract (contract_of r.original)
+  pub whole_events : IsWholeTrace r.events
+  pub whole_current : IsWholeContract (contract_of r.current)
 
 -- the rows from a number on
 abbrev pub RowsAre : StudiedBook → Ledger → ℕ → List (RowView Term) → Type 0
 RowsAre s l i [] = Unit {0}
 RowsAre s l i (r ∷ rows) = RowIs s l i r × RowsAre s l (suc i) rows
 
--- the rows and the log are the ledger's
-pub record IsLedger (s : StudiedBook) (l : Ledger) (kept : List (RowView Term)) (noted : List (ℕ × Event)) : Type 0 where
-  pub contracts : map (λ r. (r.name, contract_of r.original)) kept ≡ l.contracts
-  pub log : noted ≡ l.log
-  pub rows : RowsAre s l 1 kept
+-- the watch is of the report with the name, under the values of the arguments, and has its answer over all events
+pub record WatchIs (rules : Rules) (l : Ledger) (asked : Name × List Expression) (w : WatchView) : Type 0 where
+  pub report : report_in (reports_of rules) asked.0 ≡ Some (query_of w.report)
+  pub args : w.args ≡ map (val (book_of rules).declared []) asked.1
+  pub follows : Follows (book_of rules).declared (events l) w
+
+-- the book was studied and is whole, and what is kept is the ledger's
+pub record IsLedger (rules : Rules) (l : Ledger) (store : StoreView) : Type 0 where
+  pub studied : IsStudiedBook (book_of rules) rules.studied.marks
+  pub whole : AreWholeDefinitions (book_of rules)
+  pub contracts : map (λ r. (r.name, contract_of r.original)) store.rows ≡ l.contracts
+  pub log : store.log ≡ l.log
+  pub rows : RowsAre rules.studied l 1 store.rows
+  pub watches : AllZip (WatchIs rules l) l.watches store.watches
   -- the log and the ends speak of these contracts alone
-  pub logged : All (λ p. p.0 ≤ length kept) l.log
-  pub ended : All (λ n. n ≤ length kept) l.ends
+  pub logged : All (λ p. p.0 ≤ length store.rows) l.log
+  pub ended : All (λ n. n ≤ length store.rows) l.ends
 
--- the book was studied, and the rows and the log are the ledger of a legal history with these calls
-pub record Stands (s : StudiedBook) (reports : List Report) (calls : List Call) (rows : List (RowView Term)) (log : List (ℕ × Event)) : Type 0 where
-  pub studied : IsStudiedBook (definitions_of s.book) s.marks
+-- what is kept is the ledger of a legal history with these calls
+pub record Stands (rules : Rules) (calls : List Call) (store : StoreView) : Type 0 where
   pub history : List HistoryEntry
-  pub legal : (right : HasRightMarks s) → Legal (frame_by s reports right) history
+  pub legal : IsLegal (book_of rules) (reports_of rules) history
   pub same : calls_of history ≡ calls
-  pub ledger : IsLedger s (ledger_of history) rows log
-
--- a command that the engine may be given: a registration of a well-formed contract with the right numbers of arguments, or a transmission of a declared event
-abbrev pub IsTaken : Definitions → Request → Type 0
-IsTaken book (Request.Register x c) = IsWellFormed book.declared c × CountsFit book c
-IsTaken book (Request.Transmit x e) = IsDeclaredEvent book.declared e
-IsTaken book _ = ⊥
+  pub ledger : IsLedger rules (ledger_of history) store

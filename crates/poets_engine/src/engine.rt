@@ -1,31 +1,32 @@
 //! The engine's type.
-ghost use Rattle.std.specs.Prelude.{◌≡◌, ◌+◌, ◌++◌, ◌∷◌, ◌≤◌, [], map, false, IfOk, OnErr};
+ghost use Rattle.std.specs.Prelude.{◌≡◌, ◌+◌, ◌++◌, ◌∷◌, ◌≤◌, [], false, IfOk, OnErr};
 ghost use Rattle.std.specs.Arc.{arc_value};
-ghost use Rattle.poets_syntax.specs.Book.{definitions_of};
+ghost use Rattle.poets_syntax.specs.Whole.{AreWholeDefinitions};
 ghost use Rattle.poets_call.specs.Calls.{request_of, response_of};
-ghost use Rattle.poets_engine.specs.State.{HasRightMarks, commands_of, plain_calls, frame_of, Owes, response_in};
-ghost use Rattle.poets_engine.specs.Rows.{IsTaken};
-ghost use Rattle.poets_engine.specs.Steps.{is_accepted, most_evaluations};
+ghost use Rattle.poets_call.specs.Histories.{IsLegal};
+ghost use Rattle.poets_call.specs.Rules.{book_of, reports_of};
+ghost use Rattle.poets_call.specs.Taken.{IsTaken};
+ghost use Rattle.poets_engine.specs.Evaluations.{most_evaluations};
+ghost use Rattle.poets_engine.specs.Makes.{is_accepted};
+ghost use Rattle.poets_engine.specs.State.{commands_of, OwesNext, response_in};
 
 use crate::kept::{Body, Kept};
 use crate::steps::step;
-use poets_call::Command;
+use crate::store::Store;
+use poets_call::{Command, Reply, Rules};
 use poets_expr::Asks;
-use poets_report::Report;
-use poets_syntax::{Studied, Term};
-use poets_table::Table;
 use poets_value::{List, Memory};
 use std::alloc::Global;
 use std::marker::Model;
 use std::sync::Arc;
+use std::thread::Threads;
 
-/// An engine with a history of calls. Contracts see its studied book and its reports, its calls, and
-/// the rows and the log of its contracts, which are the ledger of a legal history of these calls.
+/// An engine with a history of calls. Contracts see its rules, its calls, and what it keeps of them: the rows and the log of
+/// its contracts and the watches, which are the ledger of a legal history of these calls.
 #[derive(Drop)]
 pub struct Engine {
-    studied: Studied,
-    reports: List<Report>,
-    table: Table<Term>,
+    rules: Rules,
+    store: Store,
     history: List<(u32, Arc<Command>)>,
 }
 
@@ -46,30 +47,27 @@ impl Model for Engine {
     ghost use Rattle.poets_engine.specs.Rows.{Stands};
 
     ghost view = { λ e. record {
-      studied = e.studied;
-      reports = e.reports.items;
+      rules = e.rules;
       calls = commands_of e.history.items;
-      rows = e.table.rows;
-      log = e.table.log;
+      store = e.store;
     } };
 
-    ghost invariant = { λ e. Stands e.studied e.reports.items (plain_calls (commands_of e.history.items)) e.table.rows e.table.log };
+    ghost invariant = { λ e. Stands e.rules (plain_calls (commands_of e.history.items)) e.store };
 }
 
 impl Engine {
-    /// An engine with no history, for a studied book and reports.
-    pub fn new(alloc: Global, studied: Studied, reports: List<Report>) -> Engine
-        ensures studied { result.studied ≡ studied }
-        ensures right { HasRightMarks result.studied }
-        ensures reports { result.reports ≡ reports.items }
+    /// An engine with no history.
+    pub fn new(alloc: Global, rules: Rules) -> Engine
+        requires { AreWholeDefinitions (book_of rules) }
+        ensures rules { result.rules ≡ rules }
         ensures calls { result.calls ≡ [] }
+        ensures legal { IsLegal (book_of rules) (reports_of rules) [] }
     {
         // The book is checked and guarded, and the marks are right.
-        let _book = studied.book();
+        let _book = rules.studied.book();
         Engine {
-            studied,
-            reports,
-            table: Table::new(alloc),
+            rules,
+            store: Store::new(alloc),
             history: List::new(alloc),
         }
     }
@@ -81,30 +79,31 @@ impl Engine {
         &self.history
     }
 
-    /// Makes a call: a registration of a well-formed contract with the right numbers of arguments, or a transmission
-    /// of a declared event, and no other command. `finish` hands out the reply.
+    /// Makes a call. `finish` hands out the reply. The rows of a portfolio are made in parallel.
     ///
     /// All memory is taken before the first change, so that after want of memory nothing changed. After a refusal only
     /// the call is added to the history.
-    pub fn apply<T>(
+    pub fn apply<T, R: Threads + Sync>(
         &mut self,
+        rt: &R,
         alloc: Global,
         clerk: u32,
         command: &Arc<Command>,
         asks: &mut Asks<T>,
     ) -> Result<Kept, Memory>
-        requires { IsTaken (definitions_of self.old.studied.book) (request_of (arc_value command.now)) }
+        requires { IsTaken (book_of self.old.rules) (reports_of self.old.rules) (request_of (arc_value command.now)) }
         ensures calls { IfOk result (λ k. self.new.calls ≡ self.old.calls ++ (clerk, arc_value command.now) ∷ []) }
-        ensures owes { IfOk result (λ k. Owes self.old (arc_value command.now) k) }
-        ensures refused { IfOk result (λ k. is_accepted (response_in k.body) ≡ false → (self.new.rows ≡ self.old.rows) × (self.new.log ≡ self.old.log)) }
-        ensures asks { asks.new ≤ asks.old + most_evaluations (request_of (arc_value command.now)) }
+        ensures owes { IfOk result (λ k. OwesNext self.old (arc_value command.now) k) }
+        ensures refused { IfOk result (λ k. is_accepted (response_in k.body) ≡ false → self.new.store ≡ self.old.store) }
+        ensures asks { asks.new ≤ asks.old + most_evaluations self.old.rules self.old.store (request_of (arc_value command.now)) }
+        ensures rises { asks.old ≤ asks.new }
         ensures memory { OnErr result (self.new ≡ self.old) }
-        ensures frame { (self.new.studied ≡ self.old.studied) × (self.new.reports ≡ self.old.reports) }
+        ensures frame { self.new.rules ≡ self.old.rules }
     {
         let kept = Arc::try_clone(command)?;
         self.history.reserve(1)?;
         let place = self.history.len() as u64;
-        let reply = step(alloc, &self.studied, &mut self.table, &**command, asks)?;
+        let reply = step(rt, alloc, &self.rules, &mut self.store, &**command, asks)?;
         let Ok(()) = self.history.push((clerk, kept)) else {
             unreachable!();
         };
@@ -112,5 +111,14 @@ impl Engine {
             place,
             body: Body::Done(reply),
         })
+    }
+
+    /// The reply to the call.
+    pub fn finish(kept: Kept) -> Result<Reply, Memory>
+        ensures { IfOk result (λ r. response_of r ≡ response_in kept.body) }
+    {
+        match kept.body {
+            Body::Done(reply) => Ok(reply),
+        }
     }
 }

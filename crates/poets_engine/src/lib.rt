@@ -1,11 +1,19 @@
 //! The engine of one thread: each reply is that of an engine which is only a list of calls.
 #![tactic(auto)]
 
+mod ends;
 mod engine;
+mod judging;
 mod kept;
+pub mod laws;
+mod looks;
+mod portfolios;
+mod registration;
 mod steps;
-#[cfg(test)]
-mod tests;
+mod store;
+mod tallies;
+mod transmission;
+mod watching;
 
 pub use engine::Engine;
-pub use kept::{Body, Kept, finish};
+pub use kept::{Body, Kept};

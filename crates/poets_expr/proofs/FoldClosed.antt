@@ -10,7 +10,7 @@ use Rattle.poets_value.specs.declared.value.Value.TheVariants as V
 use Rattle.poets_expr.specs.declared.expr.Expr.{Expr}
 use Rattle.poets_expr.specs.declared.expr.Expr.TheVariants as E
 use Rattle.poets_expr.specs.Expression.{Expression, Literal, Undefined, Named, Unary, Make, Binary, If, EachLiteral, expression_of}
-use Rattle.poets_expr.specs.Env.{Declared, Env, same_name, itself, PairsAreUndeclared}
+use Rattle.poets_expr.specs.Env.{Declared, Env, same_name, value_in, itself, PairsAreUndeclared}
 use Rattle.poets_expr.specs.Val.{val, unary, binary, strict, resource_of}
 use Rattle.poets_expr.specs.Subst.{literal_of, IsDeclared}
 use Rattle.poets_expr.specs.Free.{names_of, distinct, free_names_of}
@@ -69,7 +69,7 @@ module _ (declared : Declared) where
     kind = λ r h. h;
   }
 
-  declared_itself : (x : Name) (o : Option Ty) → declared x ≡ o → IfSome (itself x o) (λ v. HasDeclaredNames declared (Some v))
+  declared_itself : (x : Name) (o : Option Ty) → declared x ≡ o → HasDeclaredNames declared (itself x o)
   declared_itself x None e = tt
   declared_itself x (Some T.Agent) e = e
   declared_itself x (Some T.Kind) e = e
@@ -79,10 +79,22 @@ module _ (declared : Declared) where
   has_declared None h = tt
   has_declared (Some v) h = h
 
-  -- with no pairs, each value of an expression with declared literals is declared
+  if_some : (o : Option Value) → HasDeclaredNames declared o → IfSome o (λ v. HasDeclaredNames declared (Some v))
+  if_some None h = tt
+  if_some (Some v) h = h
+
+  -- where the names have declared values, each value of an expression with declared literals is declared
+  pub known-val_under : (env : Env) → ((x : Name) → HasDeclaredNames declared (value_in declared env x)) → (e : Expression) → HasDeclaredLiterals declared e →
+      HasDeclaredNames declared (val declared env e)
+  known-val_under env known e h = has_declared (val declared env e)
+      (val-kept (λ v. HasDeclaredNames declared (Some v)) declared_kept declared env (λ x. if_some (value_in declared env x) (known x)) e h)
+
+  -- so it is with no pairs
+  pub known-name : (x : Name) → HasDeclaredNames declared (value_in declared [] x)
+  known-name x = declared_itself x (declared x) refl
+
   pub known-val : (e : Expression) → HasDeclaredLiterals declared e → HasDeclaredNames declared (val declared [] e)
-  known-val e h = has_declared (val declared [] e)
-      (val-kept (λ v. HasDeclaredNames declared (Some v)) declared_kept declared [] (λ x. declared_itself x (declared x) refl) e h)
+  known-val e h = known-val_under [] known-name e h
 
   pub IsDeclared-names : (o : Option Value) → HasDeclaredNames declared o → IsDeclared declared o
   IsDeclared-names None h = tt

@@ -12,8 +12,12 @@ use Rattle.poets_expr.specs.Env.{Declared, Env, PairsAreUndeclared}
 use Rattle.poets_expr.specs.Val.{val}
 use Rattle.poets_expr.specs.Subst.{Givens, subst, literal_of, env_of, IsDeclared, AreDeclared}
 use Rattle.poets_expr.specs.Free.{free_names_of}
-use Rattle.poets_expr.specs.Fold.{is_closed, fold_closed, HasDeclaredLiterals}
+use Rattle.poets_expr.specs.Fold.{is_closed, fold_closed, HasDeclaredLiterals, KeepsDeclared}
 use Rattle.poets_expr.specs.Whole.{IsWholeExpression, IsWholeOption, IsWholeEnv, AreWholeGivens}
+
+-- where no pair has a declared name, declared names stand for themselves
+abbrev pub UndeclaredPairsKeepDeclared : Type 0
+UndeclaredPairsKeepDeclared = (declared : Declared) (env : Env) → PairsAreUndeclared declared env → KeepsDeclared declared env
 
 -- an expression with its names replaced has the value that it has under these pairs as the newest
 abbrev pub ReplacedKeepsValue : Type 0

@@ -1,5 +1,5 @@
 //! Declared names, environments and the counter of evaluations.
-ghost use Rattle.std.specs.Prelude.{◌≡◌, ℕ, IfOk, reverse};
+ghost use Rattle.std.specs.Prelude.{◌≡◌, ◌≤◌, ℕ, IfOk, reverse};
 ghost use Rattle.poets_expr.specs.Asked.{one_more};
 ghost use Rattle.poets_expr.specs.Env.{declared_of, value_in, itself};
 
@@ -52,7 +52,8 @@ impl<L> Asks<L> {
 
     // One evaluation more.
     pub(crate) fn one_more(&mut self)
-        ensures { self.new ≡ one_more self.old }
+        ensures count { self.new ≡ one_more self.old }
+        ensures rises { self.old ≤ self.new }
     {
         self.count = self.count.saturating_add(1);
     }

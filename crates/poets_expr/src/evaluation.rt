@@ -1,5 +1,5 @@
 //! The value of an expression.
-ghost use Rattle.std.specs.Prelude.{◌≡◌, reverse};
+ghost use Rattle.std.specs.Prelude.{◌≡◌, ◌≤◌, reverse};
 ghost use Rattle.poets_expr.specs.Asked.{one_more};
 ghost use Rattle.poets_expr.specs.Env.{declared_of};
 ghost use Rattle.poets_expr.specs.Expression.{expression_of};
@@ -15,6 +15,7 @@ use poets_value::Value;
 pub fn eval<L>(env: &Env, e: &Expr, asks: &mut Asks<L>) -> Option<Value>
     ensures value { result ≡ val (declared_of env.now.decls.now.names) (reverse env.now.pairs.now) (expression_of e.now) }
     ensures asks { asks.new ≡ one_more asks.old }
+    ensures rises { asks.old ≤ asks.new }
 {
     asks.one_more();
     value_of(env, e)

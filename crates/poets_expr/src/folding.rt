@@ -1,5 +1,5 @@
 //! Closed expressions, folded to literals.
-ghost use Rattle.std.specs.Prelude.{◌≡◌, IfOk, if◌then◌else◌};
+ghost use Rattle.std.specs.Prelude.{◌≡◌, ◌≤◌, IfOk, if◌then◌else◌};
 ghost use Rattle.poets_expr.specs.Env.{declared_of};
 ghost use Rattle.poets_expr.specs.Expression.{expression_of};
 ghost use Rattle.poets_expr.specs.Asked.{one_more};
@@ -49,6 +49,7 @@ pub fn fold_closed<L>(
 ) -> Result<Expr, Memory>
     ensures value { IfOk result (λ r. expression_of r ≡ fold_closed_lem (declared_of decls.now.names) (expression_of e.now) ty) }
     ensures asks { asks.new ≡ (if is_folded (declared_of decls.now.names) (expression_of e.now) then one_more asks.old else asks.old) }
+    ensures rises { asks.old ≤ asks.new }
 {
     if is_literal(decls, e) || !is_closed(decls, e) {
         return copy(alloc, e);

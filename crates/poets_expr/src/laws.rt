@@ -1,5 +1,10 @@
 //! Laws of expressions, each stated by a function that does nothing.
-ghost use Rattle.poets_expr.specs.Laws.{ReplacedKeepsValue, ReplacedKeepsValueAlone, LiteralHasValue, FoldedKeepsValue, FoldedKeepsValueOfExpr, DeclaredLiteralsGiveDeclared, ClosedNamesAreDeclared, ValueIsWhole, LiteralIsWhole, ReplacedIsWhole, FoldedIsWhole};
+ghost use Rattle.poets_expr.specs.Laws.{UndeclaredPairsKeepDeclared, ReplacedKeepsValue, ReplacedKeepsValueAlone, LiteralHasValue, FoldedKeepsValue, FoldedKeepsValueOfExpr, DeclaredLiteralsGiveDeclared, ClosedNamesAreDeclared, ValueIsWhole, LiteralIsWhole, ReplacedIsWhole, FoldedIsWhole};
+
+/// Where no pair has a declared name, declared names stand for themselves.
+pub fn declared_names_kept()
+    ensures { UndeclaredPairsKeepDeclared }
+{}
 
 /// An expression with its names replaced has the value that it has where these names have these values.
 pub fn values_of_replaced()

@@ -11,8 +11,7 @@ ghost use Rattle.poets_guard.specs.Searched.{HaveNodes, IsSearched, LeadsOn, Has
 use crate::graph::Graph;
 use crate::visits::names_on_cycles;
 use poets_syntax::Book;
-use poets_syntax::build::push;
-use poets_value::{List, Memory, Name};
+use poets_value::{List, Memory, Name, push};
 use std::alloc::Global;
 use std::collections::BTreeSet;
 

@@ -8,9 +8,8 @@ ghost use Rattle.poets_syntax.specs.Checked.{IsChecked};
 ghost use Rattle.poets_guard.specs.Endings.{ends};
 ghost use Rattle.poets_guard.specs.Graph.{cut, own as own_lem, exposures, IsGraph};
 
-use poets_syntax::build::push;
 use poets_syntax::{Book, Term, size};
-use poets_value::{List, Memory, Name};
+use poets_value::{List, Memory, Name, push};
 use std::alloc::Global;
 use std::collections::{BTreeMap, BTreeSet};
 

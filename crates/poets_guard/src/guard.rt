@@ -47,7 +47,7 @@ pub fn study(alloc: Global, book: Book) -> Result<Studied, GuardFault>
     let hopeful = templates_that_end(alloc, true, &book)?;
     let graph = graph_of(alloc, &book, &nullable)?;
     match marks(alloc, &book, &nullable, &hopeful, &graph)? {
-        Some(marks) => Ok(Studied::of(book, marks)),
+        Some(marks) => Ok(Studied::of(alloc, book, marks)?),
         None => Err(GuardFault::Unguarded {
             cycle: first_cycle(alloc, &book, &graph)?,
         }),

@@ -6,9 +6,9 @@ ghost use Rattle.poets_guard.specs.Examples.{applied as applied_lem, anything as
 
 use crate::{GuardFault, study};
 use poets_expr::{Decls, Expr};
-use poets_syntax::build::{par, plus, push, seq, transmit};
+use poets_syntax::build::{par, plus, seq, transmit};
 use poets_syntax::{Binders, Book, Mark, Studied, Template, Term};
-use poets_value::{List, Memory, Name};
+use poets_value::{List, Memory, Name, push};
 use std::alloc::Global;
 use std::collections::BTreeMap;
 use std::test::Fail;

@@ -7,9 +7,8 @@ ghost use Rattle.poets_guard.specs.Walks.{HasCycle, HasWidth, HaveWidths, AllRea
 ghost use Rattle.poets_guard.specs.Marked.{IsMarked};
 
 use crate::graph::{Graph, add};
-use poets_syntax::build::push;
 use poets_syntax::{Book, Mark};
-use poets_value::{List, Memory, Name};
+use poets_value::{List, Memory, Name, push};
 use std::alloc::Global;
 use std::collections::{BTreeMap, BTreeSet};
 

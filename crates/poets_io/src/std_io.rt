@@ -1,5 +1,5 @@
 //! Sources and sinks over std's readers and writers.
-ghost use Rattle.std.specs.Prelude.{◌≡◌, ◌<◌, ◌≤◌, length, IfOk, OnOk, OnErr};
+ghost use Rattle.std.specs.Prelude.{◌≡◌, ◌<◌, ◌≤◌, length, IfOk, OnErr};
 ghost use Rattle.std.specs.Io.{ReadsAtMost, WritesAtMost};
 ghost use Rattle.std.specs.Io.KnownBytes.{ReadConsumes, WriteAppends};
 ghost use Rattle.poets_io.specs.Causes.{HasCause, counted};
@@ -42,7 +42,6 @@ impl<R: Read> Source for StdSource<R> {
         ensures bound { ReadsAtMost result buf.new }
         ensures bytes { ReadConsumes self.old.known self.new.known result buf.new }
         ensures cause { HasCause self.old.faults self.new.faults result }
-        ensures ok { OnOk result (self.new.faults ≡ self.old.faults) }
         ensures err { OnErr result (self.new.faults ≡ counted self.old.faults) }
     {
         match self.reader.read(buf) {
@@ -55,7 +54,7 @@ impl<R: Read> Source for StdSource<R> {
     }
 }
 
-/// A sink over std's writer. A write that takes nothing of a piece is a fault.
+/// A sink over std's writer. A write that takes nothing is a fault.
 #[derive(Drop)]
 pub struct StdSink<W: Write> {
     writer: W,
@@ -86,15 +85,15 @@ impl<W: Write> Sink for StdSink<W> {
     ghost faults = { λ s. s.faults };
 
     fn write(&mut self, piece: &[u8]) -> Result<usize, Failed>
+        requires { 0 < length piece.now }
         ensures bound { WritesAtMost result piece.now }
-        ensures some { 0 < length piece.now → IfOk result (λ n. 0 < n) }
+        ensures some { IfOk result (λ n. 0 < n) }
         ensures bytes { WriteAppends self.old.known self.new.known result piece.now }
         ensures cause { HasCause self.old.faults self.new.faults result }
-        ensures ok { OnOk result (self.new.faults ≡ self.old.faults) }
         ensures err { OnErr result (self.new.faults ≡ counted self.old.faults) }
     {
         match self.writer.write(piece) {
-            Ok(count) if count > 0 || piece.is_empty() => Ok(count),
+            Ok(count) if count > 0 => Ok(count),
             _ => {
                 self.faults = self.faults.saturating_add(1);
                 Err(Failed)

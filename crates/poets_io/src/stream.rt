@@ -1,5 +1,5 @@
 //! Bytes that come in, and bytes that go out.
-ghost use Rattle.std.specs.Prelude.{◌≡◌, ◌<◌, ℕ, List, Option, IfOk, length};
+ghost use Rattle.std.specs.Prelude.{◌<◌, ℕ, List, Option, IfOk, length};
 ghost use Rattle.std.specs.Io.{ReadsAtMost, WritesAtMost};
 ghost use Rattle.std.specs.Io.KnownBytes.{ReadConsumes, WriteAppends};
 ghost use Rattle.poets_io.specs.Causes.{HasCause};
@@ -31,10 +31,12 @@ pub trait Sink {
     /// How many faults there were.
     ghost faults: { Self → ℕ };
 
-    /// Takes some bytes from the front of `piece`, and says how many.
+    /// Takes some bytes from the front of `piece`, and says how many. A sink is never given an empty piece, since some
+    /// writers take one for the end of what is written.
     fn write(&mut self, piece: &[u8]) -> Result<usize, Failed>
+        requires { 0 < length piece.now }
         ensures bound { WritesAtMost result piece.now }
-        ensures some { 0 < length piece.now → IfOk result (λ n. 0 < n) }
+        ensures some { IfOk result (λ n. 0 < n) }
         // `Ok(n)` appended the first n bytes, and `Err` none.
         ensures bytes { WriteAppends (held self.old) (held self.new) result piece.now }
         ensures cause { HasCause (faults self.old) (faults self.new) result };

@@ -87,8 +87,9 @@ impl Sink for SureSink {
     ghost faults = { λ _. 0 };
 
     fn write(&mut self, piece: &[u8]) -> Result<usize, Failed>
+        requires { 0 < length piece.now }
         ensures bound { WritesAtMost result piece.now }
-        ensures some { 0 < length piece.now → IfOk result (λ n. 0 < n) }
+        ensures some { IfOk result (λ n. 0 < n) }
         ensures cause { HasCause 0 0 result }
         ensures whole { result ≡ Ok (length piece.now) }
         ensures taken { self.new ≡ min (self.old + length piece.now) (2 ^ 64 - 1) }

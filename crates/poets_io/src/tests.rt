@@ -214,10 +214,17 @@ fn a_sink_in_memory_has_room_for_a_whole_text(rt: HostRuntime) {
     let mut sink = text_sink(&rt, &[]);
     fill(&rt, &mut sink, 8_388_608);
     fill(&rt, &mut sink, 8_388_607);
-    for (piece, taken) in [("yz", false), ("z", true), ("z", false), ("", true)] {
-        assert!(rt; sink.write(piece.as_bytes()).is_ok() == taken);
+    for (piece, taken) in [("yz", false), ("z", true), ("z", false)] {
+        assert!(rt; write_all(&mut sink, piece.as_bytes()).is_ok() == taken);
     }
     assert!(rt; sink.bytes().len() == 16_777_216);
+}
+
+#[test]
+fn an_empty_piece_makes_no_call(rt: HostRuntime) {
+    let mut sink = text_sink(&rt, &[1]);
+    assert!(rt; write_all(&mut sink, b"").is_ok());
+    assert!(rt; takes_pieces(&mut sink) == (false, true, true));
 }
 
 #[test]
@@ -250,6 +257,5 @@ fn a_writer_that_takes_nothing_is_a_fault(rt: HostRuntime) {
     let mut room = [b'.'; 14];
     let mut sink = StdSink::new(room.as_mut_slice());
     assert!(rt; takes_pieces(&mut sink) == (true, false, false));
-    assert!(rt; sink.write(b"").is_ok());
     assert!(rt; room.as_slice() == b"first line\nsec".as_slice());
 }

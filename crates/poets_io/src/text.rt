@@ -120,8 +120,9 @@ impl Sink for TextSink {
     ghost faults = { λ s. s.plan.faults };
 
     fn write(&mut self, piece: &[u8]) -> Result<usize, Failed>
+        requires { 0 < length piece.now }
         ensures bound { WritesAtMost result piece.now }
-        ensures some { 0 < length piece.now → IfOk result (λ n. 0 < n) }
+        ensures some { IfOk result (λ n. 0 < n) }
         ensures bytes { WriteAppends (Some self.old.held) (Some self.new.held) result piece.now }
         ensures cause { HasCause self.old.plan.faults self.new.plan.faults result }
         ensures fails { IsErr result ↔ (NextFails self.old.plan ⊎ (16777216 < length self.old.held + length piece.now)) }

@@ -11,7 +11,7 @@ use std::alloc::Global;
 /// The most bytes that are asked of a source at once.
 const BLOCK: usize = 65_536;
 
-/// Writes the whole piece, in as few calls as the sink allows. It stops at the first fault.
+/// Writes the whole piece, in as few calls as the sink allows, and in none where it is empty. It stops at the first fault.
 #[tactic(auto, using(crate::proofs::Transfers::transfers))]
 pub fn write_all<K: Sink>(sink: &mut K, piece: &[u8]) -> Result<(), Failed>
     ensures ok { OnOk result (Appends (K.held sink.old) (K.held sink.new) piece.now) }
@@ -34,6 +34,7 @@ pub fn read_up_to<S: Source>(
     limit: usize,
 ) -> Result<List<u8>, ReadFault>
     ensures later { S.faults source.old ≤ S.faults source.new }
+    ensures kept { ¬ (IsErrOf result ReadFault.Failed) → S.faults source.new ≡ S.faults source.old }
     ensures failed { IsErrOf result ReadFault.Failed → Rose (S.faults source.old) (S.faults source.new) }
     ensures short { IfOk result (λ text. length text.items ≤ limit) }
     ensures whole { IfOk result (λ text. GivesAll (S.left source.old) (S.left source.new) text.items) }
@@ -63,6 +64,7 @@ fn read_blocks<S: Source>(
 ) -> Result<List<u8>, ReadFault>
     requires { 0 < length block.old }
     ensures later { S.faults source.old ≤ S.faults source.new }
+    ensures kept { ¬ (IsErrOf result ReadFault.Failed) → S.faults source.new ≡ S.faults source.old }
     ensures failed { IsErrOf result ReadFault.Failed → Rose (S.faults source.old) (S.faults source.new) }
     ensures short { IfOk result (λ text. length text.items ≤ limit) }
     ensures whole { IfOk result (λ text. GivesAll (S.left source.old) (S.left source.new) text.items) }

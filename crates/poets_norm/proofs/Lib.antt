@@ -5,7 +5,6 @@ pub mod Parts
 pub mod WellFormedness
 pub mod Counts
 pub mod Asked
-pub mod Found
 pub mod Measures
 pub mod Nullable
 pub mod Hope

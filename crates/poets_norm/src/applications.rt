@@ -10,11 +10,9 @@ ghost use Rattle.poets_syntax.specs.Normal.{folded as folded_lem, app as app_lem
 ghost use Rattle.poets_syntax.specs.Studied.{marks_of};
 ghost use Rattle.poets_norm.specs.Questions.{operated, questions};
 
-use crate::templates::template_of;
 use poets_expr::{Asks, Decls, Expr, copy, fold_closed};
-use poets_syntax::build::push;
 use poets_syntax::{Param, Studied, Term};
-use poets_value::{List, Memory, Name};
+use poets_value::{List, Memory, Name, push};
 use std::alloc::Global;
 
 // An argument, folded where it has a parameter.
@@ -72,7 +70,7 @@ pub fn app<L>(
     ensures asks { asks.new ≤ asks.old + sum_by operated (map expression_of args.now) }
     ensures questions { IfOk result (λ r. asks.new + questions (contract_of r) ≤ asks.old + sum_by operated (map expression_of args.now)) }
 {
-    match template_of(studied, name) {
+    match studied.template(name) {
         Some((template, mark)) if mark.hopeful => {
             let params = template.params.as_slice();
             let args = folded(alloc, &studied.book().decls, params, args, asks)?;

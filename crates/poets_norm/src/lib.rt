@@ -7,7 +7,6 @@ pub mod laws;
 mod normals;
 #[cfg(test)]
 mod template_tests;
-mod templates;
 #[cfg(test)]
 mod tests;
 mod widths;
@@ -15,5 +14,4 @@ mod widths;
 pub use applications::app;
 pub use choices::{distinct_choice, merge, plus};
 pub use normals::{normal, par, send, seq};
-pub use templates::template_of;
 pub use widths::wide;

@@ -7,11 +7,11 @@ ghost use Rattle.poets_syntax.specs.Studied.{marks_of};
 ghost use Rattle.poets_syntax.specs.Applied.{CountsFit};
 ghost use Rattle.poets_norm.specs.Examples.{anything as anything_lem, book_of, marks as marks_lem};
 
-use crate::{app, normal, template_of, wide};
+use crate::{app, normal, wide};
 use poets_expr::{Asks, Decls, Expr, Op, build as make};
-use poets_syntax::build::{plus, push, transmit};
+use poets_syntax::build::{plus, transmit};
 use poets_syntax::{Binders, Book, Mark, Param, Studied, Template, Term, same};
-use poets_value::{List, Memory, Name, Ty};
+use poets_value::{List, Memory, Name, Ty, push};
 use std::alloc::Global;
 use std::collections::BTreeMap;
 
@@ -91,7 +91,7 @@ fn studied(alloc: Global) -> Result<Studied, Memory>
     ensures { IfOk result (λ s. definitions_of s.book ≡ book_of BINDERS F N G) }
 {
     let book = book(alloc)?;
-    Ok(Studied::of(book, marks(alloc)?))
+    Studied::of(alloc, book, marks(alloc)?)
 }
 
 // The first and one more.
@@ -150,9 +150,9 @@ fn open_arguments_stay(rt: HostRuntime) -> Result<(), Memory> {
 #[test]
 fn templates_are_found_with_their_marks(rt: HostRuntime) -> Result<(), Memory> {
     let studied = studied(rt.alloc())?;
-    let found = template_of(&studied, F);
+    let found = studied.template(F);
     assert!(rt; matches!(found, Some((_, mark)) if mark.hopeful && !mark.nullable));
-    assert!(rt; template_of(&studied, N).is_none());
+    assert!(rt; studied.template(N).is_none());
     Ok(())
 }
 

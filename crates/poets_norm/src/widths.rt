@@ -7,7 +7,6 @@ ghost use Rattle.poets_syntax.specs.Marks.{nullable};
 ghost use Rattle.poets_syntax.specs.Studied.{marks_of};
 ghost use Rattle.poets_syntax.specs.Width.{size as size_lem, body_in, wide_by, width};
 
-use crate::templates::template_of;
 use poets_syntax::{Studied, Term, size};
 
 // One more than the greatest width that a kept residual has.
@@ -76,7 +75,7 @@ fn measure(studied: &Studied, term: &Term) -> Measured
             }
             both(first, unexposed(b))
         }
-        Term::App { name, .. } => match template_of(studied, *name) {
+        Term::App { name, .. } => match studied.template(*name) {
             Some((_, mark)) => Measured {
                 wide: size(term).saturating_add(mark.wide).min(CUT),
                 nullable: mark.nullable,

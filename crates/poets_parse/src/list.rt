@@ -12,9 +12,8 @@ use crate::expression::expression;
 use crate::step::{behind_sign, name, sign, type_name};
 use poets_expr::Expr;
 use poets_lex::{Sign, Token};
-use poets_syntax::build::push;
 use poets_syntax::{Binders, Param};
-use poets_value::{List, Name};
+use poets_value::{List, Name, push};
 use std::alloc::Global;
 
 // NAME "," NAME "," NAME "," NAME

@@ -18,7 +18,8 @@ use Rattle.poets_lex.proofs.CutTexts.{IsCutInto, cut_end, cut_space, cut_word, c
 use Rattle.poets_grammar.specs.Statements.{IsCommand, IsSentence}
 use Rattle.poets_print.specs.Texts.{call_text, listed, name_text}
 use Rattle.poets_print.specs.Lines.{request_text}
-use Rattle.poets_print.specs.Laws.{CanWriteRequest, IsWholeRequest, ContractReadsBack, CommandReadsBack}
+use Rattle.poets_call.specs.Taken.{IsWholeRequest}
+use Rattle.poets_print.specs.Laws.{CanWriteRequest, ContractReadsBack, CommandReadsBack}
 use Rattle.poets_print.proofs.Writing.{IsTextOf}
 use Rattle.poets_print.proofs.WritingContracts.{writes_call, writes_names, writes_contract}
 

@@ -9,6 +9,7 @@ use Rattle.poets_expr.specs.Whole.{IsWholeExpression}
 use Rattle.poets_syntax.specs.Contract.{Contract, Success, Failure, Transmit, Plus, Par, Seq, App}
 use Rattle.poets_syntax.specs.Whole.{IsWholeContract}
 use Rattle.poets_call.specs.Calls.{Request}
+use Rattle.poets_call.specs.Taken.{IsWholeRequest}
 use Rattle.poets_call.specs.Sentences.{Command}
 use Rattle.poets_lex.specs.declared.token.Token.{Token}
 use Rattle.poets_lex.specs.Table.{Table, IsTable}
@@ -63,17 +64,6 @@ CanWriteRequest names (Request.Portfolio q args over) =
     IsListed names q × All (CanWrite names) args × All (IsListed names) over × (over ≢ [])
 CanWriteRequest names (Request.Watch q args) = IsListed names q × All (CanWrite names) args
 CanWriteRequest names (Request.Read n) = Unit {0}
-
--- each number in the command is a whole number of the language, and each day one of its days
-abbrev pub IsWholeRequest : Request → Type 0
-IsWholeRequest (Request.Register x c) = IsWholeContract c
-IsWholeRequest (Request.Transmit x e) = IsWholeEvent e
-IsWholeRequest (Request.End x) = Unit {0}
-IsWholeRequest (Request.Show x) = Unit {0}
-IsWholeRequest (Request.Tally q args) = All IsWholeExpression args
-IsWholeRequest (Request.Portfolio q args over) = All IsWholeExpression args
-IsWholeRequest (Request.Watch q args) = All IsWholeExpression args
-IsWholeRequest (Request.Read n) = n < 2 ^ 63
 
 -- the text of a contract is cut into tokens, without a new name, and the tokens are the contract
 abbrev pub ContractReadsBack : Type 0

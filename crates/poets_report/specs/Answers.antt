@@ -1,10 +1,11 @@
 -- What a report answers over a list of events.
-use Rattle.std.specs.Prelude.{◌≡◌, List, [], ◌∷◌, Option, Some, None, if◌then◌else◌}
+use Rattle.std.specs.Prelude.{◌≡◌, ◌↔◌, List, [], ◌∷◌, Option, Some, None, map}
+use Rattle.std.specs.List.{Contains}
 use Rattle.poets_value.specs.declared.event.Event.{Event}
 use Rattle.poets_value.specs.declared.value.Value.{Value}
 use Rattle.poets_expr.specs.Env.{Declared}
 use Rattle.poets_expr.specs.Expression.{Expression}
-use Rattle.poets_report.specs.Keys.{Key, KeyPrecedes, same_key}
+use Rattle.poets_report.specs.Keys.{Key, KeyPrecedes}
 use Rattle.poets_report.specs.Query.{Query, folded, key_on, with_key}
 use Rattle.poets_report.specs.declared.report.Answer.{Answer}
 use Rattle.poets_report.specs.declared.report.Answer.TheVariants as A
@@ -29,21 +30,20 @@ Rising [] = Unit {0}
 Rising (r ∷ []) = Unit {0}
 Rising (r ∷ r' ∷ rows) = KeyPrecedes r.0 r'.0 × Rising (r' ∷ rows)
 
--- the value of the row with a key
-abbrev pub row_at : Key → List Row → Option (Option Value)
-row_at k [] = None
-row_at k (r ∷ rows) = if same_key k r.0 then Some r.1 else row_at k rows
-
--- the fold over events, if there are any
-abbrev pub if_any : (List Event → Option Value) → List Event → Option (Option Value)
-if_any fold_of [] = None
-if_any fold_of (e ∷ events) = Some (fold_of (e ∷ events))
+-- some event has the key, and the value is the fold over the events with the key
+abbrev pub IsFoldOfKey :
+    Declared → Query → List (Option Value) → (Event → Key) → List Event → Key → Option Value → Type 0
+IsFoldOfKey declared q args key_of events k v =
+    Contains (map key_of events) k × (v ≡ folded declared q args (with_key key_of k events))
 
 -- the rows of a report by a key
-pub record AreRows (declared : Declared) (q : Query) (args : List (Option Value)) (key : Expression) (events : List Event) (rows : List Row) : Type 0 where
+pub record AreRows
+    (declared : Declared) (q : Query) (args : List (Option Value)) (key : Expression) (events : List Event)
+    (rows : List Row) : Type 0 where
   pub rising : Rising rows
-  -- the row of a key has the fold over the events with that key, and is there exactly where there are such events
-  pub each : (k : Key) → row_at k rows ≡ if_any (folded declared q args) (with_key (key_on declared q args key) k events)
+  -- there is a row for each key that some event has, with the fold over the events with that key, and there is no other
+  pub each : (k : Key) (v : Option Value) →
+      Contains rows (k, v) ↔ IsFoldOfKey declared q args (key_on declared q args key) events k v
 
 -- by the report's key, if it has one
 abbrev pub IsAnswer_by : Option Expression → Declared → Query → List (Option Value) → List Event → Finding → Type 0
@@ -60,3 +60,8 @@ IsAnswer declared q args events finding = IsAnswer_by q.key declared q args even
 abbrev pub OneAnswer : Type 0
 OneAnswer = (declared : Declared) (q : Query) (args : List (Option Value)) (s : List Event) (a b : Finding) →
     IsAnswer declared q args s a → IsAnswer declared q args s b → a ≡ b
+
+-- and it has an answer over each list of events
+abbrev pub EveryAnswer : Type 0
+EveryAnswer = (declared : Declared) (q : Query) (args : List (Option Value)) (s : List Event) →
+    (a : Finding) × IsAnswer declared q args s a

@@ -1,3 +1,5 @@
 pub mod Keys
 pub mod Query
 pub mod Answers
+pub mod Keyed
+pub mod Folds

@@ -2,7 +2,7 @@
 ghost use Rattle.std.specs.Prelude.{◌≡◌, ◌↔◌, IsTrue};
 ghost use Rattle.std.specs.declared.cmp.Ordering.TheVariants.{Less, Equal, Greater};
 ghost use Rattle.poets_report.specs.Keys.{Key, KeyPrecedes, key_cmp, same_key};
-ghost use Rattle.poets_report.specs.Answers.{OneAnswer};
+ghost use Rattle.poets_report.specs.Answers.{EveryAnswer, OneAnswer};
 
 /// Two keys are one, or one of them stands before the other.
 pub fn order_of_keys()
@@ -15,4 +15,9 @@ pub fn order_of_keys()
 /// A report has at most one answer over a list of events.
 pub fn one_answer()
     ensures { OneAnswer }
+{}
+
+/// A report has an answer over each list of events, under any arguments.
+pub fn every_answer()
+    ensures { EveryAnswer }
 {}

@@ -11,9 +11,8 @@ ghost use Rattle.poets_norm.specs.Questions.{operated, questions};
 
 use poets_expr::{Asks, Decls, Env, Expr, Given, eval};
 use poets_norm::normal;
-use poets_syntax::build::push;
 use poets_syntax::{Param, Studied, Template, Term, subst};
-use poets_value::{List, Memory, Name, Ty, Value};
+use poets_value::{List, Memory, Name, Ty, Value, push};
 use std::alloc::Global;
 
 // What a name stands for that no pair has.

@@ -7,7 +7,6 @@ ghost use Rattle.poets_syntax.specs.Marks.{nullable as nullable_lem};
 ghost use Rattle.poets_syntax.specs.Perf.{Perf};
 ghost use Rattle.poets_syntax.specs.Studied.{marks_of};
 
-use poets_norm::template_of;
 use poets_syntax::{Studied, Term};
 use poets_value::Name;
 
@@ -25,7 +24,9 @@ pub fn may_end(studied: &Studied, term: &Term) -> bool
 fn is_marked(studied: &Studied, name: Name) -> bool
     ensures { result ≡ (marks_of studied.now).nullable name }
 {
-    template_of(studied, name).is_some_and(|(_, mark)| mark.nullable)
+    studied
+        .template(name)
+        .is_some_and(|(_, mark)| mark.nullable)
 }
 
 // Whether the forms of the contract and the marks of its templates let it end.

@@ -19,7 +19,7 @@ ghost use Rattle.poets_residue.specs.Unfolding.{IsStudied};
 use crate::bodies::unfold;
 use crate::endings::nullable;
 use poets_expr::{Asks, Decls, Env, Expr, Given, eval};
-use poets_norm::{distinct_choice, merge, normal, par, plus, seq, template_of};
+use poets_norm::{distinct_choice, merge, normal, par, plus, seq};
 use poets_syntax::{Binders, Studied, Term, copy, subst};
 use poets_value::{Event, Memory, Name, Ty, Value};
 use std::alloc::Global;
@@ -221,7 +221,7 @@ fn residual_of<L>(
             either(alloc, first, false, after_b, is_joined(studied, b))
         }
         Term::App { name, args } => {
-            let Some((template, _)) = template_of(studied, *name) else {
+            let Some((template, _)) = studied.template(*name) else {
                 return Ok(Term::Failure);
             };
             let body = unfold(alloc, studied, template, args.as_slice(), asks)?;

@@ -9,7 +9,7 @@ ghost use Rattle.poets_residue.specs.Examples.{of_amount as of_amount_lem, one_m
 use crate::{may_end, residual};
 use poets_expr::{Asks, Decls, Expr, Op, build as make};
 use poets_syntax::{Binders, Book, Mark, Param, Studied, Template, Term, build, same};
-use poets_value::{Day, Event, List, Memory, Name, Resource, Ty};
+use poets_value::{Day, Event, List, Memory, Name, Resource, Ty, push};
 use std::alloc::Global;
 use std::collections::BTreeMap;
 
@@ -57,7 +57,7 @@ fn counted(alloc: Global, number: Expr) -> Result<Term, Memory>
     ensures fits { IfOk result (λ c. CountsFit (counting_lem BINDERS F N) (contract_of c)) }
 {
     let mut args = List::new(alloc);
-    build::push(&mut args, number)?;
+    push(&mut args, number)?;
     Ok(Term::App { name: F, args })
 }
 
@@ -70,7 +70,7 @@ fn template(alloc: Global) -> Result<Template, Memory>
         name: N,
         ty: Ty::Int,
     };
-    build::push(&mut params, number)?;
+    push(&mut params, number)?;
     let next = counted(alloc, one_more(alloc, Expr::Name(N))?)?;
     let step = of_amount(alloc, Expr::Name(N), next)?;
     let body = build::plus(alloc, Term::Success, step)?;
@@ -85,7 +85,7 @@ fn book(alloc: Global) -> Result<Book, Memory>
     ensures { IfOk result (λ b. definitions_of b ≡ counting_lem BINDERS F N) }
 {
     let mut templates = List::new(alloc);
-    build::push(&mut templates, template(alloc)?)?;
+    push(&mut templates, template(alloc)?)?;
     let decls = Decls {
         names: BTreeMap::new(alloc),
     };
@@ -101,7 +101,7 @@ fn marks(alloc: Global) -> Result<List<Mark>, Memory>
         hopeful: true,
         wide: 11,
     };
-    build::push(&mut marks, mark)?;
+    push(&mut marks, mark)?;
     Ok(marks)
 }
 
@@ -109,7 +109,7 @@ fn studied(alloc: Global) -> Result<Studied, Memory>
     ensures { IfOk result (λ s. definitions_of s.book ≡ counting_lem BINDERS F N) }
 {
     let book = book(alloc)?;
-    Ok(Studied::of(book, marks(alloc)?))
+    Studied::of(alloc, book, marks(alloc)?)
 }
 
 // Ann gives bob so much.

@@ -4,11 +4,17 @@
 #[cfg(test)]
 mod books;
 #[cfg(test)]
+mod ends;
+#[cfg(test)]
+mod journals;
+#[cfg(test)]
 mod limits;
 #[cfg(test)]
 mod names;
 #[cfg(test)]
-mod owed;
+mod past;
+#[cfg(test)]
+mod portfolios;
 #[cfg(test)]
 mod program;
 #[cfg(test)]
@@ -20,4 +26,8 @@ mod steps;
 #[cfg(test)]
 mod streams;
 #[cfg(test)]
+mod tallies;
+#[cfg(test)]
 mod templates;
+#[cfg(test)]
+mod watches;

@@ -1,16 +1,16 @@
 //! Texts at the limits, and one step past them.
 
-use crate::program::{Answer, SOUND, answers, joined, refused, repeated, runs};
+use crate::books::HEAD;
+use crate::program::{Answer, SOUND, answered, answers, joined, refused, repeated, runs};
 use poets_value::{List, Memory};
 use std::alloc::Global;
 use std::process::Abort;
 use std::test::Fail;
-
-const HEAD: &str = "agents ann, bob;; kinds Oil, USD;; clerk;; ";
+use std::thread::Threads;
 
 // So many times the statement are refused with this line.
-fn copies_refused(
-    rt: &impl Abort,
+fn copies_refused<R: Abort + Threads + Sync>(
+    rt: &R,
     alloc: Global,
     statement: &str,
     count: usize,
@@ -54,11 +54,28 @@ fn ends(alloc: Global, count: usize) -> Result<String, Fail> {
     joined(alloc, &["clerk;;", commands.as_str()])
 }
 
+// The lines of its history: there is no such contract.
+fn unended(alloc: Global, count: usize) -> Result<String, Fail> {
+    let mut text = String::new(alloc);
+    for place in 0..count {
+        let number = place + 1;
+        let line = format!(in alloc; "{number} 1: end c => no contract c\n")?;
+        text.push_str(line.as_str())?;
+    }
+    Ok(text)
+}
+
 #[test]
 fn there_are_at_most_65536_commands(rt: HostRuntime) -> Result<(), Fail> {
     let alloc = rt.alloc();
     let text = ends(alloc, 65_536)?;
-    refused(&rt, alloc, "run", text.as_str(), "refused: not built\n")?;
+    let history = unended(alloc, 65_536)?;
+    let answer = Answer {
+        status: 0,
+        entries: 65_536,
+        lines: &[history.as_str()],
+    };
+    answered(&rt, alloc, "run", text.as_str(), &answer)?;
     let text = ends(alloc, 65_537)?;
     let line = "refused in statement 65538: TooMany\n";
     refused(&rt, alloc, "run", text.as_str(), line)
@@ -72,7 +89,7 @@ fn bracketed(alloc: Global, count: usize) -> Result<String, Fail> {
         alloc,
         &[
             HEAD,
-            "register x = ",
+            "clerk;; register x = ",
             open.as_str(),
             "Success",
             closed.as_str(),
@@ -100,11 +117,11 @@ fn choices(alloc: Global, count: usize) -> Result<String, Fail> {
 fn a_statement_has_at_most_1000_operators(rt: HostRuntime) -> Result<(), Fail> {
     let alloc = rt.alloc();
     let command = choices(alloc, 999)?;
-    let text = joined(alloc, &[HEAD, command.as_str(), ";;"])?;
+    let text = joined(alloc, &[HEAD, "clerk;;", command.as_str(), ";;"])?;
     let line = joined(alloc, &["1 1: ", command.as_str(), " => registered 1\n"])?;
     runs(&rt, alloc, text.as_str(), &[line.as_str()])?;
     let command = choices(alloc, 1_000)?;
-    let text = joined(alloc, &[HEAD, command.as_str(), ";;"])?;
+    let text = joined(alloc, &[HEAD, "clerk;;", command.as_str(), ";;"])?;
     let line = "refused in statement 4: TooDeep\n";
     refused(&rt, alloc, "run", text.as_str(), line)
 }
@@ -123,9 +140,14 @@ fn alternatives(alloc: Global, first: &str) -> Result<String, Fail> {
 }
 
 // The registration of the alternatives has this reply.
-fn replied(rt: &impl Abort, alloc: Global, first: &str, reply: &str) -> Result<(), Fail> {
+fn replied<R: Abort + Threads + Sync>(
+    rt: &R,
+    alloc: Global,
+    first: &str,
+    reply: &str,
+) -> Result<(), Fail> {
     let command = alternatives(alloc, first)?;
-    let text = joined(alloc, &[HEAD, command.as_str(), ";;"])?;
+    let text = joined(alloc, &[HEAD, "clerk;;", command.as_str(), ";;"])?;
     let line = joined(alloc, &["1 1: ", command.as_str(), " => ", reply, "\n"])?;
     runs(rt, alloc, text.as_str(), &[line.as_str()])
 }
@@ -137,12 +159,17 @@ fn a_contract_is_at_most_1000_wide(rt: HostRuntime) -> Result<(), Fail> {
 }
 
 // Whether `run` answers so many blanks so.
-fn blanks_answered(alloc: Global, count: usize, answer: &Answer) -> Result<bool, Fail> {
+fn blanks_answered<R: Threads + Sync>(
+    rt: &R,
+    alloc: Global,
+    count: usize,
+    answer: &Answer,
+) -> Result<bool, Fail> {
     let mut bytes = List::new(alloc);
     for _ in 0..count {
         bytes.push(b' ').map_err(|_| Memory)?;
     }
-    answers(alloc, &["run"], bytes, &SOUND, answer)
+    answers(rt, alloc, &["run"], bytes, &SOUND, answer)
 }
 
 #[test]
@@ -152,12 +179,12 @@ fn a_session_has_at_most_16777216_bytes(rt: HostRuntime) -> Result<(), Fail> {
         entries: 0,
         lines: &[],
     };
-    assert!(rt; blanks_answered(rt.alloc(), 16_777_216, &nothing)?);
+    assert!(rt; blanks_answered(&rt, rt.alloc(), 16_777_216, &nothing)?);
     let longer = Answer {
         status: 6,
         entries: 0,
         lines: &["refused: longer than 16777216 bytes\n"],
     };
-    assert!(rt; blanks_answered(rt.alloc(), 16_777_217, &longer)?);
+    assert!(rt; blanks_answered(&rt, rt.alloc(), 16_777_217, &longer)?);
     Ok(())
 }

@@ -6,6 +6,7 @@ use poets_value::{List, Memory};
 use std::alloc::Global;
 use std::process::Abort;
 use std::test::Fail;
+use std::thread::Threads;
 
 /// How the source and the sink behave: the bytes of a read, and the calls that fail.
 #[derive(Clone, Copy)]
@@ -65,7 +66,8 @@ pub(crate) fn repeated(alloc: Global, piece: &str, count: usize) -> Result<Strin
 }
 
 // Whether the program answers the bytes so.
-pub(crate) fn answers(
+pub(crate) fn answers<R: Threads + Sync>(
+    rt: &R,
     alloc: Global,
     words: &[&str],
     bytes: List<u8>,
@@ -78,7 +80,7 @@ pub(crate) fn answers(
     let wanted = joined(alloc, answer.lines)?;
     let mut source = TextSource::new(alloc, bytes, edges.step.max(1), reads);
     let mut sink = TextSink::new(alloc, writes)?;
-    let outcome = run(alloc, words.as_slice(), &mut source, &mut sink);
+    let outcome = run(rt, alloc, words.as_slice(), &mut source, &mut sink);
     Ok(
         outcome.status == answer.status
             && outcome.history.len() == answer.entries
@@ -87,8 +89,8 @@ pub(crate) fn answers(
 }
 
 // The program, called with the word, answers the text so.
-pub(crate) fn answered(
-    rt: &impl Abort,
+pub(crate) fn answered<R: Abort + Threads + Sync>(
+    rt: &R,
     alloc: Global,
     word: &str,
     text: &str,
@@ -96,24 +98,55 @@ pub(crate) fn answered(
 ) -> Result<(), Fail> {
     let bytes = list(alloc, text.as_bytes())?;
     assert!(rt;
-        answers(alloc, &[word], bytes, &SOUND, answer)?,
+        answers(rt, alloc, &[word], bytes, &SOUND, answer)?,
         "{word}: {text}"
     );
     Ok(())
 }
 
-// `run` writes these lines of the text, one for each command.
-pub(crate) fn runs(rt: &impl Abort, alloc: Global, text: &str, lines: &[&str]) -> Result<(), Fail> {
+// These lines are written of the text, one for each command.
+fn made<R: Abort + Threads + Sync>(
+    rt: &R,
+    alloc: Global,
+    word: &str,
+    text: &str,
+    lines: &[&str],
+) -> Result<(), Fail> {
     let answer = Answer {
         status: 0,
         entries: lines.len(),
         lines,
     };
-    answered(rt, alloc, "run", text, &answer)
+    answered(rt, alloc, word, text, &answer)
+}
+
+// `run` writes these lines of the text.
+pub(crate) fn runs<R: Abort + Threads + Sync>(
+    rt: &R,
+    alloc: Global,
+    text: &str,
+    lines: &[&str],
+) -> Result<(), Fail> {
+    made(rt, alloc, "run", text, lines)
+}
+
+// `replay` writes these lines of the text.
+pub(crate) fn replays<R: Abort + Threads + Sync>(
+    rt: &R,
+    alloc: Global,
+    text: &str,
+    lines: &[&str],
+) -> Result<(), Fail> {
+    made(rt, alloc, "replay", text, lines)
 }
 
 // `check` writes this line of the text.
-pub(crate) fn checks(rt: &impl Abort, alloc: Global, text: &str, line: &str) -> Result<(), Fail> {
+pub(crate) fn checks<R: Abort + Threads + Sync>(
+    rt: &R,
+    alloc: Global,
+    text: &str,
+    line: &str,
+) -> Result<(), Fail> {
     let answer = Answer {
         status: 0,
         entries: 0,
@@ -123,8 +156,8 @@ pub(crate) fn checks(rt: &impl Abort, alloc: Global, text: &str, line: &str) -> 
 }
 
 // The text is refused with this line.
-pub(crate) fn refused(
-    rt: &impl Abort,
+pub(crate) fn refused<R: Abort + Threads + Sync>(
+    rt: &R,
     alloc: Global,
     word: &str,
     text: &str,
@@ -139,8 +172,8 @@ pub(crate) fn refused(
 }
 
 // Each text is refused with its line.
-pub(crate) fn all_refused(
-    rt: &impl Abort,
+pub(crate) fn all_refused<R: Abort + Threads + Sync>(
+    rt: &R,
     alloc: Global,
     word: &str,
     rows: &[(&str, &str)],

@@ -117,7 +117,7 @@ fn faults_of_types_come_from_the_left(rt: HostRuntime) -> Result<(), Fail> {
     all_refused(&rt, rt.alloc(), "check", &MISTYPED)
 }
 
-const OF_COMMANDS: [(&str, &str); 5] = [
+const OF_COMMANDS: [(&str, &str); 8] = [
     (
         "agents ann;; kinds Oil;; clerk;; transmit c ann Oil 1 zork @2006-01-01;;",
         "refused in statement 4: WrongType: wanted Agent, found Kind\n",
@@ -137,6 +137,18 @@ const OF_COMMANDS: [(&str, &str); 5] = [
     (
         "clerk;; show c;; tally q();;",
         "refused in statement 3: Unknown q\n",
+    ),
+    (
+        "report q(n: Int): Int = fold x = n with (s, v, r, t) in x;; clerk;; tally q();;",
+        "refused in statement 3: WrongCount q: wanted 1, found 0\n",
+    ),
+    (
+        "report q(n: Int): Int = fold x = n with (s, v, r, t) in x;; clerk;; watch q(true);;",
+        "refused in statement 3: WrongType: wanted Int, found Bool\n",
+    ),
+    (
+        "template f() = Success;; clerk;; portfolio f() over c;;",
+        "refused in statement 3: Unknown f\n",
     ),
 ];
 

@@ -25,21 +25,22 @@ const DELIVERY: [Step; 3] = [
     ("transmit c ann bob 7 Oil @2006-05-03", "unmatched"),
 ];
 
-const HOPELESS: [Step; 2] = [
+const HOPELESS: [Step; 3] = [
     (
         "register d = transmit(a, b, r, t | true). Failure",
         "hopeless",
     ),
+    ("show d", "no contract d"),
     ("transmit d ann bob 1 Oil @2006-01-01", "no contract d"),
 ];
 
 #[test]
 fn a_contract_takes_what_performs_it(rt: HostRuntime) -> Result<(), Fail> {
-    replied(&rt, rt.alloc(), "", &DELIVERY)?;
-    replied(&rt, rt.alloc(), "", &HOPELESS)
+    replied(&rt, rt.alloc(), &[], &DELIVERY)?;
+    replied(&rt, rt.alloc(), &[], &HOPELESS)
 }
 
-const BINDERS: [Step; 4] = [
+const BINDERS: [Step; 5] = [
     (
         "register c = transmit(a, b, r, t | true). transmit(a, c, q, w | a = bob). Success",
         "registered 1",
@@ -47,6 +48,10 @@ const BINDERS: [Step; 4] = [
     (
         "transmit c ann bob 1 Oil @2006-01-01",
         "recorded 1, may end no",
+    ),
+    (
+        "show c",
+        "events 1, may end no, ended no, residual transmit(a, c, q, w | a = bob). Success",
     ),
     ("transmit c ann bob 1 Oil @2006-01-01", "unmatched"),
     (
@@ -57,7 +62,7 @@ const BINDERS: [Step; 4] = [
 
 #[test]
 fn a_binder_hides_an_outer_one(rt: HostRuntime) -> Result<(), Fail> {
-    replied(&rt, rt.alloc(), "", &BINDERS)
+    replied(&rt, rt.alloc(), &[], &BINDERS)
 }
 
 const PARALLEL: Step = (
@@ -70,9 +75,19 @@ const FIRST: Step = (
     "recorded 1, may end no",
 );
 
+const BOTH_WAYS: Step = (
+    "show c",
+    "events 1, may end no, ended no, residual transmit(a, b, r, t | kind(r) = Oil). transmit(a, b, r, t | kind(r) = USD). Success + transmit(a, b, r, t | kind(r) = Oil). Success || transmit(a, b, r, t | kind(r) = USD). Success",
+);
+
 const OIL: Step = (
     "transmit c ann bob 1 Oil @2006-01-01",
     "recorded 2, may end no",
+);
+
+const USD_OWED: Step = (
+    "show c",
+    "events 2, may end no, ended no, residual transmit(a, b, r, t | kind(r) = USD). Success",
 );
 
 const USD: Step = (
@@ -80,13 +95,20 @@ const USD: Step = (
     "recorded 2, may end no",
 );
 
+const OIL_OWED: Step = (
+    "show c",
+    "events 2, may end no, ended no, residual transmit(a, b, r, t | kind(r) = Oil). Success",
+);
+
 #[test]
 fn an_event_leaves_both_parts_open(rt: HostRuntime) -> Result<(), Fail> {
-    replied(&rt, rt.alloc(), "", &[PARALLEL, FIRST, OIL])?;
-    replied(&rt, rt.alloc(), "", &[PARALLEL, FIRST, USD])
+    let oil = [PARALLEL, FIRST, BOTH_WAYS, OIL, USD_OWED];
+    replied(&rt, rt.alloc(), &[], &oil)?;
+    let usd = [PARALLEL, FIRST, BOTH_WAYS, USD, OIL_OWED];
+    replied(&rt, rt.alloc(), &[], &usd)
 }
 
-const SEQUENCE: [Step; 2] = [
+const SEQUENCE: [Step; 3] = [
     (
         "register c = (Success + transmit(a, b, r, t | kind(r) = Oil). Success) ; transmit(a, b, r, t | kind(r) = USD). Success",
         "registered 1",
@@ -95,11 +117,15 @@ const SEQUENCE: [Step; 2] = [
         "transmit c ann bob 1 USD @2006-01-01",
         "recorded 1, may end yes",
     ),
+    (
+        "show c",
+        "events 1, may end yes, ended no, residual Success",
+    ),
 ];
 
 #[test]
 fn a_part_that_may_end_is_passed_over(rt: HostRuntime) -> Result<(), Fail> {
-    replied(&rt, rt.alloc(), "", &SEQUENCE)
+    replied(&rt, rt.alloc(), &[], &SEQUENCE)
 }
 
 // A sale with other white space than it is printed with, and brackets that its tree does not ask for.

@@ -1,20 +1,19 @@
 //! Sessions of one clerk, step by step.
 
-use crate::program::{Answer, answered};
+use crate::books::HEAD;
+use crate::program::{Answer, answered, joined};
 use std::alloc::Global;
 use std::process::Abort;
 use std::test::Fail;
-
-const HEAD: &str = "agents ann, bob;; kinds Oil, USD;;\n";
+use std::thread::Threads;
 
 /// A command, as it is printed, and the reply to it.
 pub(crate) type Step<'a> = (&'a str, &'a str);
 
 // The session of these commands, under clerk 1, after the templates and reports of the book.
-fn session(alloc: Global, book: &str, steps: &[Step]) -> Result<String, Fail> {
-    let mut text = String::from_str(alloc, HEAD)?;
-    text.push_str(book)?;
-    text.push_str("clerk;;\n")?;
+fn session(alloc: Global, book: &[&str], steps: &[Step]) -> Result<String, Fail> {
+    let book = joined(alloc, book)?;
+    let mut text = joined(alloc, &[HEAD, book.as_str(), "clerk;;\n"])?;
     for (command, _) in steps {
         text.push_str(command)?;
         text.push_str(";;\n")?;
@@ -34,10 +33,10 @@ fn history(alloc: Global, steps: &[Step]) -> Result<String, Fail> {
 }
 
 // The commands have these replies, with ann and bob, Oil and USD, and what the book declares besides.
-pub(crate) fn replied(
-    rt: &impl Abort,
+pub(crate) fn replied<R: Abort + Threads + Sync>(
+    rt: &R,
     alloc: Global,
-    book: &str,
+    book: &[&str],
     steps: &[Step],
 ) -> Result<(), Fail> {
     let text = session(alloc, book, steps)?;

@@ -6,30 +6,34 @@ use poets_top::run;
 use std::alloc::Global;
 use std::process::Abort;
 use std::test::Fail;
+use std::thread::Threads;
 
-// A delivery that may also never come, and the same event twice.
-const DELIVERY: &str = "agents ann, bob;; kinds Oil, USD;; clerk;;
-register c = transmit(a, b, r, t | kind(r) = Oil and amount(r) = 7). Success + Success;;
-transmit c ann bob 7 Oil @2006-05-03;; transmit c ann bob 7 Oil @2006-05-03;;";
+// A contract that is ended at once, and then once more.
+const ENDED: &str = "agents ann, bob;; kinds Oil, USD;; clerk;;
+register a = Success;; show a;; end a;; end a;;";
 
-const LINES: [&str; 3] = [
-    "1 1: register c = transmit(a, b, r, t | kind(r) = Oil and amount(r) = 7). Success + Success => registered 1\n",
-    "2 1: transmit c ann bob 7 Oil @2006-05-03 => recorded 1, may end yes\n",
-    "3 1: transmit c ann bob 7 Oil @2006-05-03 => unmatched\n",
+const LINES: [&str; 4] = [
+    "1 1: register a = Success => registered 1\n",
+    "2 1: show a => events 0, may end yes, ended no, residual Success\n",
+    "3 1: end a => ended now\n",
+    "4 1: end a => already ended\n",
 ];
 
 const REFUSED: &str = "agents ann, ann;;";
 
 // The program, called with the word, answers the text so over such a source and sink.
-fn answered(
-    rt: &impl Abort,
+fn answered<R: Abort + Threads + Sync>(
+    rt: &R,
     alloc: Global,
     (word, text): (&str, &str),
     edges: &Edges,
     answer: &Answer,
 ) -> Result<(), Fail> {
     let bytes = list(alloc, text.as_bytes())?;
-    assert!(rt; answers(alloc, &[word], bytes, edges, answer)?, "{word}");
+    assert!(rt;
+        answers(rt, alloc, &[word], bytes, edges, answer)?,
+        "{word}"
+    );
     Ok(())
 }
 
@@ -37,35 +41,41 @@ fn answered(
 fn short_reads_change_nothing(rt: HostRuntime) -> Result<(), Fail> {
     let answer = Answer {
         status: 0,
-        entries: 3,
+        entries: 4,
         lines: &LINES,
     };
     for step in [1, 2, 7, 250] {
         let edges = Edges { step, ..SOUND };
-        answered(&rt, rt.alloc(), ("run", DELIVERY), &edges, &answer)?;
+        answered(&rt, rt.alloc(), ("run", ENDED), &edges, &answer)?;
     }
     Ok(())
 }
 
 // The history is made whole, and these lines of it are written, where the write with the number fails.
-fn cut(rt: &impl Abort, alloc: Global, at: u64, lines: &[&str]) -> Result<(), Fail> {
+fn cut<R: Abort + Threads + Sync>(
+    rt: &R,
+    alloc: Global,
+    at: u64,
+    lines: &[&str],
+) -> Result<(), Fail> {
     let edges = Edges {
         writes: &[at],
         ..SOUND
     };
     let answer = Answer {
         status: 5,
-        entries: 3,
+        entries: 4,
         lines,
     };
-    answered(rt, alloc, ("run", DELIVERY), &edges, &answer)
+    answered(rt, alloc, ("run", ENDED), &edges, &answer)
 }
 
 #[test]
 fn a_failing_write_leaves_whole_lines(rt: HostRuntime) -> Result<(), Fail> {
     cut(&rt, rt.alloc(), 1, &[])?;
     cut(&rt, rt.alloc(), 2, &[LINES[0]])?;
-    cut(&rt, rt.alloc(), 3, &[LINES[0], LINES[1]])
+    cut(&rt, rt.alloc(), 3, &[LINES[0], LINES[1]])?;
+    cut(&rt, rt.alloc(), 4, &[LINES[0], LINES[1], LINES[2]])
 }
 
 const FAILING_WRITE: Edges = Edges {
@@ -82,7 +92,9 @@ const UNWRITTEN: Answer = Answer {
 
 #[test]
 fn a_failing_write_leaves_no_line(rt: HostRuntime) -> Result<(), Fail> {
-    for asked in [("check", ""), ("check", REFUSED), ("run", REFUSED)] {
+    let refused = [("check", REFUSED), ("run", REFUSED), ("replay", REFUSED)];
+    answered(&rt, rt.alloc(), ("check", ""), &FAILING_WRITE, &UNWRITTEN)?;
+    for asked in refused {
         answered(&rt, rt.alloc(), asked, &FAILING_WRITE, &UNWRITTEN)?;
     }
     Ok(())
@@ -95,13 +107,18 @@ const UNREAD: Answer = Answer {
 };
 
 // The read with the number fails.
-fn unread(rt: &impl Abort, alloc: Global, word: &str, at: u64) -> Result<(), Fail> {
+fn unread<R: Abort + Threads + Sync>(
+    rt: &R,
+    alloc: Global,
+    word: &str,
+    at: u64,
+) -> Result<(), Fail> {
     let edges = Edges {
-        step: 100,
+        step: 50,
         reads: &[at],
         writes: &[],
     };
-    answered(rt, alloc, (word, DELIVERY), &edges, &UNREAD)
+    answered(rt, alloc, (word, ENDED), &edges, &UNREAD)
 }
 
 #[test]
@@ -109,7 +126,8 @@ fn a_failing_read_writes_nothing(rt: HostRuntime) -> Result<(), Fail> {
     for at in [1, 2, 3] {
         unread(&rt, rt.alloc(), "run", at)?;
     }
-    unread(&rt, rt.alloc(), "check", 1)
+    unread(&rt, rt.alloc(), "check", 1)?;
+    unread(&rt, rt.alloc(), "replay", 1)
 }
 
 const FAILING: Edges = Edges {
@@ -125,10 +143,10 @@ const NOTHING: Answer = Answer {
 };
 
 // The words are no command form; each first call would fail.
-fn no_form(rt: &impl Abort, alloc: Global, words: &[&str]) -> Result<(), Fail> {
-    let bytes = list(alloc, DELIVERY.as_bytes())?;
+fn no_form<R: Abort + Threads + Sync>(rt: &R, alloc: Global, words: &[&str]) -> Result<(), Fail> {
+    let bytes = list(alloc, ENDED.as_bytes())?;
     assert!(rt;
-        answers(alloc, words, bytes, &FAILING, &NOTHING)?,
+        answers(rt, alloc, words, bytes, &FAILING, &NOTHING)?,
         "{words:?}"
     );
     Ok(())
@@ -138,10 +156,10 @@ fn no_form(rt: &impl Abort, alloc: Global, words: &[&str]) -> Result<(), Fail> {
 fn other_words_read_and_write_nothing(rt: HostRuntime) -> Result<(), Fail> {
     let alloc = rt.alloc();
     no_form(&rt, alloc, &[])?;
-    for word in ["-h", "runs", "Check", "explain", ""] {
+    for word in ["-h", "runs", "Check", "replays", "explain", ""] {
         no_form(&rt, alloc, &[word])?;
     }
-    for word in ["run", "check", "demo"] {
+    for word in ["run", "check", "replay", "demo"] {
         no_form(&rt, alloc, &[word, "run"])?;
     }
     Ok(())
@@ -151,9 +169,9 @@ fn other_words_read_and_write_nothing(rt: HostRuntime) -> Result<(), Fail> {
 fn a_sure_source_and_a_sure_sink_never_fail(rt: HostRuntime) -> Result<(), Fail> {
     let alloc = rt.alloc();
     let words = all_words(alloc, &["run"])?;
-    let mut source = SureSource::new(alloc, list(alloc, DELIVERY.as_bytes())?);
+    let mut source = SureSource::new(alloc, list(alloc, ENDED.as_bytes())?);
     let mut sink = SureSink::new();
-    let outcome = run(alloc, words.as_slice(), &mut source, &mut sink);
+    let outcome = run(&rt, alloc, words.as_slice(), &mut source, &mut sink);
     assert_eq!(rt; outcome.status, 0);
     let lines = joined(alloc, &LINES)?;
     assert_eq!(rt; sink.taken(), lines.len() as u64);

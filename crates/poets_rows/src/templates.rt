@@ -1,19 +1,20 @@
 //! Sessions with templates.
 
+use crate::books::{QUOTIENT, SALE};
 use crate::program::runs;
 use crate::steps::{Step, replied};
 use std::test::Fail;
-
-const SALE: &str = "template sale(s: Agent, b: Agent, n: Int) =
-  transmit(x, y, r, t | x = s and y = b and r = res(n, Oil)).
-  transmit(u, v, p, w | u = b and v = s and kind(p) = USD and w <= t + 30). Success;;
-";
 
 const SOLD: Step = ("register deal = sale(ann, bob, 7)", "registered 1");
 
 const DELIVERED: Step = (
     "transmit deal ann bob 7 Oil @2006-05-03",
     "recorded 1, may end no",
+);
+
+const OWED: Step = (
+    "show deal",
+    "events 1, may end no, ended no, residual transmit(u, v, p, w | u = bob and v = ann and kind(p) = USD and w <= @2006-05-03 + 30). Success",
 );
 
 const PAID: Step = (
@@ -35,41 +36,46 @@ const PAID_AT_ONCE: Step = (
 
 #[test]
 fn a_sale_is_paid_within_thirty_days(rt: HostRuntime) -> Result<(), Fail> {
-    replied(&rt, rt.alloc(), SALE, &[SOLD, DELIVERED, PAID])?;
+    replied(&rt, rt.alloc(), &[SALE], &[SOLD, DELIVERED, OWED, PAID])?;
     let too_late = [SOLD, DELIVERED, PAID_TOO_LATE, PAID];
-    replied(&rt, rt.alloc(), SALE, &too_late)?;
+    replied(&rt, rt.alloc(), &[SALE], &too_late)?;
     let before = [SOLD, DELIVERED, PAID_BEFORE, PAID_AT_ONCE];
-    replied(&rt, rt.alloc(), SALE, &before)
+    replied(&rt, rt.alloc(), &[SALE], &before)
 }
 
-// The second amount is a quotient by 0: no event has it.
-const UNDEFINED: &str =
-    "template f(n: Int) = Success + transmit(a, b, r, t | amount(r) = n). f(n / 0);;\n";
-
-const ONE_STEP: [Step; 3] = [
+const ONE_STEP: [Step; 4] = [
     ("register c = f(3)", "registered 1"),
     (
         "transmit c ann bob 3 Oil @2006-01-01",
         "recorded 1, may end yes",
     ),
+    (
+        "show c",
+        "events 1, may end yes, ended no, residual f(undefined Int)",
+    ),
     ("transmit c ann bob 3 Oil @2006-01-01", "unmatched"),
 ];
 
-const TOO_LARGE_A_SUM: [Step; 2] = [
+const TOO_LARGE_A_SUM: [Step; 3] = [
     ("register c = f(9223372036854775807 + 1)", "registered 1"),
+    (
+        "show c",
+        "events 0, may end yes, ended no, residual f(undefined Int)",
+    ),
     ("transmit c ann bob 3 Oil @2006-01-01", "unmatched"),
 ];
 
-const NEGATED: [Step; 2] = [
+const NEGATED: [Step; 3] = [
     ("register c = f(-(5) - -3)", "registered 1"),
+    ("show c", "events 0, may end yes, ended no, residual f(-2)"),
     ("transmit c ann bob 2 Oil @2006-01-01", "unmatched"),
 ];
 
 #[test]
 fn arguments_have_their_values(rt: HostRuntime) -> Result<(), Fail> {
-    replied(&rt, rt.alloc(), UNDEFINED, &ONE_STEP)?;
-    replied(&rt, rt.alloc(), UNDEFINED, &TOO_LARGE_A_SUM)?;
-    replied(&rt, rt.alloc(), UNDEFINED, &NEGATED)
+    replied(&rt, rt.alloc(), &[QUOTIENT], &ONE_STEP)?;
+    replied(&rt, rt.alloc(), &[QUOTIENT], &TOO_LARGE_A_SUM)?;
+    replied(&rt, rt.alloc(), &[QUOTIENT], &NEGATED)
 }
 
 const NEVER: &str = "template never() = transmit(a, b, r, t | true). never();;\n";
@@ -81,7 +87,7 @@ const NEVER_ENDS: [Step; 2] = [
 
 #[test]
 fn a_template_without_an_end_is_no_alternative(rt: HostRuntime) -> Result<(), Fail> {
-    replied(&rt, rt.alloc(), NEVER, &NEVER_ENDS)
+    replied(&rt, rt.alloc(), &[NEVER], &NEVER_ENDS)
 }
 
 // A flat: the key, the rents in order, and the key back, or what is left of them.

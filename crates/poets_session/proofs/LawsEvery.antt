@@ -21,8 +21,8 @@ use Rattle.poets_call.specs.TypedSentences.{NumberedFault, first_fault}
 use Rattle.poets_session.specs.declared.form.Form.{Form}
 use Rattle.poets_session.specs.Pieces.{Piece, pieces_of}
 use Rattle.poets_session.specs.Places.{PlaceFault, place_fault}
-use Rattle.poets_session.specs.Sessions.{Text, IsStatement, IsReadAs, IsNoSession}
-use Rattle.poets_session.specs.Refusals.{Refusal, BadByte, LongNumber, LongName, TooDeep, NoSentence, Place, Mistyped, Unguarded, refusal_at_byte, IsUnread, IsStopped, IsTemplateAt, IsRefused}
+use Rattle.poets_session.specs.Sessions.{Text, IsStatement, AreValid, IsNoSession}
+use Rattle.poets_session.specs.Refusals.{Refusal, BadByte, LongNumber, LongName, TooDeep, NoSentence, Place, Mistyped, Unguarded, refusal_at_byte, IsUnread, IsStopped, IsTemplateAt, IsUnreadable, AreRefused, IsRefused}
 use Rattle.poets_session.specs.Checking.{declares}
 use Rattle.poets_session.proofs.Saying.{Standing, standing_first, standing_more, standing_end}
 use Rattle.poets_session.proofs.Cycling.{at_sentence, not_declared, first_declared}
@@ -90,6 +90,19 @@ every_guarded statements unguarded none = unguarded on_cycle
         let u = first_declared statements x lies.0 lies.1 in let at = declared_at statements x u.0 u.1 in
         none at.0 (x ∷ lies.0) (record { earlier = earlier; first = x; later = later; others = lies.0; split = split; begins = refl; is_cycle = lies.1; none = free }) at.1)
 
+-- ---- whole sessions
+
+every_checked : {form : Form} {statements : List Sentence} → (AreValid form statements → ⊥) → ((r : Refusal) → AreRefused form statements r → ⊥) →
+    (misplaced : Option PlaceFault) → place_fault form statements ≡ misplaced → (mistyped : NumberedFault) → first_fault statements ≡ mistyped → ⊥
+every_checked invalid none (Some fault) e mistyped f = none (Place fault) (AreRefused.OutOfPlace e)
+every_checked invalid none None e (Some (number, fault)) f = none (Mistyped number fault) (AreRefused.NotTyped e f)
+every_checked {statements = statements} invalid none None e None f =
+    every_guarded statements (λ guarded. invalid (record { placed = e; typed = f; guarded = guarded }))
+    (λ number cycle found at. none (Unguarded number cycle) (AreRefused.NotGuarded e f found at))
+
+pub every_valid : (form : Form) (statements : List Sentence) → (AreValid form statements → ⊥) → ((r : Refusal) → AreRefused form statements r → ⊥) → ⊥
+every_valid form statements invalid none = every_checked invalid none (place_fault form statements) refl (first_fault statements) refl
+
 -- ---- texts
 
 refused_at_byte : {text : Text} (fault : LexFault) → FirstFault [] text fault → (r : Refusal) × (refusal_at_byte fault ≡ Some r)
@@ -98,29 +111,18 @@ refused_at_byte (L.LongNumber at) h = (LongNumber at, refl)
 refused_at_byte (L.LongName at) h = (LongName at, refl)
 refused_at_byte L.Memory h = absurd h.found
 
--- neither a session nor refused
-record IsNeither (text : Text) (form : Form) : Type 0 where
-  no_session : IsNoSession text form
-  no_refusal : (names : Table) (r : Refusal) → ¬ (IsRefused text form names r)
-
-every_checked : {text : Text} {form : Form} {names : Table} {statements : List Sentence} → IsNeither text form → IsReadAs text names statements →
-    (misplaced : Option PlaceFault) → place_fault form statements ≡ misplaced → (mistyped : NumberedFault) → first_fault statements ≡ mistyped → ⊥
-every_checked {names = names} none read (Some fault) e mistyped f = none.no_refusal names (Place fault) (IsRefused.IsOutOfPlace read e)
-every_checked {names = names} none read None e (Some (number, fault)) f = none.no_refusal names (Mistyped number fault) (IsRefused.IsMistyped read e f)
-every_checked {names = names} {statements = statements} none read None e None f =
-    every_guarded statements (λ guarded. none.no_session names statements (record { read = read; placed = e; typed = f; guarded = guarded }))
-    (λ number cycle found at. none.no_refusal names (Unguarded number cycle) (IsRefused.IsUnguarded read e f found at))
-
 pub every_text : (text : Text) (form : Form) → IsNoSession text form → ((names : Table) (r : Refusal) → ¬ (IsRefused text form names r)) → ⊥
 every_text text form no_session no_refusal =
-    let none : IsNeither text form = record { no_session = no_session; no_refusal = no_refusal } in
     every-text [] text
     (λ tokens names lexed.
     let pieces = pieces_of (toks tokens) in
     unsaid_after pieces pieces []
     (record {
-      not_said = λ statements said. every_checked none (read_as text names tokens statements lexed said) (place_fault form statements) refl (first_fault statements) refl;
-      not_stopped = λ r stopped. no_refusal names r (IsRefused.IsUnreadable lexed stopped);
+      not_said = λ statements said.
+          let read = read_as text names tokens statements lexed said in
+          every_valid form statements (λ valid. no_session names statements (record { read = read; valid = valid }))
+          (λ r refused. no_refusal names r (IsRefused.Invalid read refused));
+      not_stopped = λ r stopped. no_refusal names r (IsRefused.Unreadable (IsUnreadable.AtStatement lexed stopped));
     })
     (standing_first pieces))
-    (λ fault first. let told = refused_at_byte fault first in no_refusal [] told.0 (IsRefused.AtByte fault first told.1))
+    (λ fault first. let told = refused_at_byte fault first in no_refusal [] told.0 (IsRefused.Unreadable (IsUnreadable.AtByte fault first told.1)))

@@ -10,3 +10,5 @@ pub mod LawsCycles
 pub mod LawsRefused
 pub mod LawsEvery
 pub mod LawsFitting
+pub mod Listing
+pub mod LawsListed

@@ -1,5 +1,5 @@
 -- Refusals, phase by phase.
-use Rattle.std.proofs.Common.{◌≡◌, ◌≢◌, ℕ, List, [], inl, inr, Option, Some, None, refl, sym, subst}
+use Rattle.std.proofs.Common.{◌≡◌, ◌≢◌, ℕ, List, [], inl, inr, Option, Some, None, Result, Ok, Err, IfErr, refl, sym, subst}
 use Rattle.poets_lex.specs.declared.token.Token.{Token}
 use Rattle.poets_lex.specs.declared.fault.LexFault.{LexFault}
 use Rattle.poets_lex.specs.declared.fault.LexFault.TheVariants as L
@@ -14,11 +14,13 @@ use Rattle.poets_session.specs.Places.{Misplaced, TooMany, place_fault}
 use Rattle.poets_session.specs.Counting.{fault_of}
 use Rattle.poets_session.specs.Sessions.{Text, IsReadAs}
 use Rattle.poets_session.specs.Splitting.{AreSaid}
-use Rattle.poets_session.specs.Refusals.{Refusal, BadByte, LongNumber, LongName, Place, Mistyped, IsStopped, IsRefused}
+use Rattle.poets_session.specs.Refusals.{Refusal, BadByte, LongNumber, LongName, Place, Mistyped, IsStopped, IsUnreadable, AreRefused, IsRefused}
 use Rattle.poets_session.specs.Checking.{IsTypeRefusal, IsGuardRefusal}
-use Rattle.poets_session.specs.Causes.{IsCauseOf, lex_cause, place_cause}
+use Rattle.poets_session.specs.Causes.{IsCauseOf, IsFirstFaultOf, IsFirstFault, lex_cause, place_cause}
 use Rattle.poets_session.specs.declared.form.Form.{Form}
 use Rattle.poets_session.specs.declared.fault.SessionCause.{SessionCause}
+use Rattle.poets_session.specs.declared.fault.SessionFault.{SessionFault}
+use Rattle.poets_session.specs.declared.session.Session.{Session}
 use Rattle.poets_session.specs.declared.counting.PlaceFault.{PlaceFault}
 use Rattle.poets_session.specs.declared.counting.PlaceFault.TheVariants as P
 
@@ -26,44 +28,59 @@ IsCauseOf-map : (Is As : Refusal → Type 0) (cause : SessionCause) → ((r : Re
 IsCauseOf-map Is As cause f (inl e) = inl e
 IsCauseOf-map Is As cause f (inr (r, e, h)) = inr (r, e, f r h)
 
-pub lex_refused : (text : Text) (form : Form) (names : Table) (fault : LexFault) → (fault ≢ L.Memory → FirstFault [] text fault) → IsCauseOf (IsRefused text form names) (lex_cause fault)
-lex_refused text form names (L.BadByte at) h = inr (BadByte at, refl, IsRefused.AtByte (L.BadByte at) (h (λ e. absurd cc)) refl)
-lex_refused text form names (L.LongNumber at) h = inr (LongNumber at, refl, IsRefused.AtByte (L.LongNumber at) (h (λ e. absurd cc)) refl)
-lex_refused text form names (L.LongName at) h = inr (LongName at, refl, IsRefused.AtByte (L.LongName at) (h (λ e. absurd cc)) refl)
-lex_refused text form names L.Memory h = inl refl
+-- ---- texts that say no statements
 
-pub unread_refused : (text : Text) (form : Form) (names : Table) (tokens : List Token) (cause : SessionCause) → Lexes [] text 0 tokens names →
-    IsCauseOf (IsStopped (pieces_of (toks tokens))) cause → IsCauseOf (IsRefused text form names) cause
-unread_refused text form names tokens cause lexed h = IsCauseOf-map (IsStopped (pieces_of (toks tokens))) (IsRefused text form names) cause (λ r s. IsRefused.IsUnreadable lexed s) h
+pub lex_unreadable : (text : Text) (names : Table) (fault : LexFault) → (fault ≢ L.Memory → FirstFault [] text fault) → IsCauseOf (IsUnreadable text names) (lex_cause fault)
+lex_unreadable text names (L.BadByte at) h = inr (BadByte at, refl, IsUnreadable.AtByte (L.BadByte at) (h (λ e. absurd cc)) refl)
+lex_unreadable text names (L.LongNumber at) h = inr (LongNumber at, refl, IsUnreadable.AtByte (L.LongNumber at) (h (λ e. absurd cc)) refl)
+lex_unreadable text names (L.LongName at) h = inr (LongName at, refl, IsUnreadable.AtByte (L.LongName at) (h (λ e. absurd cc)) refl)
+lex_unreadable text names L.Memory h = inl refl
+
+pub stopped_unreadable : (text : Text) (names : Table) (tokens : List Token) (cause : SessionCause) → Lexes [] text 0 tokens names →
+    IsCauseOf (IsStopped (pieces_of (toks tokens))) cause → IsCauseOf (IsUnreadable text names) cause
+stopped_unreadable text names tokens cause lexed h = IsCauseOf-map (IsStopped (pieces_of (toks tokens))) (IsUnreadable text names) cause (λ r s. IsUnreadable.AtStatement lexed s) h
 
 pub read_as : (text : Text) (names : Table) (tokens : List Token) (statements : List Sentence) → Lexes [] text 0 tokens names → AreSaid (pieces_of (toks tokens)) statements → IsReadAs text names statements
 read_as text names tokens statements lexed said = record { tokens = tokens; lexed = lexed; said = said }
 
-pub place_refused : (text : Text) (form : Form) (names : Table) (tokens : List Token) (statements : List Sentence) (fault : PlaceFault) → Lexes [] text 0 tokens names →
-    AreSaid (pieces_of (toks tokens)) statements → place_fault form statements ≡ Some (fault_of fault) → IsCauseOf (IsRefused text form names) (place_cause fault)
-place_refused text form names tokens statements (P.Misplaced number) lexed said e = inr (Place (Misplaced number), refl, IsRefused.IsOutOfPlace (read_as text names tokens statements lexed said) e)
-place_refused text form names tokens statements (P.TooMany number) lexed said e = inr (Place (TooMany number), refl, IsRefused.IsOutOfPlace (read_as text names tokens statements lexed said) e)
+-- ---- statements that are refused
 
-mistyped : (text : Text) (form : Form) (names : Table) (statements : List Sentence) → IsReadAs text names statements → place_fault form statements ≡ None →
-    (found : Option (ℕ × Fault)) → first_fault statements ≡ found → (r : Refusal) → IsTypeRefusal found r → IsRefused text form names r
-mistyped text form names statements read placed None e r h = absurd cc
-mistyped text form names statements read placed (Some (number, fault)) e r h =
-    let same : Mistyped number fault ≡ r = cc in subst (IsRefused text form names) same (IsRefused.IsMistyped read placed e)
+pub place_refused : (form : Form) (statements : List Sentence) (fault : PlaceFault) → place_fault form statements ≡ Some (fault_of fault) → IsCauseOf (AreRefused form statements) (place_cause fault)
+place_refused form statements (P.Misplaced number) e = inr (Place (Misplaced number), refl, AreRefused.OutOfPlace e)
+place_refused form statements (P.TooMany number) e = inr (Place (TooMany number), refl, AreRefused.OutOfPlace e)
 
-pub type_refused : (text : Text) (form : Form) (names : Table) (tokens : List Token) (statements : List Sentence) (cause : SessionCause) → Lexes [] text 0 tokens names →
-    AreSaid (pieces_of (toks tokens)) statements → place_fault form statements ≡ None → IsCauseOf (IsTypeRefusal (first_fault statements)) cause → IsCauseOf (IsRefused text form names) cause
-type_refused text form names tokens statements cause lexed said placed h =
-    IsCauseOf-map (IsTypeRefusal (first_fault statements)) (IsRefused text form names) cause
-    (mistyped text form names statements (read_as text names tokens statements lexed said) placed (first_fault statements) refl) h
+mistyped : (form : Form) (statements : List Sentence) → place_fault form statements ≡ None →
+    (found : Option (ℕ × Fault)) → first_fault statements ≡ found → (r : Refusal) → IsTypeRefusal found r → AreRefused form statements r
+mistyped form statements placed None e r h = absurd cc
+mistyped form statements placed (Some (number, fault)) e r h =
+    let same : Mistyped number fault ≡ r = cc in subst (AreRefused form statements) same (AreRefused.NotTyped placed e)
 
-unguarded : (text : Text) (form : Form) (names : Table) (statements : List Sentence) → IsReadAs text names statements → place_fault form statements ≡ None → first_fault statements ≡ None →
-    (r : Refusal) → IsGuardRefusal statements r → IsRefused text form names r
-unguarded text form names statements read placed typed r h =
-    subst (IsRefused text form names) (sym h.told) (IsRefused.IsUnguarded read placed typed h.found h.declared)
+pub type_refused : (form : Form) (statements : List Sentence) (cause : SessionCause) → place_fault form statements ≡ None →
+    IsCauseOf (IsTypeRefusal (first_fault statements)) cause → IsCauseOf (AreRefused form statements) cause
+type_refused form statements cause placed h =
+    IsCauseOf-map (IsTypeRefusal (first_fault statements)) (AreRefused form statements) cause (mistyped form statements placed (first_fault statements) refl) h
 
-pub guard_refused : (text : Text) (form : Form) (names : Table) (tokens : List Token) (statements : List Sentence) (cause : SessionCause) → Lexes [] text 0 tokens names →
-    AreSaid (pieces_of (toks tokens)) statements → place_fault form statements ≡ None → first_fault statements ≡ None →
-    IsCauseOf (IsGuardRefusal statements) cause → IsCauseOf (IsRefused text form names) cause
-guard_refused text form names tokens statements cause lexed said placed typed h =
-    IsCauseOf-map (IsGuardRefusal statements) (IsRefused text form names) cause
-    (unguarded text form names statements (read_as text names tokens statements lexed said) placed typed) h
+unguarded : (form : Form) (statements : List Sentence) → place_fault form statements ≡ None → first_fault statements ≡ None →
+    (r : Refusal) → IsGuardRefusal statements r → AreRefused form statements r
+unguarded form statements placed typed r h = subst (AreRefused form statements) (sym h.told) (AreRefused.NotGuarded placed typed h.found h.declared)
+
+pub guard_refused : (form : Form) (statements : List Sentence) (cause : SessionCause) → place_fault form statements ≡ None → first_fault statements ≡ None →
+    IsCauseOf (IsGuardRefusal statements) cause → IsCauseOf (AreRefused form statements) cause
+guard_refused form statements cause placed typed h = IsCauseOf-map (IsGuardRefusal statements) (AreRefused form statements) cause (unguarded form statements placed typed) h
+
+-- ---- texts that are refused
+
+pub unreadable_refused : (text : Text) (form : Form) (names : Table) (cause : SessionCause) → IsCauseOf (IsUnreadable text names) cause → IsCauseOf (IsRefused text form names) cause
+unreadable_refused text form names cause h = IsCauseOf-map (IsUnreadable text names) (IsRefused text form names) cause (λ r u. IsRefused.Unreadable u) h
+
+pub invalid_refused : (text : Text) (form : Form) (names : Table) (statements : List Sentence) (cause : SessionCause) → IsReadAs text names statements →
+    IsCauseOf (AreRefused form statements) cause → IsCauseOf (IsRefused text form names) cause
+invalid_refused text form names statements cause read h = IsCauseOf-map (AreRefused form statements) (IsRefused text form names) cause (λ r v. IsRefused.Invalid read v) h
+
+-- the first fault of what a text says is the text's
+pub fault_refused :
+    (text : Text) (form : Form) (names : Table) (statements : List Sentence) (result : Result Session SessionFault) → IsReadAs text names statements →
+    IfErr result (IsFirstFaultOf form statements) → IfErr result (λ fault. fault.names ≡ names) → IfErr result (IsFirstFault text form)
+fault_refused text form names statements (Ok session) read h told = h
+fault_refused text form names statements (Err fault) read h told =
+    invalid_refused text form fault.names statements fault.what (subst (λ (t : Table). IsReadAs text t statements) (sym told) read) h

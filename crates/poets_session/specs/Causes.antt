@@ -1,5 +1,5 @@
 -- What a fault tells.
-use Rattle.std.specs.Prelude.{◌≡◌, ℕ, ◌⊎◌, Option, Some, None, option_map}
+use Rattle.std.specs.Prelude.{◌≡◌, ℕ, ◌⊎◌, List, Option, Some, None, option_map}
 use Rattle.poets_lex.specs.declared.fault.LexFault.{LexFault}
 use Rattle.poets_lex.specs.declared.fault.LexFault.TheVariants as L
 use Rattle.poets_parse.specs.declared.fault.SyntaxFault.{SyntaxFault}
@@ -9,10 +9,11 @@ use Rattle.poets_types.specs.declared.cause.TypeFault.{TypeFault}
 use Rattle.poets_types.specs.declared.cause.TypeCause.TheVariants as T
 use Rattle.poets_types.specs.Faults.{fault_of}
 use Rattle.poets_guard.specs.declared.guard.GuardFault.TheVariants as G
+use Rattle.poets_call.specs.Sentences.{Sentence}
 use Rattle.poets_session.specs.Places.{Misplaced, TooMany}
 use Rattle.poets_session.specs.declared.counting.PlaceFault.{PlaceFault}
 use Rattle.poets_session.specs.declared.counting.PlaceFault.TheVariants as P
-use Rattle.poets_session.specs.Refusals.{Refusal, TooDeep, NoSentence, Place, Mistyped, Unguarded, refusal_at_byte, IsRefused}
+use Rattle.poets_session.specs.Refusals.{Refusal, TooDeep, NoSentence, Place, Mistyped, Unguarded, refusal_at_byte, AreRefused, IsRefused}
 use Rattle.poets_session.specs.Sessions.{Text}
 use Rattle.poets_session.specs.declared.fault.SessionCause.{SessionCause}
 use Rattle.poets_session.specs.declared.fault.SessionCause.TheVariants as C
@@ -55,6 +56,10 @@ refusal_of C.Memory = None
 -- the cause tells such a refusal, or want of memory
 abbrev pub IsCauseOf : (Refusal → Type 0) → SessionCause → Type 0
 IsCauseOf Is cause = (cause ≡ C.Memory) ⊎ ((r : Refusal) × (refusal_of cause ≡ Some r) × Is r)
+
+-- the fault is the first of the statements, or want of memory
+abbrev pub IsFirstFaultOf : Form → List Sentence → SessionFault → Type 0
+IsFirstFaultOf form statements fault = IsCauseOf (AreRefused form statements) fault.what
 
 -- the fault is the first of the text, or want of memory
 abbrev pub IsFirstFault : Text → Form → SessionFault → Type 0

@@ -3,11 +3,13 @@ use Rattle.std.specs.Prelude.{◌≡◌, ℕ, List, ◌∷◌, All}
 use Rattle.poets_value.specs.declared.value.Name.{Name}
 use Rattle.poets_lex.specs.Table.{Table, IsTable}
 use Rattle.poets_call.specs.Sentences.{Sentence}
-use Rattle.poets_session.specs.Sessions.{Text, IsReadAs, IsSession, IsNoSession, scripts_of, journal_of}
-use Rattle.poets_session.specs.Refusals.{Refusal, Unguarded, IsRefused}
+use Rattle.poets_session.specs.Sessions.{Text, AreValid, IsReadAs, IsSession, IsNoSession, scripts_of, journal_of}
+use Rattle.poets_session.specs.Refusals.{Refusal, Unguarded, AreRefused, IsRefused}
+use Rattle.poets_session.specs.Causes.{IsFirstFaultOf, IsFirstFault}
 use Rattle.poets_session.specs.Texts.{refusal_text}
-use Rattle.poets_session.specs.Written.{IsWrittenRequest, IsWritten}
+use Rattle.poets_session.specs.Written.{IsWrittenRequest, IsWritten, HasListedNames}
 use Rattle.poets_session.specs.declared.form.Form.{Form}
+use Rattle.poets_session.specs.declared.fault.SessionFault.{SessionFault}
 
 -- a text is one session of a form at most
 abbrev pub OneSession : Type 0
@@ -21,6 +23,10 @@ NoSessionRefused =
     (text : Text) (form : Form) (names others : Table) (r : Refusal) (statements : List Sentence)
     → IsRefused text form names r → ¬ (IsSession text form others statements)
 
+-- statements that are refused are no valid session
+abbrev pub NoValidRefused : Type 0
+NoValidRefused = (form : Form) (statements : List Sentence) (r : Refusal) → AreRefused form statements r → ¬ (AreValid form statements)
+
 -- the same refusal, or cycles that begin with one template
 pub data AreAlike : Refusal → Refusal → Type 0 where
   Same : {r : Refusal} → AreAlike r r
@@ -32,6 +38,11 @@ OneRefusal =
     (text : Text) (form : Form) (names others : Table) (r s : Refusal)
     → IsRefused text form names r → IsRefused text form others s → AreAlike r s
 
+-- so are statements
+abbrev pub OneRefusalOfStatements : Type 0
+OneRefusalOfStatements =
+    (form : Form) (statements : List Sentence) (r s : Refusal) → AreRefused form statements r → AreRefused form statements s → AreAlike r s
+
 -- a text is refused by one line at most
 abbrev pub OneLine : Type 0
 OneLine =
@@ -42,15 +53,30 @@ OneLine =
 abbrev pub EveryTextIsRead : Type 0
 EveryTextIsRead = (text : Text) (form : Form) → IsNoSession text form → ¬ ((names : Table) (r : Refusal) → ¬ (IsRefused text form names r))
 
+-- nor can it of statements that are no valid session
+abbrev pub AllStatementsAreJudged : Type 0
+AllStatementsAreJudged =
+    (form : Form) (statements : List Sentence) → ¬ (AreValid form statements) → ¬ ((r : Refusal) → ¬ (AreRefused form statements r))
+
 -- the names of a text make a table, and what the text says is written with them
 abbrev pub SessionsAreWritten : Type 0
 SessionsAreWritten =
     (text : Text) (names : Table) (statements : List Sentence)
     → IsReadAs text names statements → IsTable names × All (IsWritten names) statements
 
--- so are the commands of its scripts and of its journal: each can be printed, and reads back
+-- statements that are written with names have commands that are: each can be printed, and reads back
 abbrev pub CommandsAreWritten : Type 0
 CommandsAreWritten =
-    (text : Text) (names : Table) (statements : List Sentence)
-    → IsReadAs text names statements
+    (names : Table) (statements : List Sentence)
+    → All (IsWritten names) statements
     → All (All (IsWrittenRequest names)) (scripts_of statements) × All (λ call. IsWrittenRequest names call.1) (journal_of statements)
+
+-- the names in a text's first fault stand in its table
+abbrev pub FaultsOfTextsAreListed : Type 0
+FaultsOfTextsAreListed = (text : Text) (form : Form) (fault : SessionFault) → IsFirstFault text form fault → HasListedNames fault
+
+-- so do those in the first fault of statements that are written with its names
+abbrev pub FaultsOfStatementsAreListed : Type 0
+FaultsOfStatementsAreListed =
+    (form : Form) (statements : List Sentence) (fault : SessionFault)
+    → All (IsWritten fault.names) statements → IsFirstFaultOf form statements fault → HasListedNames fault

@@ -63,20 +63,28 @@ pub record IsTemplateAt (statements : List Sentence) (number : ℕ) (f : Name) :
   pub stands : slice_get statements place ≡ Some (Template template)
   pub named : template.name ≡ f
 
--- phase by phase, and in each phase the least statement; names are those of this table
-pub data IsRefused (text : Text) (form : Form) (names : Table) : Refusal → Type 0 where
+-- why a text says no statements: a fault of its bytes, else the first statement that says nothing; the names are those of its tokens
+pub data IsUnreadable (text : Text) (names : Table) : Refusal → Type 0 where
   -- a byte that begins no token, a number or a name that is too long
-  AtByte : {r : Refusal} (fault : LexFault) → FirstFault [] text fault → refusal_at_byte fault ≡ Some r → IsRefused text form names r
+  AtByte : {r : Refusal} (fault : LexFault) → FirstFault [] text fault → refusal_at_byte fault ≡ Some r → IsUnreadable text names r
   -- a statement that is too deep or no sentence
-  IsUnreadable : {tokens : List Token} {r : Refusal} → Lexes [] text 0 tokens names → IsStopped (pieces_of (toks tokens)) r → IsRefused text form names r
+  AtStatement : {tokens : List Token} {r : Refusal} → Lexes [] text 0 tokens names → IsStopped (pieces_of (toks tokens)) r → IsUnreadable text names r
+
+-- why statements are no valid session of the form: phase by phase, and in each phase the least statement
+pub data AreRefused (form : Form) (statements : List Sentence) : Refusal → Type 0 where
   -- one that may not stand in its place, or is one too many
-  IsOutOfPlace : {statements : List Sentence} {fault : PlaceFault} → IsReadAs text names statements → place_fault form statements ≡ Some fault → IsRefused text form names (Place fault)
+  OutOfPlace : {fault : PlaceFault} → place_fault form statements ≡ Some fault → AreRefused form statements (Place fault)
   -- one that is not typed
-  IsMistyped :
-      {statements : List Sentence} {number : ℕ} {fault : Fault} → IsReadAs text names statements → place_fault form statements ≡ None →
-      first_fault statements ≡ Some (number, fault) → IsRefused text form names (Mistyped number fault)
+  NotTyped :
+      {number : ℕ} {fault : Fault} → place_fault form statements ≡ None → first_fault statements ≡ Some (number, fault) →
+      AreRefused form statements (Mistyped number fault)
   -- a book with a cycle of unguarded edges: one that begins with the first template that lies on any
-  IsUnguarded :
-      {statements : List Sentence} {number : ℕ} {cycle : List Name} → IsReadAs text names statements → place_fault form statements ≡ None →
-      first_fault statements ≡ None → (found : IsFirstCycle (book_of statements) cycle) → IsTemplateAt statements number found.first →
-      IsRefused text form names (Unguarded number cycle)
+  NotGuarded :
+      {number : ℕ} {cycle : List Name} → place_fault form statements ≡ None → first_fault statements ≡ None →
+      (found : IsFirstCycle (book_of statements) cycle) → IsTemplateAt statements number found.first →
+      AreRefused form statements (Unguarded number cycle)
+
+-- why a text is no session of the form: it says no statements, or those that it says are refused
+pub data IsRefused (text : Text) (form : Form) (names : Table) : Refusal → Type 0 where
+  Unreadable : {r : Refusal} → IsUnreadable text names r → IsRefused text form names r
+  Invalid : {statements : List Sentence} {r : Refusal} → IsReadAs text names statements → AreRefused form statements r → IsRefused text form names r

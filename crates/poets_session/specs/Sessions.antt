@@ -40,12 +40,16 @@ pub record IsReadAs (text : Text) (names : Table) (statements : List Sentence) :
   pub lexed : Lexes [] text 0 tokens names
   pub said : AllZip IsStatement (pieces_of (toks tokens)) statements
 
--- the text is a session of the form
-pub record IsSession (text : Text) (form : Form) (names : Table) (statements : List Sentence) : Type 0 where
-  pub read : IsReadAs text names statements
+-- the statements are a valid session of the form
+pub record AreValid (form : Form) (statements : List Sentence) : Type 0 where
   pub placed : place_fault form statements ≡ None
   pub typed : first_fault statements ≡ None
   pub guarded : IsGuarded (book_of statements)
+
+-- the text is a session of the form
+pub record IsSession (text : Text) (form : Form) (names : Table) (statements : List Sentence) : Type 0 where
+  pub read : IsReadAs text names statements
+  pub valid : AreValid form statements
 
 abbrev pub IsNoSession : Text → Form → Type 0
 IsNoSession text form = (names : Table) (statements : List Sentence) → ¬ (IsSession text form names statements)
@@ -81,7 +85,7 @@ calls_in journal = map (λ p. (p.0, request_of (arc_value p.1))) journal
 
 -- the session holds what the statements say
 pub record Holds (statements : List Sentence) (session : Session) : Type 0 where
-  pub book : definitions_of session.studied.book ≡ book_of statements
-  pub reports : map query_of session.reports.items ≡ reports_of statements
+  pub book : definitions_of session.rules.studied.book ≡ book_of statements
+  pub reports : map query_of session.rules.reports.items ≡ reports_of statements
   pub scripts : requests_of session.scripts.items ≡ scripts_of statements
   pub journal : calls_in session.journal.items ≡ journal_of statements

@@ -1,4 +1,4 @@
--- What a text says is written with its names, and with numbers and days of the language.
+-- What a text says is written with its names, and with numbers and days of the language; and a fault tells names of the text.
 use Rattle.std.specs.Prelude.{List, [], ◌∷◌, All, IfSome}
 use Rattle.poets_expr.specs.Expression.{Expression}
 use Rattle.poets_expr.specs.Whole.{IsWholeExpression}
@@ -7,11 +7,16 @@ use Rattle.poets_syntax.specs.declared.term.Param.{Param}
 use Rattle.poets_syntax.specs.Contract.{Contract}
 use Rattle.poets_syntax.specs.Whole.{IsWholeContract}
 use Rattle.poets_syntax.specs.Book.{Definition}
+use Rattle.poets_syntax.specs.TypeOf.{Fault, Twice, Unknown, WrongCount, WrongType}
 use Rattle.poets_report.specs.Query.{Query}
 use Rattle.poets_call.specs.Calls.{Request}
 use Rattle.poets_call.specs.Sentences.{Sentence, Agents, Kinds, Template, Report, Clerk, Journal, Command, Numbered}
 use Rattle.poets_lex.specs.Table.{Table}
-use Rattle.poets_print.specs.Laws.{IsListed, CanWrite, CanWriteContract, CanWriteRequest, IsWholeRequest}
+use Rattle.poets_call.specs.Taken.{IsWholeRequest}
+use Rattle.poets_print.specs.Laws.{IsListed, CanWrite, CanWriteContract, CanWriteRequest}
+use Rattle.poets_session.specs.Refusals.{Refusal, Mistyped, Unguarded}
+use Rattle.poets_session.specs.Causes.{refusal_of}
+use Rattle.poets_session.specs.declared.fault.SessionFault.{SessionFault}
 
 abbrev pub IsWrittenExpression : Table → Expression → Type 0
 IsWrittenExpression names e = CanWrite names e × IsWholeExpression e
@@ -52,3 +57,20 @@ IsWritten names Clerk = Unit {0}
 IsWritten names Journal = Unit {0}
 IsWritten names (Command request) = IsWrittenRequest names request
 IsWritten names (Numbered clerk request) = IsWrittenRequest names request
+
+-- the name that the fault tells, if it tells one, stands in the table
+abbrev pub IsListedFault : Table → Fault → Type 0
+IsListedFault names (Twice x) = IsListed names x
+IsListedFault names (Unknown x) = IsListed names x
+IsListedFault names (WrongCount x wanted found) = IsListed names x
+IsListedFault names (WrongType wanted found) = Unit {0}
+
+-- so does each that the refusal tells
+abbrev pub IsListedRefusal : Table → Refusal → Type 0
+IsListedRefusal names (Mistyped number fault) = IsListedFault names fault
+IsListedRefusal names (Unguarded number cycle) = All (IsListed names) cycle
+IsListedRefusal names r = Unit {0}
+
+-- each name in the fault stands in its table
+abbrev pub HasListedNames : SessionFault → Type 0
+HasListedNames fault = IfSome (refusal_of fault.what) (IsListedRefusal fault.names)

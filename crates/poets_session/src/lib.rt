@@ -13,9 +13,11 @@ mod session;
 mod splitting;
 #[cfg(test)]
 mod tests;
+mod validity;
 
 pub use fault::{SessionCause, SessionFault};
 pub use form::Form;
 pub use lines::fault_text;
 pub use reading::read;
 pub use session::Session;
+pub use validity::session_of;

@@ -7,8 +7,7 @@ ghost use Rattle.poets_session.specs.Scripts.{HasShortNumber};
 ghost use Rattle.poets_session.specs.Sessions.{scripts_of, requests_of, journal_of, numbered_call, calls_in as calls_in_lem};
 
 use poets_call::{Command, Statement};
-use poets_syntax::build::push;
-use poets_value::{List, Memory};
+use poets_value::{List, Memory, push};
 use std::alloc::Global;
 use std::sync::Arc;
 

@@ -1,9 +1,7 @@
 //! What a session says.
 
-use poets_call::Command;
+use poets_call::{Command, Rules};
 use poets_lex::Names;
-use poets_report::Report;
-use poets_syntax::Studied;
 use poets_value::List;
 use std::sync::Arc;
 
@@ -12,9 +10,8 @@ use std::sync::Arc;
 pub struct Session {
     /// The texts of its names.
     pub names: Names,
-    /// Its declared names and its templates, with their marks.
-    pub studied: Studied,
-    pub reports: List<Report>,
+    /// Its declared names, its templates with their marks, and its reports.
+    pub rules: Rules,
     /// The commands of each clerk, in the order of the sections.
     pub scripts: List<List<Arc<Command>>>,
     /// The clerks' numbers and the commands of its journal.

@@ -13,8 +13,7 @@ use crate::SessionCause;
 use poets_call::Statement;
 use poets_lex::{Sign, Tok, Token};
 use poets_parse::{SyntaxFault, is_too_deep, statement};
-use poets_syntax::build::push;
-use poets_value::List;
+use poets_value::{List, push};
 use std::alloc::Global;
 
 // Whether the token ends a statement.

@@ -1,8 +1,10 @@
-//! Texts read with ample memory.
+//! Texts read, and statements checked, with ample memory.
 ghost use Rattle.std.specs.Prelude.{◌≤◌, length};
 
-use crate::{Form, SessionFault, fault_text, read};
-use poets_value::Memory;
+use crate::{Form, SessionFault, fault_text, read, session_of};
+use poets_call::Statement;
+use poets_lex::{Names, tokens};
+use poets_value::{List, Memory, Name, push};
 use std::alloc::Global;
 use std::process::Abort;
 use std::test::Fail;
@@ -119,4 +121,36 @@ const JOURNALS: [(&[u8], &str); 4] = [
 #[test]
 fn a_text_that_is_no_journal_is_refused_by_its_line(rt: HostRuntime) -> Result<(), Fail> {
     refused(&rt, rt.alloc(), Form::Journal, &JOURNALS)
+}
+
+// A statement that declares the first name of the table as an agent, so many times.
+fn agents(alloc: Global, times: usize) -> Result<List<Statement>, Memory> {
+    let mut names = List::new(alloc);
+    for _ in 0..times {
+        push(&mut names, Name { id: 0 })?;
+    }
+    let mut statements = List::new(alloc);
+    push(&mut statements, Statement::Agents(names))?;
+    Ok(statements)
+}
+
+// The line of the first fault of the statements as a book, and no bytes where they are one. The table has `ann`.
+fn line_of_book(alloc: Global, statements: List<Statement>) -> Result<String, Memory> {
+    let mut names = Names::new(alloc);
+    if tokens(alloc, b"ann", &mut names).is_err() {
+        return Err(Memory);
+    }
+    match session_of(alloc, names, statements, Form::Book) {
+        Ok(_) => Ok(String::new(alloc)),
+        Err(fault) => fault_text(alloc, &fault),
+    }
+}
+
+#[test]
+fn statements_are_a_book_or_are_refused_by_a_line(rt: HostRuntime) -> Result<(), Fail> {
+    let once = line_of_book(rt.alloc(), agents(rt.alloc(), 1)?)?;
+    assert_eq!(rt; once.as_str(), "");
+    let twice = line_of_book(rt.alloc(), agents(rt.alloc(), 2)?)?;
+    assert_eq!(rt; twice.as_str(), "refused in statement 1: Twice ann\n");
+    Ok(())
 }

@@ -21,3 +21,4 @@ pub mod Choosing
 pub mod Exposures
 pub mod Unfolded
 pub mod StudiedMarks
+pub mod Found

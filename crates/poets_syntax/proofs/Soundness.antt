@@ -1,5 +1,5 @@
 -- The value of a typed expression is undefined or of its type.
-use Rattle.std.proofs.Common.{◌≡◌, Bool, true, false, not, [], sym, ◌∙◌, subst, Option, Some, None, inl, inr, if◌then◌else◌, ℤ, pos, ◌+ℤ◌, ◌-ℤ◌, ◌*ℤ◌, neg_ℤ}
+use Rattle.std.proofs.Common.{◌≡◌, Bool, true, false, not, [], ◌∷◌, sym, ◌∙◌, subst, Option, Some, None, inl, inr, if◌then◌else◌, ℤ, pos, ◌+ℤ◌, ◌-ℤ◌, ◌*ℤ◌, neg_ℤ}
 use Rattle.std.specs.Prelude.{int_div, int_rem, int_lt, int_le}
 use Rattle.std.proofs.lemmas.Bool.{eqb-true}
 use Rattle.poets_value.specs.declared.value.Name.{Name}
@@ -11,14 +11,14 @@ use Rattle.poets_value.specs.Whole.{is_whole, is_day}
 use Rattle.poets_expr.specs.declared.expr.Op.{Op}
 use Rattle.poets_expr.specs.declared.expr.Op.TheVariants as O
 use Rattle.poets_expr.specs.Expression.{UnaryOp, Minus, Not, AmountOf, KindOf, Expression, Literal, Undefined, Named, Unary, Make, Binary, If}
-use Rattle.poets_expr.specs.Env.{Declared, itself}
+use Rattle.poets_expr.specs.Env.{Declared, Env, same_name, value_in, itself}
 use Rattle.poets_expr.specs.Same.{ty_place}
 use Rattle.poets_expr.specs.Val.{val, unary, binary, strict, resource_of, chosen, decided, whole, day_at, truth, truth_value, sum, difference, product, divided, ordered, if_equal, equal, bool_eq, int_eq}
 use Rattle.poets_expr.specs.Fold.{HasDeclaredNames}
 use Rattle.poets_expr.proofs.SameTrees.{ty_one}
-use Rattle.poets_expr.proofs.FoldClosed.{known-val}
-use Rattle.poets_syntax.specs.TypeOf.{Verdict, Passes, Fails, WrongType, ◌>>=◌, must_be, must_be_number_or_day, same_type, of_one, of_two, unary_type, binary_type, sum_type, difference_type, equal_type, order_type, make_type, if_type, name_type, resource_type, literal_type, type_of, HasType}
-use Rattle.poets_syntax.specs.OfType.{value_type, IsOfType}
+use Rattle.poets_expr.proofs.FoldClosed.{known-name, known-val_under}
+use Rattle.poets_syntax.specs.TypeOf.{Scope, type_in, Verdict, Passes, Fails, WrongType, ◌>>=◌, must_be, must_be_number_or_day, same_type, of_one, of_two, unary_type, binary_type, sum_type, difference_type, equal_type, order_type, make_type, if_type, name_type, resource_type, literal_type, type_of, HasType}
+use Rattle.poets_syntax.specs.OfType.{value_type, IsOfType, IsTypedEnv}
 use Rattle.poets_syntax.proofs.Replacing.{truth as either}
 use Rattle.poets_syntax.proofs.Typedness.{passed, kind_declared, HasDeclaredLiterals-typed}
 
@@ -170,29 +170,54 @@ of-itself x (Some T.Agent) t h = let k : Passes T.Agent ≡ Passes t = h in cc
 of-itself x (Some T.Kind) t h = let k : Passes T.Kind ≡ Passes t = h in cc
 of-itself x (Some _) t h = tt
 
-pub IsOfType-val : (declared : Declared) (e : Expression) (t : Ty) → HasType declared [] e t → IsOfType (val declared [] e) t
-IsOfType-val declared (Literal v) t h = of-literal declared v t h
-IsOfType-val declared (Undefined u) t h = tt
-IsOfType-val declared (Named x) t h = of-itself x (declared x) t h
-IsOfType-val declared (Unary o a) t h =
-    let p = passed (type_of declared [] a) (unary_type o) t h in of-unary o (val declared [] a) p.0 t p.2
-IsOfType-val declared (Make a b) t h =
-    let p = passed (type_of declared [] a) (λ x. type_of declared [] b >>= λ y. make_type x y) t h in
-    let q = passed (type_of declared [] b) (make_type p.0) t p.2 in
-    of-strict resource_of make_type (λ v w u k. of-resource_of v w u (make_type-node (value_type v) (value_type w) u k))
-    (val declared [] a) (val declared [] b) p.0 q.0 t (IsOfType-val declared a p.0 p.1) (IsOfType-val declared b q.0 q.1) q.2
-IsOfType-val declared (Binary o a b) t h =
-    let p = passed (type_of declared [] a) (λ x. type_of declared [] b >>= λ y. binary_type o x y) t h in
-    let q = passed (type_of declared [] b) (binary_type o p.0) t p.2 in
-    of-binary o (val declared [] a) (val declared [] b) p.0 q.0 t (IsOfType-val declared a p.0 p.1) (IsOfType-val declared b q.0 q.1) q.2
-IsOfType-val declared (If a b c) t h =
-    let p = passed (type_of declared [] a) (λ x. type_of declared [] b >>= λ y. type_of declared [] c >>= λ z. if_type x y z) t h in
-    let q = passed (type_of declared [] b) (λ y. type_of declared [] c >>= λ z. if_type p.0 y z) t p.2 in
-    let r = passed (type_of declared [] c) (if_type p.0 q.0) t q.2 in
+-- a name in the scope has a value of its type
+of-name : (declared : Declared) (scope : Scope) (env : Env) → IsTypedEnv declared scope env → (x : Name) (t : Ty) →
+    name_type x (type_in declared scope x) ≡ Passes t → IsOfType (value_in declared env x) t
+of-name declared [] [] k x t h = of-itself x (declared x) t h
+of-name declared [] (p ∷ env) k x t h = absurd k
+of-name declared (s ∷ scope) [] k x t h = absurd k
+of-name declared (s ∷ scope) (p ∷ env) k x t h =
+    let here : s.0 ≡ p.0 = k.0.0 in
+    elim (either (same_name p.0 x)) [
+      | inl e ↦ (let q : Passes s.1 ≡ Passes t = rw (here, e) at h in let same : s.1 ≡ t = cc in rw e (subst (IsOfType p.1) same k.0.2))
+      | inr e ↦ (let q : name_type x (type_in declared scope x) ≡ Passes t = rw (here, e) at h in rw e (of-name declared scope env k.1 x t q))
+    ]
+
+pub IsOfType-val : (declared : Declared) (scope : Scope) (env : Env) → IsTypedEnv declared scope env → (e : Expression) (t : Ty) →
+    HasType declared scope e t → IsOfType (val declared env e) t
+IsOfType-val declared scope env k (Literal v) t h = of-literal declared v t h
+IsOfType-val declared scope env k (Undefined u) t h = tt
+IsOfType-val declared scope env k (Named x) t h = of-name declared scope env k x t h
+IsOfType-val declared scope env k (Unary o a) t h =
+    let p = passed (type_of declared scope a) (unary_type o) t h in of-unary o (val declared env a) p.0 t p.2
+IsOfType-val declared scope env k (Make a b) t h =
+    let p = passed (type_of declared scope a) (λ x. type_of declared scope b >>= λ y. make_type x y) t h in
+    let q = passed (type_of declared scope b) (make_type p.0) t p.2 in
+    of-strict resource_of make_type (λ v w u m. of-resource_of v w u (make_type-node (value_type v) (value_type w) u m))
+    (val declared env a) (val declared env b) p.0 q.0 t (IsOfType-val declared scope env k a p.0 p.1) (IsOfType-val declared scope env k b q.0 q.1) q.2
+IsOfType-val declared scope env k (Binary o a b) t h =
+    let p = passed (type_of declared scope a) (λ x. type_of declared scope b >>= λ y. binary_type o x y) t h in
+    let q = passed (type_of declared scope b) (binary_type o p.0) t p.2 in
+    of-binary o (val declared env a) (val declared env b) p.0 q.0 t (IsOfType-val declared scope env k a p.0 p.1) (IsOfType-val declared scope env k b q.0 q.1) q.2
+IsOfType-val declared scope env k (If a b c) t h =
+    let p = passed (type_of declared scope a) (λ x. type_of declared scope b >>= λ y. type_of declared scope c >>= λ z. if_type x y z) t h in
+    let q = passed (type_of declared scope b) (λ y. type_of declared scope c >>= λ z. if_type p.0 y z) t p.2 in
+    let r = passed (type_of declared scope c) (if_type p.0 q.0) t q.2 in
     let same = if_type-parts p.0 q.0 r.0 t r.2 in
-    of-chosen (val declared [] a) (val declared [] b) (val declared [] c) t
-    (subst (IsOfType (val declared [] b)) same.0 (IsOfType-val declared b q.0 q.1)) (subst (IsOfType (val declared [] c)) same.1 (IsOfType-val declared c r.0 r.1))
+    of-chosen (val declared env a) (val declared env b) (val declared env c) t
+    (subst (IsOfType (val declared env b)) same.0 (IsOfType-val declared scope env k b q.0 q.1)) (subst (IsOfType (val declared env c)) same.1 (IsOfType-val declared scope env k c r.0 r.1))
 
 -- and its agents and kinds are declared
-pub HasDeclaredNames-val : (declared : Declared) (e : Expression) (t : Ty) → HasType declared [] e t → HasDeclaredNames declared (val declared [] e)
-HasDeclaredNames-val declared e t h = known-val declared e (HasDeclaredLiterals-typed declared [] e t h)
+known-in : (declared : Declared) (scope : Scope) (env : Env) → IsTypedEnv declared scope env → (x : Name) → HasDeclaredNames declared (value_in declared env x)
+known-in declared [] [] k x = known-name declared x
+known-in declared [] (p ∷ env) k x = absurd k
+known-in declared (s ∷ scope) [] k x = absurd k
+known-in declared (s ∷ scope) (p ∷ env) k x = elim (either (same_name p.0 x)) [
+  | inl e ↦ rw e k.0.1
+  | inr e ↦ rw e (known-in declared scope env k.1 x)
+]
+
+pub HasDeclaredNames-val : (declared : Declared) (scope : Scope) (env : Env) → IsTypedEnv declared scope env → (e : Expression) (t : Ty) →
+    HasType declared scope e t → HasDeclaredNames declared (val declared env e)
+HasDeclaredNames-val declared scope env k e t h =
+    known-val_under declared env (known-in declared scope env k) e (HasDeclaredLiterals-typed declared scope e t h)

@@ -94,7 +94,7 @@ module _ (declared : Declared) where
   pub HasType-literal_of_val : (scope : Scope) → KeepsTypes scope → (e : Expression) (t : Ty) → HasType declared [] e t →
       HasType declared scope (literal_of (val declared [] e) t) t
   HasType-literal_of_val s k e t h =
-      HasType-literal_of s k (val declared [] e) t (HasDeclaredNames-val declared e t h) (IsOfType-val declared e t h)
+      HasType-literal_of s k (val declared [] e) t (HasDeclaredNames-val declared [] [] tt e t h) (IsOfType-val declared [] [] tt e t h)
 
   pub HasType-fold_closed : (scope : Scope) → KeepsTypes scope → (e : Expression) (t : Ty) → HasType declared scope e t →
       HasType declared scope (fold_closed declared e t) t

@@ -2,7 +2,7 @@
 use Rattle.std.specs.Prelude.{◌≡◌, ℕ, ◌+◌, true, List, [], ◌++◌, length, ◌↔◌}
 use Rattle.poets_value.specs.declared.value.Name.{Name}
 use Rattle.poets_value.specs.declared.event.Event.{Event}
-use Rattle.poets_expr.specs.Env.{Env}
+use Rattle.poets_expr.specs.Env.{Declared, Env}
 use Rattle.poets_expr.specs.Subst.{Givens}
 use Rattle.poets_expr.specs.Fold.{KeepsDeclared}
 use Rattle.poets_expr.specs.Whole.{AreWholeGivens}
@@ -53,6 +53,10 @@ HopefulByShape = (book : Definitions) (c c' : Contract) → SameShape c c' → H
 abbrev pub NullableByMarks : Type 0
 NullableByMarks = (book : Definitions) (marks : Marks) (c : Contract) →
     AreRight book marks → ApplicationsFit book c → (nullable marks c ≡ true) ↔ Nullable book c
+
+-- a well-formed contract binds no declared name
+abbrev pub WellFormedBindsUndeclared : Type 0
+WellFormedBindsUndeclared = (declared : Declared) (c : Contract) → IsWellFormed declared c → BindersAreUndeclared declared c
 
 -- a contract with its names replaced may be performed as the contract may be where the names have these values
 abbrev pub ReplacedAlike : Type 0

@@ -21,6 +21,11 @@ TypedApplicationsFit = (book : Definitions) (reports : List Name) (scope : Scope
 abbrev pub TypedBodiesFit : Type 0
 TypedBodiesFit = (book : Definitions) (reports : List Name) → IsTypedBook book reports → BodiesFit book
 
+-- so the numbers of arguments in a typed contract fit
+abbrev pub TypedCountsFit : Type 0
+TypedCountsFit = (book : Definitions) (reports : List Name) (scope : Scope) (c : Contract) →
+    IsTyped book reports scope c → CountsFit book c
+
 -- the marks of a studied book are right
 abbrev pub StudiedMarksAreRight : Type 0
 StudiedMarksAreRight = (book : Definitions) (marks : List Mark) → IsStudiedBook book marks → AreRight book (marks_in book.templates marks)

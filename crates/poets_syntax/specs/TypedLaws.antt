@@ -1,9 +1,9 @@
 -- What typing says of values and of replacing names, as statements.
-use Rattle.std.specs.Prelude.{List, [], ◌++◌}
+use Rattle.std.specs.Prelude.{List, ◌++◌}
 use Rattle.poets_value.specs.declared.value.Name.{Name}
 use Rattle.poets_value.specs.declared.value.Ty.{Ty}
 use Rattle.poets_expr.specs.Expression.{Expression}
-use Rattle.poets_expr.specs.Env.{Declared}
+use Rattle.poets_expr.specs.Env.{Declared, Env}
 use Rattle.poets_expr.specs.Val.{val}
 use Rattle.poets_expr.specs.Subst.{Givens, subst}
 use Rattle.poets_expr.specs.Fold.{fold_closed, HasDeclaredNames}
@@ -12,12 +12,13 @@ use Rattle.poets_syntax.specs.Book.{Definitions}
 use Rattle.poets_syntax.specs.Replace.{replace}
 use Rattle.poets_syntax.specs.TypeOf.{Scope, HasType}
 use Rattle.poets_syntax.specs.Typed.{IsTyped}
-use Rattle.poets_syntax.specs.OfType.{IsOfType, AreOfTypes, types_given, IsUndeclaredScope}
+use Rattle.poets_syntax.specs.OfType.{IsOfType, IsTypedEnv, AreOfTypes, types_given, IsUndeclaredScope}
 
--- the value of a typed closed expression is undefined or of the expression's type, and its agents and kinds are declared
+-- the value of a typed expression, where the names in its scope have values of their types, is undefined or of the expression's
+-- type, and its agents and kinds are declared
 abbrev pub ValueIsOfType : Type 0
-ValueIsOfType = (declared : Declared) (e : Expression) (t : Ty) →
-    HasType declared [] e t → IsOfType (val declared [] e) t × HasDeclaredNames declared (val declared [] e)
+ValueIsOfType = (declared : Declared) (scope : Scope) (env : Env) (e : Expression) (t : Ty) → IsTypedEnv declared scope env →
+    HasType declared scope e t → IsOfType (val declared env e) t × HasDeclaredNames declared (val declared env e)
 
 -- folding a closed expression keeps its type
 abbrev pub FoldedHasType : Type 0

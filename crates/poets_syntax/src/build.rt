@@ -1,5 +1,5 @@
 //! Contracts made of their parts, and copies of parameters.
-ghost use Rattle.std.specs.Prelude.{◌≡◌, IfOk, ◌∷◌, [], ◌++◌};
+ghost use Rattle.std.specs.Prelude.{◌≡◌, IfOk};
 ghost use Rattle.poets_expr.specs.Expression.{expression_of};
 ghost use Rattle.poets_syntax.specs.Contract.{contract_of, Transmit, Plus, Par, Seq};
 
@@ -7,7 +7,7 @@ pub use crate::equality::same;
 pub use crate::substitution::{copy, subst};
 use crate::term::{Binders, Param, Term};
 use poets_expr::Expr;
-use poets_value::{List, Memory};
+use poets_value::{List, Memory, push};
 use std::alloc::Global;
 
 /// A contract in a box of its own.
@@ -15,16 +15,6 @@ pub fn boxed(alloc: Global, term: Term) -> Result<Box<Term>, Memory>
     ensures { IfOk result (λ b. b.value ≡ term) }
 {
     Ok(Box::new(alloc, term)?)
-}
-
-/// Adds the item at the end. After want of memory it is lost.
-pub fn push<T: Drop>(list: &mut List<T>, item: T) -> Result<(), Memory>
-    ensures { IfOk result (λ _. list.new.items ≡ list.old.items ++ item ∷ []) }
-{
-    match list.push(item) {
-        Ok(()) => Ok(()),
-        Err(_) => Err(Memory),
-    }
 }
 
 /// The same parameters, in a list of their own.

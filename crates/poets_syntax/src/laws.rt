@@ -1,6 +1,6 @@
 //! The laws of `Perf` and `May`, and of checked, guarded and studied books, each carried by a function that does nothing.
-ghost use Rattle.poets_syntax.specs.Laws.{NothingGranted, RestGranted, AllGranted, GrantedAnywhere, GrantedByShape, NullableByShape, HopefulByShape, NullableByMarks, ReplacedAlike, ReplacedPerformed, ReplacedIsWhole, TypedIsWellFormed};
-ghost use Rattle.poets_syntax.specs.StudiedLaws.{TypedApplicationsFit, TypedBodiesFit, StudiedMarksAreRight, CountsFitWhereKnown, WidthUnfolds, EnoughDepth};
+ghost use Rattle.poets_syntax.specs.Laws.{NothingGranted, RestGranted, AllGranted, GrantedAnywhere, GrantedByShape, NullableByShape, HopefulByShape, NullableByMarks, WellFormedBindsUndeclared, ReplacedAlike, ReplacedPerformed, ReplacedIsWhole, TypedIsWellFormed};
+ghost use Rattle.poets_syntax.specs.StudiedLaws.{TypedApplicationsFit, TypedBodiesFit, TypedCountsFit, StudiedMarksAreRight, CountsFitWhereKnown, WidthUnfolds, EnoughDepth};
 ghost use Rattle.poets_syntax.specs.TypedLaws.{ValueIsOfType, FoldedHasType, ReplacedHasType, ReplacedIsTyped};
 
 /// With no granted step, what may be performed is what is performed.
@@ -39,6 +39,11 @@ pub fn nullable_by_marks()
     ensures { NullableByMarks }
 {}
 
+/// A well-formed contract binds no declared name, which the next two laws ask for.
+pub fn well_formed_binders()
+    ensures { WellFormedBindsUndeclared }
+{}
+
 /// A contract with its names replaced says what it says where they have these values.
 pub fn replaced_alike()
     ensures { ReplacedAlike }
@@ -54,12 +59,13 @@ pub fn replaced_whole()
     ensures { ReplacedIsWhole }
 {}
 
-/// A typed contract is well-formed, which the other laws ask for.
+/// A contract that passes typing is well-formed and has the right numbers of arguments, which the other laws ask for.
 pub fn typed_well_formed()
-    ensures { TypedIsWellFormed }
+    ensures well_formed { TypedIsWellFormed }
+    ensures counts { TypedCountsFit }
 {}
 
-/// The value of a typed expression is undefined or of its type.
+/// The value of a typed expression, where each name in its scope has a value of its type, is undefined or of its type.
 pub fn value_of_type()
     ensures { ValueIsOfType }
 {}

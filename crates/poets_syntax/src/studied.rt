@@ -1,10 +1,17 @@
 //! Books that were studied.
-ghost use Rattle.std.specs.Prelude.{◌≡◌};
-ghost use Rattle.poets_syntax.specs.Book.{definitions_of};
-ghost use Rattle.poets_syntax.specs.Studied.{IsStudiedBook};
+ghost use Rattle.std.specs.Prelude.{◌≡◌, min, false, map, option_map, IfOk, IfSome};
+ghost use Rattle.std.specs.List.{IsDistinct};
+ghost use Rattle.std.specs.Option.{option_map_or};
+ghost use Rattle.poets_expr.specs.Env.{same_name};
+ghost use Rattle.poets_syntax.specs.Book.{definition_of, definitions_of, template_in};
+ghost use Rattle.poets_syntax.specs.Contract.{contract_of};
+ghost use Rattle.poets_syntax.specs.Studied.{IsStudiedBook, marks_of};
+ghost use Rattle.poets_syntax.specs.Width.{width};
 
-use crate::term::Book;
-use poets_value::List;
+use crate::term::{Book, Template};
+use indexmap::IndexSet;
+use poets_value::{List, Memory, Name};
+use std::alloc::Global;
 use std::marker::Model;
 
 /// What is known of a template's body.
@@ -23,6 +30,8 @@ pub struct Mark {
 pub struct Studied {
     book: Book,
     marks: List<Mark>,
+    // The templates' names, each at its template's place.
+    names: IndexSet<Name>,
 }
 
 impl Model for Studied {
@@ -35,22 +44,37 @@ impl Model for Studied {
 
     ghost coded = { Prim.hlevel (codes, b.the_row.coded) };
 
+    ghost use Rattle.std.specs.Prelude.{◌≡◌, map};
     ghost use Rattle.poets_syntax.specs.Book.{definitions_of};
     ghost use Rattle.poets_syntax.specs.Studied.{IsStudiedBook};
 
     ghost view = { λ s. record { book = s.book; marks = s.marks.items } };
 
-    ghost invariant = { λ s. IsStudiedBook (definitions_of s.book) s.marks.items };
+    ghost invariant = { λ s. IsStudiedBook (definitions_of s.book) s.marks.items
+        × (s.names.keys ≡ map (λ t. t.name) s.book.templates.items) };
+}
+
+// The names of templates, of which no two have one, in the templates' order.
+fn names_of(alloc: Global, templates: &[Template]) -> Result<IndexSet<Name>, Memory>
+    requires { IsDistinct same_name (map (λ t. t.name) templates.now) }
+    ensures { IfOk result (λ names. names.keys ≡ map (λ t. t.name) templates.now) }
+{
+    let mut names = IndexSet::new(alloc);
+    for template in templates {
+        names.insert(template.name)?;
+    }
+    Ok(names)
 }
 
 impl Studied {
     /// The book with its marks, in the templates' order: the book is checked and guarded, and the marks are right.
-    pub fn of(book: Book, marks: List<Mark>) -> Studied
+    pub fn of(alloc: Global, book: Book, marks: List<Mark>) -> Result<Studied, Memory>
         requires { IsStudiedBook (definitions_of book) marks.items }
-        ensures book { result.book ≡ book }
-        ensures marks { result.marks ≡ marks.items }
+        ensures book { IfOk result (λ s. s.book ≡ book) }
+        ensures marks { IfOk result (λ s. s.marks ≡ marks.items) }
     {
-        Studied { book, marks }
+        let names = names_of(alloc, book.templates.as_slice())?;
+        Ok(Studied { book, marks, names })
     }
 
     /// The book.
@@ -67,5 +91,20 @@ impl Studied {
         ensures studied { IsStudiedBook (definitions_of self.now.book) self.now.marks }
     {
         self.marks.as_slice()
+    }
+
+    /// The template of that name, and its mark.
+    pub fn template(&self, name: Name) -> Option<(&Template, &Mark)>
+        ensures template { option_map (λ p. definition_of p.0.now) result
+            ≡ template_in (definitions_of self.now.book).templates name }
+        ensures nullable { option_map_or (λ p. p.1.now.nullable) result false ≡ (marks_of self.now).nullable name }
+        ensures hopeful { option_map_or (λ p. p.1.now.hopeful) result false ≡ (marks_of self.now).hopeful name }
+        ensures wide { IfSome result (λ p. p.1.now.wide
+            ≡ min (width (definitions_of self.now.book) (marks_of self.now) (contract_of p.0.now.body)) 1001) }
+    {
+        let place = self.names.get_index_of(&name)?;
+        let templates = self.book.templates.as_slice();
+        let marks = self.marks.as_slice();
+        Some((&templates[place], &marks[place]))
     }
 }

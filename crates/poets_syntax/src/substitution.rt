@@ -5,10 +5,10 @@ ghost use Rattle.poets_expr.specs.Subst.{subst as subst_lem};
 ghost use Rattle.poets_syntax.specs.Contract.{contract_of};
 ghost use Rattle.poets_syntax.specs.Replace.{binds as binds_lem, without, replace as replace_lem};
 
-use crate::build::{par, plus, push, seq, transmit};
+use crate::build::{par, plus, seq, transmit};
 use crate::term::{Binders, Term};
 use poets_expr::{Expr, Given};
-use poets_value::{List, Memory, Name};
+use poets_value::{List, Memory, Name, push};
 use std::alloc::Global;
 
 // Whether a name is among the binders.

@@ -1,9 +1,9 @@
 //! Contracts counted and replaced by hand, and each call once with memory.
 
-use crate::build::{boxed, copy_params, par, plus, push, seq, transmit};
+use crate::build::{boxed, copy_params, par, plus, seq, transmit};
 use crate::{Binders, Param, Term, copy, same, size, subst};
 use poets_expr::{Expr, Given, Op, build};
-use poets_value::{List, Memory, Name, Resource, Ty, Value};
+use poets_value::{List, Memory, Name, Resource, Ty, Value, push};
 use std::alloc::Global;
 
 const BOB: Name = Name { id: 0 };

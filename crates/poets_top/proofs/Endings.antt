@@ -1,162 +1,59 @@
 -- How runs end.
-use Rattle.std.proofs.Common.{◌≡◌, ℕ, ◌+◌, ◌<◌, ◌≤◌, true, false, List, [], length, Option, Some, None, refl, sym, ◌∙◌, ap, subst, ◌⊎◌, inl, inr, arith}
+use Rattle.std.proofs.Common.{◌≡◌, ◌≢◌, ℕ, ◌+◌, ◌<◌, ◌≤◌, List, [], length, Option, Some, None, refl, sym, ◌∙◌, ap, subst, ◌⊎◌, inl, inr, arith}
 use Rattle.std.specs.Prelude.{option_map}
 use Rattle.std.specs.Io.KnownBytes.{Appends}
 use Rattle.poets_io.specs.Causes.{Rose}
-use Rattle.poets_io.specs.Streams.{AppendsPart, LosesFront}
+use Rattle.poets_io.specs.Streams.{AppendsPart, GivesAll, LosesFront}
 use Rattle.poets_io.proofs.Transfers.{IfSome-loses_more}
 use Rattle.poets_lex.specs.Table.{Table}
 use Rattle.poets_call.specs.Calls.{HistoryEntry}
 use Rattle.poets_call.specs.Sentences.{Sentence}
-use Rattle.poets_session.specs.declared.form.Form.TheVariants as F
-use Rattle.poets_session.specs.Sessions.{Text, IsSession, IsNoSession}
-use Rattle.poets_session.specs.declared.fault.SessionFault.{SessionFault}
 use Rattle.poets_session.specs.Causes.{refusal_of, IsFirstFault}
-use Rattle.poets_session.specs.Refusals.{IsRefused}
+use Rattle.poets_session.specs.Sessions.{Text, IsSession, IsNoSession, Holds}
+use Rattle.poets_session.specs.declared.form.Form.{Form}
+use Rattle.poets_session.specs.declared.session.Session.{Session}
 use Rattle.poets_session.specs.Texts.{refusal_text}
-use Rattle.poets_top.specs.Runs.{block, longest, IsAnswerTo, IsResult, IsEnding, IsStatusOrMemory}
-use Rattle.poets_top.specs.Sessions.{all_built}
+use Rattle.poets_session.specs.declared.fault.SessionFault.{SessionFault}
+use Rattle.poets_session.proofs.LawsRefused.{session_unrefused}
+use Rattle.poets_top.specs.Replaying.{HasReplayed}
+use Rattle.poets_top.specs.Running.{HasRun}
+use Rattle.poets_top.specs.Runs.{IsMade, IsAnswerTo, IsResult, IsEnding, Deserves, IsStatusOrMemory, longest, block}
+use Rattle.poets_top.specs.Sessions.{IsSessionOf}
 use Rattle.poets_top.specs.Words.{Asks, form_of}
+use Rattle.poets_top.specs.Writing.{Stream, HasFailed, IsWritten}
 use Rattle.poets_top.specs.declared.words.Task.{Task}
 use Rattle.poets_top.specs.declared.words.Task.TheVariants as T
-use Rattle.poets_session.proofs.LawsSaid.{read_once}
-use Rattle.poets_session.proofs.LawsRefused.{session_unrefused}
 
--- a line was written, or a front of it up to a fault
-pub IsEnding-line : (Answers : ℕ → List HistoryEntry → List ℕ → Type 0) (held held' : Option (List ℕ)) (faults faults' wanted status : ℕ) (h : List HistoryEntry) (line : List ℕ) →
-    h ≡ [] → Answers wanted [] line →
-    ((status ≡ wanted) × Appends held held' line) ⊎ ((status ≡ 5) × AppendsPart held held' line × Rose faults faults') →
-    IsEnding Answers held held' faults faults' status h
-IsEnding-line Answers held held' faults faults' wanted status h line empty a (inl w) =
-    subst (λ s. IsEnding Answers held held' faults faults' s h) (sym w.0) (subst (IsEnding Answers held held' faults faults' wanted) (sym empty) (IsEnding.WroteAll a w.1))
-IsEnding-line Answers held held' faults faults' wanted status h line empty a (inr w) =
-    subst (λ s. IsEnding Answers held held' faults faults' s h) (sym w.0) (subst (IsEnding Answers held held' faults faults' 5) (sym empty) (IsEnding.WriteFailed a w.1 w.2))
+-- ---- what is written
 
--- nothing was written for want of memory
-pub IsEnding-nothing : (Answers : ℕ → List HistoryEntry → List ℕ → Type 0) (held held' : Option (List ℕ)) (faults faults' status : ℕ) (h : List HistoryEntry) →
-    held' ≡ held → status ≡ 3 → h ≡ [] → IsEnding Answers held held' faults faults' status h
-IsEnding-nothing Answers held held' faults faults' status h same three empty =
-    subst (λ s. IsEnding Answers held held' faults faults' s h) (sym three) (subst (IsEnding Answers held held' faults faults' 3) (sym empty) (IsEnding.MemoryBeforeWriting same))
+module _ (Is : ℕ → List HistoryEntry → List ℕ → Type 0) (sink sink' : Stream) where
+  -- a line was written, or a front of it up to a fault
+  pub IsWritten-line : (wanted status : ℕ) (h : List HistoryEntry) (line : List ℕ) → h ≡ [] → Is wanted [] line →
+      ((status ≡ wanted) × Appends sink.bytes sink'.bytes line × (sink'.faults ≡ sink.faults)) ⊎ ((status ≡ 5) × AppendsPart sink.bytes sink'.bytes line × HasFailed sink sink') →
+      IsWritten Is sink sink' status h
+  IsWritten-line wanted status h line empty a (inl w) =
+      subst (λ s. IsWritten Is sink sink' s h) (sym w.0) (subst (IsWritten Is sink sink' wanted) (sym empty) (IsWritten.Whole a w.1 w.2))
+  IsWritten-line wanted status h line empty a (inr w) =
+      subst (λ s. IsWritten Is sink sink' s h) (sym w.0) (subst (IsWritten Is sink sink' 5) (sym empty) (IsWritten.Failed a w.1 w.2))
 
--- what has one answer has the other
-pub IsEnding-weaker : (A B : ℕ → List HistoryEntry → List ℕ → Type 0) (held held' : Option (List ℕ)) (faults faults' : ℕ) {status : ℕ} {h : List HistoryEntry} →
-    ((s : ℕ) (g : List HistoryEntry) (text : List ℕ) → A s g text → B s g text) →
-    IsEnding A held held' faults faults' status h → IsEnding B held held' faults faults' status h
-IsEnding-weaker A B held held' faults faults' f (IsEnding.WroteAll {status = s} {h = g} {text = t} a w) = IsEnding.WroteAll (f s g t a) w
-IsEnding-weaker A B held held' faults faults' f (IsEnding.WriteFailed {status = s} {h = g} {text = t} a w r) = IsEnding.WriteFailed (f s g t a) w r
-IsEnding-weaker A B held held' faults faults' f (IsEnding.MemoryWhileWriting {h = g} {text = t} a w) = IsEnding.MemoryWhileWriting (f 0 g t a) w
-IsEnding-weaker A B held held' faults faults' f (IsEnding.MemoryBeforeWriting e) = IsEnding.MemoryBeforeWriting e
+  -- nothing was written for want of memory
+  pub IsWritten-nothing : (status : ℕ) (h : List HistoryEntry) → sink' ≡ sink → status ≡ 3 → h ≡ [] → IsWritten Is sink sink' status h
+  IsWritten-nothing status h same three empty =
+      subst (λ s. IsWritten Is sink sink' s h) (sym three) (subst (IsWritten Is sink sink' 3) (sym empty) (IsWritten.MemoryBefore same))
 
-answer_status : {text : List ℕ} {task : Task} {s : ℕ} {h : List HistoryEntry} {w : List ℕ} → IsAnswerTo text task s h w → s ≤ 1
-answer_status (IsAnswerTo.Checked a) = omega arith
-answer_status (IsAnswerTo.Ran a b c) = omega arith
-answer_status (IsAnswerTo.NotBuilt a b) = omega arith
-answer_status (IsAnswerTo.Refused a) = omega arith
+-- what is one answer is the other
+pub IsWritten-weaker : (A B : ℕ → List HistoryEntry → List ℕ → Type 0) (sink sink' : Stream) {status : ℕ} {h : List HistoryEntry} →
+    ((s : ℕ) (g : List HistoryEntry) (text : List ℕ) → A s g text → B s g text) → IsWritten A sink sink' status h → IsWritten B sink sink' status h
+IsWritten-weaker A B sink sink' f (IsWritten.Whole {status = s} {h = g} {text = t} a w k) = IsWritten.Whole (f s g t a) w k
+IsWritten-weaker A B sink sink' f (IsWritten.Failed {status = s} {h = g} {text = t} a w r) = IsWritten.Failed (f s g t a) w r
+IsWritten-weaker A B sink sink' f (IsWritten.MemoryBetween {h = g} {text = t} a some w k) = IsWritten.MemoryBetween (f 0 g t a) some w k
+IsWritten-weaker A B sink sink' f (IsWritten.MemoryBefore e) = IsWritten.MemoryBefore e
 
--- what a source asks for has one of three statuses
-IsResult-status : {task : Task} {left left' : Option (List ℕ)} {s : ℕ} {h : List HistoryEntry} {w : List ℕ} → IsResult task left left' s h w → (s ≤ 1) ⊎ (s ≡ 6)
-IsResult-status (IsResult.Read g l a) = inl (answer_status a)
-IsResult-status (IsResult.TooLong l) = inr refl
-
-not_five : (s : ℕ) → (s ≤ 1) ⊎ (s ≡ 6) → s ≡ 5 → ⊥
-not_five s (inl h) e = omega (arith, h, e)
-not_five s (inr h) e = omega (arith, h, e)
-
--- the sink's count rose where the status is that of its fault
-pub Rose-IsEnding : (task : Task) (left left' held held' : Option (List ℕ)) (faults faults' status : ℕ) (h : List HistoryEntry) →
-    IsEnding (IsResult task left left') held held' faults faults' status h → status ≡ 5 → Rose faults faults'
-Rose-IsEnding task left left' held held' faults faults' status h (IsEnding.WroteAll b w) e = absurd (not_five status (IsResult-status b) e)
-Rose-IsEnding task left left' held held' faults faults' status h (IsEnding.WriteFailed b w r) e = r
-Rose-IsEnding task left left' held held' faults faults' status h (IsEnding.MemoryWhileWriting b w) e = absurd (omega (arith, e))
-Rose-IsEnding task left left' held held' faults faults' status h (IsEnding.MemoryBeforeWriting q) e = absurd (omega (arith, e))
-
--- without a fault of the sink only want of memory keeps a run from its status
-IsStatusOrMemory-ends : (A : ℕ → List HistoryEntry → List ℕ → Type 0) (held held' : Option (List ℕ)) (faults faults' wanted : ℕ) {status : ℕ} {h : List HistoryEntry} →
-    ((s : ℕ) (g : List HistoryEntry) (text : List ℕ) → A s g text → s ≡ wanted) → (Rose faults faults' → ⊥) →
-    IsEnding A held held' faults faults' status h → IsStatusOrMemory wanted status
-IsStatusOrMemory-ends A held held' faults faults' wanted f n (IsEnding.WroteAll {status = s} {h = g} {text = t} a w) = inl (f s g t a)
-IsStatusOrMemory-ends A held held' faults faults' wanted f n (IsEnding.WriteFailed a w r) = absurd (n r)
-IsStatusOrMemory-ends A held held' faults faults' wanted f n (IsEnding.MemoryWhileWriting a w) = inr refl
-IsStatusOrMemory-ends A held held' faults faults' wanted f n (IsEnding.MemoryBeforeWriting e) = inr refl
-
--- a source that gave too much had more than a session has
-not_short : (text : List ℕ) (left' : Option (List ℕ)) → length text ≤ longest → LosesFront (longest + 1) (longest + block) (Some text) left' → ⊥
-not_short text left' short l =
-    let more : longest < length text = IfSome-loses_more longest (longest + block) (Some text) left' l in
-    omega (arith, short, more)
-
--- ---- a text that the source told
-
--- words ask for one task
-pub asked_once : (words : List (List ℕ)) (a b : Task) → Asks words a → Asks words b → a ≡ b
-asked_once words T.Check T.Check h k = refl
-asked_once words T.Check T.Run h k = absurd cc
-asked_once words T.Run T.Check h k = absurd cc
-asked_once words T.Run T.Run h k = refl
-
--- every answer to the task has the status
-abbrev pub IsAnsweredBy : Text → Task → (wanted : ℕ) → Type 0
-IsAnsweredBy text task wanted = (s : ℕ) (h : List HistoryEntry) (w : List ℕ) → IsAnswerTo text task s h w → s ≡ wanted
-
-told_status : (text : Text) (task : Task) (left' : Option (List ℕ)) (wanted : ℕ) → length text ≤ longest → IsAnsweredBy text task wanted →
-    {s : ℕ} {h : List HistoryEntry} {w : List ℕ} → IsResult task (Some text) left' s h w → s ≡ wanted
-told_status text task left' wanted short f (IsResult.Read {text = read} {written = w} {status = s} {h = h} g l a) = f s h w (subst (λ t. IsAnswerTo t task s h w) (sym g.0) a)
-told_status text task left' wanted short f (IsResult.TooLong l) = absurd (not_short text left' short l)
-
--- the source told its text, and neither it nor the sink failed
-pub told-ends : (text : Text) (task asked : Task) (left left' held held' : Option (List ℕ)) (faults faults' wanted status : ℕ) (h : List HistoryEntry) →
-    asked ≡ task → left ≡ Some text → length text ≤ longest → IsAnsweredBy text task wanted → (Rose faults faults' → ⊥) →
-    IsEnding (IsResult asked left left') held held' faults faults' status h → IsStatusOrMemory wanted status
-told-ends text task asked left left' held held' faults faults' wanted status h same told short f n ends =
-    IsStatusOrMemory-ends (IsResult task (Some text) left') held held' faults faults' wanted (λ s g t a. told_status text task left' wanted short f a) n
-    (subst (λ t. IsEnding (IsResult t (Some text) left') held held' faults faults' status h) same (subst (λ l. IsEnding (IsResult asked l left') held held' faults faults' status h) told ends))
-
--- ---- the answers to one text
-
-ran : (text : Text) (names : Table) (statements : List Sentence) (task : Task) → task ≡ T.Run → IsSession text F.Clerks names statements → all_built statements ≡ true → IsAnsweredBy text task 0
-ran text names statements task e session built s h w (IsAnswerTo.Checked a) = absurd cc
-ran text names statements task e session built s h w (IsAnswerTo.Ran a b c) = refl
-ran text names statements task e session built s h w (IsAnswerTo.NotBuilt {names = others} {statements = found} a none) =
-    let same = (read_once text names others statements found session.read a.read).1 in
-    let here : all_built statements ≡ false = ap all_built same ∙ none in
-    absurd cc
-ran text names statements task e session built s h w (IsAnswerTo.Refused {names = others} {r = r} a) =
-    absurd (session_unrefused text F.Clerks others names r statements (subst (λ t. IsRefused text (form_of t) others r) e a) session)
-
--- a session that the engine takes
-pub IsAnsweredBy-built : (text : Text) (names : Table) (statements : List Sentence) → IsSession text F.Clerks names statements → all_built statements ≡ true → IsAnsweredBy text T.Run 0
-IsAnsweredBy-built text names statements session built = ran text names statements T.Run refl session built
-
-checked : (text : Text) (names : Table) (statements : List Sentence) (task : Task) → task ≡ T.Check → IsSession text F.Book names statements → IsAnsweredBy text task 0
-checked text names statements task e session s h w (IsAnswerTo.Checked a) = refl
-checked text names statements task e session s h w (IsAnswerTo.Ran a b c) = refl
-checked text names statements task e session s h w (IsAnswerTo.NotBuilt a none) = absurd cc
-checked text names statements task e session s h w (IsAnswerTo.Refused {names = others} {r = r} a) =
-    absurd (session_unrefused text F.Book others names r statements (subst (λ t. IsRefused text (form_of t) others r) e a) session)
-
--- a book
-pub IsAnsweredBy-book : (text : Text) (names : Table) (statements : List Sentence) → IsSession text F.Book names statements → IsAnsweredBy text T.Check 0
-IsAnsweredBy-book text names statements session = checked text names statements T.Check refl session
-
-left_out : (text : Text) (names : Table) (statements : List Sentence) (task : Task) → task ≡ T.Run → IsSession text F.Clerks names statements → all_built statements ≡ false → IsAnsweredBy text task 1
-left_out text names statements task e session none s h w (IsAnswerTo.Checked a) = absurd cc
-left_out text names statements task e session none s h w (IsAnswerTo.Ran {names = others} {statements = found} a built c) =
-    let same = (read_once text names others statements found session.read a.read).1 in
-    let here : all_built statements ≡ true = ap all_built same ∙ built in
-    absurd cc
-left_out text names statements task e session none s h w (IsAnswerTo.NotBuilt a b) = refl
-left_out text names statements task e session none s h w (IsAnswerTo.Refused a) = refl
-
--- a session that it does not take yet
-pub IsAnsweredBy-not_built : (text : Text) (names : Table) (statements : List Sentence) → IsSession text F.Clerks names statements → all_built statements ≡ false → IsAnsweredBy text T.Run 1
-IsAnsweredBy-not_built text names statements session none = left_out text names statements T.Run refl session none
-
--- no session
-pub IsAnsweredBy-none : (text : Text) (task : Task) → IsNoSession text (form_of task) → IsAnsweredBy text task 1
-IsAnsweredBy-none text task none s h w (IsAnswerTo.Checked {names = names} {statements = statements} a) = absurd (none names statements a)
-IsAnsweredBy-none text task none s h w (IsAnswerTo.Ran {names = names} {statements = statements} a b c) = absurd (none names statements a)
-IsAnsweredBy-none text task none s h w (IsAnswerTo.NotBuilt a b) = refl
-IsAnsweredBy-none text task none s h w (IsAnswerTo.Refused a) = refl
+-- the source failed
+pub IsEnding-unread : (task : Task) (source source' sink : Stream) (status : ℕ) (h : List HistoryEntry) → status ≡ 4 → h ≡ [] → HasFailed source source' →
+    LosesFront 0 longest source.bytes source'.bytes → IsEnding task source source' sink sink status h
+IsEnding-unread task source source' sink status h four empty failed front =
+    subst (λ s. IsEnding task source source' sink sink s h) (sym four) (subst (IsEnding task source source' sink sink 4) (sym empty) (IsEnding.ReadFailed failed front refl))
 
 -- the line of a fault that is not want of memory
 pub IsAnswerTo-fault : (text : Text) (task : Task) (fault : SessionFault) (line : List ℕ) → option_map (refusal_text fault.names) (refusal_of fault.what) ≡ Some line →
@@ -168,3 +65,190 @@ IsAnswerTo-fault text task fault line told (inr found) =
     let some : Some (refusal_text fault.names found.0) ≡ Some line = sym (ap (option_map (refusal_text fault.names)) found.1) ∙ told in
     let same : refusal_text fault.names found.0 ≡ line = cc in
     subst (IsAnswerTo text task 1 []) same (IsAnswerTo.Refused found.2)
+
+-- ---- statuses
+
+answer_status : {text : List ℕ} {task : Task} {s : ℕ} {h : List HistoryEntry} {w : List ℕ} → IsAnswerTo text task s h w → s ≤ 1
+answer_status (IsAnswerTo.Made a c) = omega arith
+answer_status (IsAnswerTo.Refused a) = omega arith
+
+result_status : {task : Task} {source source' : Stream} {s : ℕ} {h : List HistoryEntry} {w : List ℕ} → IsResult task source source' s h w → (s ≤ 1) ⊎ (s ≡ 6)
+result_status (IsResult.Read g l a) = inl (answer_status a)
+result_status (IsResult.TooLong l) = inr refl
+
+no_two : (s : ℕ) → (s ≤ 1) ⊎ (s ≡ 6) → s ≢ 2
+no_two s (inl h) e = omega (arith, h, e)
+no_two s (inr h) e = omega (arith, h, e)
+
+module _ (task : Task) (source source' sink sink' : Stream) where
+  written_not_two : {status : ℕ} {h : List HistoryEntry} → IsWritten (IsResult task source source') sink sink' status h → status ≢ 2
+  written_not_two (IsWritten.Whole {status = s} a w k) = no_two s (result_status a)
+  written_not_two (IsWritten.Failed a w r) = λ e. omega (arith, e)
+  written_not_two (IsWritten.MemoryBetween a some w k) = λ e. omega (arith, e)
+  written_not_two (IsWritten.MemoryBefore e) = λ e. omega (arith, e)
+
+  -- words that ask for a task do not end with the status of words that ask for none
+  pub IsEnding-not_two : {status : ℕ} {h : List HistoryEntry} → IsEnding task source source' sink sink' status h → status ≢ 2
+  IsEnding-not_two (IsEnding.Answered k w) = written_not_two w
+  IsEnding-not_two (IsEnding.ReadFailed r l k) = λ e. omega (arith, e)
+
+  written_later : {status : ℕ} {h : List HistoryEntry} → IsWritten (IsResult task source source') sink sink' status h → sink.faults ≤ sink'.faults
+  written_later (IsWritten.Whole a w k) = omega (arith, k)
+  written_later (IsWritten.Failed a w r) = r.later
+  written_later (IsWritten.MemoryBetween a some w k) = omega (arith, k)
+  written_later (IsWritten.MemoryBefore e) = let k = ap (λ s. s.faults) e in omega (arith, k)
+
+  -- the counts of faults do not fall
+  pub IsEnding-later : {status : ℕ} {h : List HistoryEntry} → IsEnding task source source' sink sink' status h → (source.faults ≤ source'.faults) × (sink.faults ≤ sink'.faults)
+  IsEnding-later (IsEnding.Answered k w) = (omega (arith, k), written_later w)
+  IsEnding-later (IsEnding.ReadFailed r l k) = let e = ap (λ s. s.faults) k in (r.later, omega (arith, e))
+
+-- ---- a text that the source told
+
+-- words ask for one task
+pub asked_once : (words : List (List ℕ)) (a b : Task) → Asks words a → Asks words b → a ≡ b
+asked_once words T.Check T.Check h k = refl
+asked_once words T.Check T.Run h k = absurd cc
+asked_once words T.Check T.Replay h k = absurd cc
+asked_once words T.Run T.Check h k = absurd cc
+asked_once words T.Run T.Run h k = refl
+asked_once words T.Run T.Replay h k = absurd cc
+asked_once words T.Replay T.Check h k = absurd cc
+asked_once words T.Replay T.Run h k = absurd cc
+asked_once words T.Replay T.Replay h k = refl
+
+-- a run for one task is one for the task that was asked for
+pub ended_for : (task asked : Task) (source source' sink sink' : Stream) (status : ℕ) (h : List HistoryEntry) → task ≡ asked →
+    IsEnding task source source' sink sink' status h → IsEnding asked source source' sink sink' status h
+ended_for task asked source source' sink sink' status h same e = subst (λ t. IsEnding t source source' sink sink' status h) same e
+
+-- a session that was read is one of the task's form
+pub IsSessionOf-read : (task asked : Task) (text : Text) (form : Form) (statements : List Sentence) (session : Session) → asked ≡ task → form ≡ form_of asked →
+    IsSession text form session.names statements → Holds statements session → IsSessionOf (form_of task) text statements session
+IsSessionOf-read task asked text form statements session same formed read holds = record {
+  is = subst (λ f. IsSession text f session.names statements) (formed ∙ ap form_of same) read;
+  holds = holds;
+}
+
+-- a source that gave too much had more than a session has
+not_short : (text : List ℕ) (left' : Option (List ℕ)) → length text ≤ longest → LosesFront (longest + 1) (longest + block) (Some text) left' → ⊥
+not_short text left' short l =
+    let more : longest < length text = IfSome-loses_more longest (longest + block) (Some text) left' l in
+    omega (arith, short, more)
+
+made_status : (text : Text) (task : Task) (names : Table) (statements : List Sentence) → IsSession text (form_of task) names statements →
+    {s : ℕ} {h : List HistoryEntry} {w : List ℕ} → IsAnswerTo text task s h w → s ≡ 0
+made_status text task names statements session (IsAnswerTo.Made a c) = refl
+made_status text task names statements session (IsAnswerTo.Refused {names = others} {r = r} a) =
+    absurd (session_unrefused text (form_of task) others names r statements a session)
+
+refused_status : (text : Text) (task : Task) → IsNoSession text (form_of task) → {s : ℕ} {h : List HistoryEntry} {w : List ℕ} → IsAnswerTo text task s h w → s ≡ 1
+refused_status text task none (IsAnswerTo.Made {names = names} {statements = statements} a c) = absurd (none names statements a)
+refused_status text task none (IsAnswerTo.Refused a) = refl
+
+-- every answer to the task has the status
+abbrev IsAnsweredBy : Text → Task → (wanted : ℕ) → Type 0
+IsAnsweredBy text task wanted = (s : ℕ) (h : List HistoryEntry) (w : List ℕ) → IsAnswerTo text task s h w → s ≡ wanted
+
+module _ (text : Text) (task : Task) (source source' : Stream) (told : source.bytes ≡ Some text) where
+  -- a text of no more bytes than a session may have
+  short_status : (wanted : ℕ) → length text ≤ longest → IsAnsweredBy text task wanted →
+      {s : ℕ} {h : List HistoryEntry} {w : List ℕ} → IsResult task source source' s h w → s ≡ wanted
+  short_status wanted short f (IsResult.Read {text = read} {written = w} {status = s} {h = h} g l a) =
+      let same : text ≡ read = (rw told at g).0 in
+      f s h w (subst (λ t. IsAnswerTo t task s h w) (sym same) a)
+  short_status wanted short f (IsResult.TooLong l) = absurd (not_short text source'.bytes short (rw told at l))
+
+  long_status : longest < length text → {s : ℕ} {h : List HistoryEntry} {w : List ℕ} → IsResult task source source' s h w → s ≡ 6
+  long_status long (IsResult.Read {text = read} g l a) =
+      absurd (let same : text ≡ read = (rw told at g).0 in let long_too : length text ≡ length read = ap length same in omega (arith, long, l, long_too))
+  long_status long (IsResult.TooLong l) = refl
+
+  -- what a source asks for that told its text has the status that the text deserves
+  told_status : {wanted : ℕ} → Deserves task text wanted → {s : ℕ} {h : List HistoryEntry} {w : List ℕ} → IsResult task source source' s h w → s ≡ wanted
+  told_status (Deserves.OfSession {names = names} {statements = statements} short session) r =
+      short_status 0 short (λ s h w a. made_status text task names statements session a) r
+  told_status (Deserves.OfNoSession short none) r = short_status 1 short (λ s h w a. refused_status text task none a) r
+  told_status (Deserves.OfTooLong long) r = long_status long r
+
+  written_status : (sink sink' : Stream) (wanted : ℕ) → Deserves task text wanted → (Rose sink.faults sink'.faults → ⊥) → {status : ℕ} {h : List HistoryEntry} →
+      IsWritten (IsResult task source source') sink sink' status h → IsStatusOrMemory wanted status
+  written_status sink sink' wanted d n (IsWritten.Whole a w k) = inl (told_status d a)
+  written_status sink sink' wanted d n (IsWritten.Failed a w r) = absurd (n r.rose)
+  written_status sink sink' wanted d n (IsWritten.MemoryBetween a some w k) = inr refl
+  written_status sink sink' wanted d n (IsWritten.MemoryBefore e) = inr refl
+
+  -- where neither the source nor the sink failed
+  pub IsEnding-status : (sink sink' : Stream) (wanted : ℕ) → Deserves task text wanted → (Rose source.faults source'.faults → ⊥) → (Rose sink.faults sink'.faults → ⊥) →
+      {status : ℕ} {h : List HistoryEntry} → IsEnding task source source' sink sink' status h → IsStatusOrMemory wanted status
+  IsEnding-status sink sink' wanted d m n (IsEnding.Answered k w) = written_status sink sink' wanted d n w
+  IsEnding-status sink sink' wanted d m n (IsEnding.ReadFailed r l k) = absurd (m r.rose)
+
+-- ---- the status 0
+
+-- a session was read, this was made of it, and it was written
+record IsDone (task : Task) (source source' sink sink' : Stream) (h : List HistoryEntry) : Type 0 where
+  pub text : Text
+  pub given : GivesAll source.bytes source'.bytes text
+  pub names : Table
+  pub statements : List Sentence
+  pub session : IsSession text (form_of task) names statements
+  pub line : List ℕ
+  pub made : IsMade task names statements h line
+  pub written : Appends sink.bytes sink'.bytes line
+
+module _ (task : Task) (source source' sink sink' : Stream) where
+  done_by : {s : ℕ} {h : List HistoryEntry} {text w : List ℕ} → s ≡ 0 → IsAnswerTo text task s h w → GivesAll source.bytes source'.bytes text →
+      Appends sink.bytes sink'.bytes w → IsDone task source source' sink sink' h
+  done_by {text = text} {w = line} z (IsAnswerTo.Made {names = names} {statements = statements} session made) g a = record {
+    text = text;
+    given = g;
+    names = names;
+    statements = statements;
+    session = session;
+    line = line;
+    made = made;
+    written = a;
+  }
+  done_by z (IsAnswerTo.Refused r) g a = absurd (omega (arith, z))
+
+  done_with : {s : ℕ} {h : List HistoryEntry} {w : List ℕ} → s ≡ 0 → IsResult task source source' s h w → Appends sink.bytes sink'.bytes w → IsDone task source source' sink sink' h
+  done_with z (IsResult.Read g l answer) a = done_by z answer g a
+  done_with z (IsResult.TooLong l) a = absurd (omega (arith, z))
+
+  written_done : {s : ℕ} {h : List HistoryEntry} → s ≡ 0 → IsWritten (IsResult task source source') sink sink' s h → IsDone task source source' sink sink' h
+  written_done z (IsWritten.Whole r a k) = done_with z r a
+  written_done z (IsWritten.Failed r a k) = absurd (omega (arith, z))
+  written_done z (IsWritten.MemoryBetween r some a k) = absurd (omega (arith, z))
+  written_done z (IsWritten.MemoryBefore e) = absurd (omega (arith, z))
+
+  ending_done : {s : ℕ} {h : List HistoryEntry} → s ≡ 0 → IsEnding task source source' sink sink' s h → IsDone task source source' sink sink' h
+  ending_done z (IsEnding.Answered k w) = written_done z w
+  ending_done z (IsEnding.ReadFailed r l k) = absurd (omega (arith, z))
+
+module _ (source source' sink sink' : Stream) (status : ℕ) (h : List HistoryEntry) (zero : status ≡ 0) where
+  pub run_done : IsEnding T.Run source source' sink sink' status h → HasRun source.bytes source'.bytes sink.bytes sink'.bytes h
+  run_done e =
+      let d = ending_done T.Run source source' sink sink' zero e in
+      record {
+        text = d.text;
+        given = d.given;
+        names = d.names;
+        statements = d.statements;
+        session = d.session;
+        history = d.made.history;
+        written = subst (Appends sink.bytes sink'.bytes) d.made.lines d.written;
+      }
+
+  pub replay_done : IsEnding T.Replay source source' sink sink' status h → HasReplayed source.bytes source'.bytes sink.bytes sink'.bytes h
+  replay_done e =
+      let d = ending_done T.Replay source source' sink sink' zero e in
+      record {
+        text = d.text;
+        given = d.given;
+        names = d.names;
+        statements = d.statements;
+        session = d.session;
+        history = d.made.history;
+        written = subst (Appends sink.bytes sink'.bytes) d.made.lines d.written;
+      }

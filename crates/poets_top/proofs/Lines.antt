@@ -1,5 +1,5 @@
 -- The lines of a history, as they are written one by one.
-use Rattle.std.proofs.Common.{◌≡◌, ℕ, suc, ◌+◌, ◌<◌, List, [], ◌∷◌, ◌++◌, length, take, drop, get_or, Option, Result, Ok, Err, OnErr, refl, sym, ◌∙◌, ap, subst, arith, append_assoc, append-nil, length-append}
+use Rattle.std.proofs.Common.{◌≡◌, ◌≢◌, ℕ, suc, ◌+◌, ◌<◌, List, [], ◌∷◌, ◌++◌, length, take, drop, get_or, Option, Result, Ok, Err, OnErr, refl, sym, ◌∙◌, ap, subst, arith, append_assoc, append-nil, length-append}
 use Rattle.std.proofs.Math.Seq.{take-append-add}
 use Rattle.std.proofs.lemmas.List.{take_more, take-append-drop, take-append-le, map-append, length-map, length-take-le}
 use Rattle.std.specs.Io.KnownBytes.{Appends}
@@ -80,6 +80,11 @@ pub AppendsPart-lines : (names : Table) (i : ℕ) (entries : List Entry) (e : En
 AppendsPart-lines names i entries e a b lt at p =
     AppendsPart-line names i entries e a b b (line_text names (i + 1) (entry_of e)) lt at refl p
     (record { taken = 0; short = line_text-some names (i + 1) (entry_of e); bytes = Appends-nil b })
+
+-- a history whose lines were not all written has entries
+pub AppendsPart-some : (names : Table) (h : List HistoryEntry) (a b : Option (List ℕ)) → AppendsPart a b (history_text names h) → h ≢ []
+AppendsPart-some names [] a b p = absurd (omega (arith, p.short))
+AppendsPart-some names (x ∷ h) a b p = λ e. absurd cc
 
 -- what holds anyway
 pub OnErr-anyway : {T E : Type 0} (r : Result T E) (P : Type 0) → P → OnErr r P

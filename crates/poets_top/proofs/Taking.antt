@@ -1,130 +1,126 @@
--- The engine takes the commands of a session that is typed and built.
-use Rattle.std.proofs.Common.{◌≡◌, ℕ, ◌+◌, Bool, true, false, List, [], ◌∷◌, Option, Some, None, map, refl, sym, ◌∙◌, ap, ap₂, subst, arith}
-use Rattle.std.specs.Prelude.{◌&&◌, if◌then◌else◌}
+-- The engine takes the calls of a session.
+use Rattle.std.proofs.Common.{◌≡◌, ℕ, ◌+◌, ◌<◌, List, [], ◌∷◌, Some, None, map, length, get_or, sym, subst, arith}
 use Rattle.std.specs.Arc.{arc_value}
-use Rattle.std.specs.List.{All, list_all}
+use Rattle.std.specs.List.{All}
 use Rattle.std.specs.declared.alloc.Global.{Global}
 use Rattle.std.specs.declared.sync.Arc.{Arc}
-use Rattle.std.proofs.lemmas.Bool.{eqb-true}
 use Rattle.std.proofs.lemmas.List.{get_or-map, length-map}
-use Rattle.std.proofs.lemmas.List.Folds.{list_all-map}
-use Rattle.std.proofs.lemmas.List.Elements.{All-nil, All-cons, All-weaker}
-use Rattle.poets_value.specs.Listed.{Listed}
-use Rattle.poets_value.specs.declared.value.Name.{Name}
-use Rattle.poets_value.specs.declared.event.Event.{Event}
-use Rattle.poets_value.specs.declared.value.Ty.{Ty}
-use Rattle.poets_value.specs.declared.value.Ty.TheVariants as T
-use Rattle.poets_expr.specs.Env.{Declared}
-use Rattle.poets_expr.specs.Same.{ty_place}
-use Rattle.poets_expr.proofs.SameTrees.{ty_one}
-use Rattle.poets_syntax.specs.Book.{Definitions}
-use Rattle.poets_syntax.specs.TypeOf.{Fault, WrongType, Verdict, Passes, Fails, ◌>>=◌, name_type, must_be, same_type}
-use Rattle.poets_syntax.specs.WellFormed.{IsDeclaredEvent}
-use Rattle.poets_syntax.proofs.Nullability.{CountsFit-fit}
-use Rattle.poets_syntax.proofs.Typedness.{passed, ApplicationsFit-typed, IsWellFormed-typed}
+use Rattle.std.proofs.lemmas.List.Elements.{All-nil, All-cons, All-head, All-tail, All-append, All-map}
+use Rattle.poets_syntax.specs.Book.{Definition, Definitions}
+use Rattle.poets_syntax.specs.Whole.{IsWholeContract, AreWholeDefinitions}
 use Rattle.poets_report.specs.Query.{Query}
-use Rattle.poets_call.specs.Calls.{Request, request_of}
 use Rattle.poets_call.specs.declared.call.Command.{Command as CodeCommand}
-use Rattle.poets_call.specs.Sentences.{Sentence, Clerk, Command}
+use Rattle.poets_call.specs.declared.rules.Rules.{Rules}
+use Rattle.poets_call.specs.Rules as R
+use Rattle.poets_call.specs.Calls.{Request, Call, request_of}
+use Rattle.poets_call.specs.Sentences.{Sentence, Clerk, Command, Numbered, Template}
 use Rattle.poets_call.specs.Declarations.{book_of, reports_of}
-use Rattle.poets_call.specs.TypedSentences.{NumberedFault, report_names, check_declared, check_event, check_request, check_sentence, first_of, twice_from, mistyped_from, first_fault}
+use Rattle.poets_call.specs.Taken.{IsTaken}
+use Rattle.poets_call.specs.TypedSentences.{NumberedFault, IsTypedRequest, check_request, check_sentence, first_of, twice_from, mistyped_from, first_fault}
+use Rattle.poets_lex.specs.Table.{Table}
 use Rattle.poets_types.proofs.CheckedBooks.{or_else-none}
-use Rattle.poets_engine.specs.Rows.{IsTaken}
-use Rattle.poets_session.specs.Sessions.{commands_ahead, scripts_of, requests_of}
-use Rattle.poets_top.specs.Scripts.{MayBeMade}
-use Rattle.poets_top.specs.Sessions.{is_built, all_built}
+use Rattle.poets_session.specs.Sessions.{calls_in, commands_ahead, scripts_of, journal_of}
+use Rattle.poets_session.specs.Written.{IsWritten, IsWrittenRequest}
+use Rattle.poets_top.specs.Scripts.{AreTaken, under_clerk, calls_of_scripts}
 
--- ---- one command
-
-unfailed : (b : Bool) (next : Verdict (Unit {0})) (f : Fault) → (if b then next else Fails f) ≡ Passes tt → b ≡ true
-unfailed true next f h = refl
-unfailed false next f h = absurd cc
-
-declared_as : (wanted : Ty) (x : Name) (o : Option Ty) → (name_type x o >>= λ found. must_be wanted found) ≡ Passes tt → o ≡ Some wanted
-declared_as wanted x None h = absurd cc
-declared_as wanted x (Some found) h =
-    ap (λ t. Some t) (sym (ty_one wanted found (eqb-true (ty_place wanted) (ty_place found) (unfailed (same_type wanted found) _ (WrongType wanted found) h))))
-
-IsDeclaredEvent-checked : (declared : Declared) (e : Event) → check_event declared e ≡ Passes tt → IsDeclaredEvent declared e
-IsDeclaredEvent-checked declared e h =
-    let kind = check_declared declared T.Kind e.what.kind in
-    let receiver = check_declared declared T.Agent e.receiver in
-    let p = passed (check_declared declared T.Agent e.sender) (λ _. receiver >>= λ _. kind) tt h in
-    let q = passed receiver (λ _. kind) tt p.2 in
-    record {
-      sender = declared_as T.Agent e.sender (declared e.sender) p.1;
-      receiver = declared_as T.Agent e.receiver (declared e.receiver) q.1;
-      kind = declared_as T.Kind e.what.kind (declared e.what.kind) q.2;
-    }
-
-IsTaken-checked : (book : Definitions) (reports : List Query) (r : Request) → is_built r ≡ true → check_request book reports r ≡ Passes tt → IsTaken book r
-IsTaken-checked book reports (Request.Register x c) built h =
-    (IsWellFormed-typed book (report_names reports) [] c h, CountsFit-fit book c (ApplicationsFit-typed book (report_names reports) [] c h))
-IsTaken-checked book reports (Request.Transmit x e) built h = IsDeclaredEvent-checked book.declared e h
-IsTaken-checked book reports r built h = absurd cc
-
--- ---- scripts
+-- ---- typed commands
 
 no_later_fault : (first later : NumberedFault) → first_of first later ≡ None → later ≡ None
 no_later_fault None later h = h
 no_later_fault (Some f) later h = absurd cc
 
-pub both_true : (a b : Bool) → (a && b) ≡ true → (a ≡ true) × (b ≡ true)
-both_true true b h = (refl, h)
-both_true false b h = absurd cc
+module _ (book : Definitions) (reports : List Query) where
+  abbrev Typed : Request → Type 0
+  Typed r = IsTypedRequest book reports r
 
-abbrev AreTaken : Definitions → List Request → Type 0
-AreTaken book script = All (IsTaken book) script
+  typed_ahead : (number : ℕ) (statements : List Sentence) → mistyped_from number book reports statements ≡ None → All Typed (commands_ahead statements)
+  typed_ahead number [] h = All-nil Typed
+  typed_ahead number (Clerk ∷ statements) h = All-nil Typed
+  typed_ahead number (Command r ∷ statements) h =
+      let p = or_else-none (check_request book reports r) number (mistyped_from (number + 1) book reports statements) h in
+      All-cons Typed r (commands_ahead statements) p.0 (typed_ahead (number + 1) statements p.1)
+  typed_ahead number (s ∷ statements) h =
+      typed_ahead (number + 1) statements (or_else-none (check_sentence book reports s) number (mistyped_from (number + 1) book reports statements) h).1
 
-AreTaken-ahead : (number : ℕ) (book : Definitions) (reports : List Query) (statements : List Sentence) → mistyped_from number book reports statements ≡ None →
-    list_all is_built (commands_ahead statements) ≡ true → AreTaken book (commands_ahead statements)
-AreTaken-ahead number book reports [] h built = All-nil (IsTaken book)
-AreTaken-ahead number book reports (Clerk ∷ statements) h built = All-nil (IsTaken book)
-AreTaken-ahead number book reports (Command r ∷ statements) h built =
-    let p = or_else-none (check_request book reports r) number (mistyped_from (number + 1) book reports statements) h in
-    let q = both_true (is_built r) (list_all is_built (commands_ahead statements)) built in
-    All-cons (IsTaken book) r (commands_ahead statements) (IsTaken-checked book reports r q.0 p.0) (AreTaken-ahead (number + 1) book reports statements p.1 q.1)
-AreTaken-ahead number book reports (s ∷ statements) h built =
-    AreTaken-ahead (number + 1) book reports statements (or_else-none (check_sentence book reports s) number (mistyped_from (number + 1) book reports statements) h).1 built
+  typed_scripts : (number : ℕ) (statements : List Sentence) → mistyped_from number book reports statements ≡ None → All (All Typed) (scripts_of statements)
+  typed_scripts number [] h = All-nil (All Typed)
+  typed_scripts number (Clerk ∷ statements) h =
+      All-cons (All Typed) (commands_ahead statements) (scripts_of statements) (typed_ahead (number + 1) statements h) (typed_scripts (number + 1) statements h)
+  typed_scripts number (s ∷ statements) h =
+      typed_scripts (number + 1) statements (or_else-none (check_sentence book reports s) number (mistyped_from (number + 1) book reports statements) h).1
 
-AreTaken-from : (number : ℕ) (book : Definitions) (reports : List Query) (statements : List Sentence) → mistyped_from number book reports statements ≡ None →
-    list_all (λ script. list_all is_built script) (scripts_of statements) ≡ true → All (AreTaken book) (scripts_of statements)
-AreTaken-from number book reports [] h built = All-nil (AreTaken book)
-AreTaken-from number book reports (Clerk ∷ statements) h built =
-    let q = both_true (list_all is_built (commands_ahead statements)) (list_all (λ script. list_all is_built script) (scripts_of statements)) built in
-    All-cons (AreTaken book) (commands_ahead statements) (scripts_of statements) (AreTaken-ahead (number + 1) book reports statements h q.0)
-    (AreTaken-from (number + 1) book reports statements h q.1)
-AreTaken-from number book reports (s ∷ statements) h built =
-    AreTaken-from (number + 1) book reports statements (or_else-none (check_sentence book reports s) number (mistyped_from (number + 1) book reports statements) h).1 built
+  typed_journal : (number : ℕ) (statements : List Sentence) → mistyped_from number book reports statements ≡ None → All (λ call. Typed call.1) (journal_of statements)
+  typed_journal number [] h = All-nil (λ call. Typed call.1)
+  typed_journal number (Numbered clerk r ∷ statements) h =
+      let p = or_else-none (check_request book reports r) number (mistyped_from (number + 1) book reports statements) h in
+      All-cons (λ call. Typed call.1) (clerk, r) (journal_of statements) p.0 (typed_journal (number + 1) statements p.1)
+  typed_journal number (s ∷ statements) h =
+      typed_journal (number + 1) statements (or_else-none (check_sentence book reports s) number (mistyped_from (number + 1) book reports statements) h).1
 
--- ---- the scripts of the code
+-- ---- written ones are whole
+
+abbrev Takes : List Sentence → Request → Type 0
+Takes statements r = IsTaken (book_of statements) (reports_of statements) r
+
+mistyped_none : (statements : List Sentence) → first_fault statements ≡ None → mistyped_from 1 (book_of statements) (reports_of statements) statements ≡ None
+mistyped_none statements typed = no_later_fault (twice_from 1 [] statements) (mistyped_from 1 (book_of statements) (reports_of statements) statements) typed
+
+under_taken : (statements : List Sentence) (clerk : ℕ) (script : List Request) → All (Takes statements) script → All (λ call. Takes statements call.1) (under_clerk clerk script)
+under_taken statements clerk script h = All-map (λ (call : Call). Takes statements call.1) (λ r. (clerk, r)) script h
+
+all_under : (statements : List Sentence) (clerk : ℕ) (scripts : List (List Request)) → All (All (Takes statements)) scripts →
+    All (λ call. Takes statements call.1) (calls_of_scripts clerk scripts)
+all_under statements clerk [] h = All-nil (λ call. Takes statements call.1)
+all_under statements clerk (script ∷ scripts) h =
+    All-append (λ call. Takes statements call.1) (under_clerk clerk script) (calls_of_scripts (clerk + 1) scripts)
+    (under_taken statements clerk script (All-head (All (Takes statements)) script scripts h))
+    (all_under statements (clerk + 1) scripts (All-tail (All (Takes statements)) script scripts h))
+
+-- the calls of scripts
+pub scripts_taken : (names : Table) (statements : List Sentence) → first_fault statements ≡ None → All (All (IsWrittenRequest names)) (scripts_of statements) →
+    All (λ call. Takes statements call.1) (calls_of_scripts 1 (scripts_of statements))
+scripts_taken names statements typed written =
+    let passed = typed_scripts (book_of statements) (reports_of statements) 1 statements (mistyped_none statements typed) in
+    all_under statements 1 (scripts_of statements) (λ k d lt i e under. record { typed = passed k d lt i e under; whole = (written k d lt i e under).1 })
+
+-- the calls of a journal
+pub journal_taken : (names : Table) (statements : List Sentence) → first_fault statements ≡ None → All (λ call. IsWrittenRequest names call.1) (journal_of statements) →
+    All (λ call. Takes statements call.1) (journal_of statements)
+journal_taken names statements typed written =
+    let passed = typed_journal (book_of statements) (reports_of statements) 1 statements (mistyped_none statements typed) in
+    λ k d lt. record { typed = passed k d lt; whole = (written k d lt).1 }
+
+-- ---- the calls of the code
 
 -- what holds of each image
 pub All-of_map : {X Y : Type 0} (P : Y → Type 0) (f : X → Y) (xs : List X) → All P (map f xs) → All (λ x. P (f x)) xs
 All-of_map P f xs h k x lt = subst P (get_or-map f xs k x (f x) lt) (h k (f x) (omega (arith, lt, length-map xs f)))
 
-MayBeMade-requests : (book : Definitions) (scripts : List (Listed (Arc CodeCommand Global))) → All (AreTaken book) (requests_of scripts) → All (λ script. MayBeMade book script.items) scripts
-MayBeMade-requests book scripts h =
-    let taken = All-of_map (AreTaken book) (λ (script : Listed (Arc CodeCommand Global)). map (λ c. request_of (arc_value c)) script.items) scripts h in
-    All-weaker _ _ (λ script here. All-of_map (IsTaken book) (λ c. request_of (arc_value c)) script.items here) scripts taken
+pub AreTaken-code : (rules : Rules) (statements : List Sentence) (calls : List (ℕ × Arc CodeCommand Global)) (plain : List Call) →
+    R.book_of rules ≡ book_of statements → R.reports_of rules ≡ reports_of statements → calls_in calls ≡ plain →
+    All (λ call. Takes statements call.1) plain → AreTaken rules calls
+AreTaken-code rules statements calls plain book reports same taken =
+    let there = subst (λ b. All (λ call. IsTaken b (reports_of statements) call.1) plain) (sym book) taken in
+    let here = subst (λ q. All (λ call. IsTaken (R.book_of rules) q call.1) plain) (sym reports) there in
+    All-of_map (λ (call : Call). IsTaken (R.book_of rules) (R.reports_of rules) call.1) (λ (p : ℕ × Arc CodeCommand Global). (p.0, request_of (arc_value p.1))) calls
+    (subst (All (λ call. IsTaken (R.book_of rules) (R.reports_of rules) call.1)) (sym same) here)
 
--- the engine may be given the scripts of a session
-pub MayBeMade-typed : (statements : List Sentence) (scripts : List (Listed (Arc CodeCommand Global))) → first_fault statements ≡ None →
-    all_built statements ≡ true → requests_of scripts ≡ scripts_of statements →
-    All (λ script. MayBeMade (book_of statements) script.items) scripts
-MayBeMade-typed statements scripts typed built same =
-    let passed = no_later_fault (twice_from 1 [] statements) (mistyped_from 1 (book_of statements) (reports_of statements) statements) typed in
-    MayBeMade-requests (book_of statements) scripts
-    (subst (All (AreTaken (book_of statements))) (sym same) (AreTaken-from 1 (book_of statements) (reports_of statements) statements passed built))
+-- one of the calls
+pub taken_at : (rules found : Rules) (calls : List (ℕ × Arc CodeCommand Global)) (i : ℕ) (p : ℕ × Arc CodeCommand Global) → AreTaken rules calls → i < length calls →
+    p ≡ get_or calls i p → found ≡ rules → IsTaken (R.book_of found) (R.reports_of found) (request_of (arc_value p.1))
+taken_at rules found calls i p taken lt at same =
+    subst (λ r. IsTaken (R.book_of r) (R.reports_of r) (request_of (arc_value p.1))) (sym same)
+    (subst (λ q. IsTaken (R.book_of rules) (R.reports_of rules) (request_of (arc_value q.1))) (sym at) (taken i p lt))
 
--- ---- what the code tests
+-- ---- the book
 
-scripts_made : (scripts : List (Listed (Arc CodeCommand Global))) →
-    list_all (λ script. list_all (λ c. is_built (request_of (arc_value c))) script.items) scripts ≡ list_all (λ script. list_all is_built script) (requests_of scripts)
-scripts_made [] = refl
-scripts_made (s ∷ scripts) = ap₂ (λ a b. a && b) (sym (list_all-map is_built (λ c. request_of (arc_value c)) s.items)) (scripts_made scripts)
+whole_templates : (names : Table) (statements : List Sentence) → All (IsWritten names) statements → AreWholeDefinitions (book_of statements)
+whole_templates names [] h = All-nil (λ t. IsWholeContract t.body)
+whole_templates names (Template t ∷ statements) h =
+    All-cons (λ (u : Definition). IsWholeContract u.body) t (book_of statements).templates (All-head (IsWritten names) (Template t) statements h).body.1
+    (whole_templates names statements (All-tail (IsWritten names) (Template t) statements h))
+whole_templates names (s ∷ statements) h = whole_templates names statements (All-tail (IsWritten names) s statements h)
 
--- commands that are made
-pub all_built-made : (statements : List Sentence) (scripts : List (Listed (Arc CodeCommand Global))) (made : Bool) → requests_of scripts ≡ scripts_of statements →
-    made ≡ list_all (λ script. list_all (λ c. is_built (request_of (arc_value c))) script.items) scripts → made ≡ all_built statements
-all_built-made statements scripts made said here = here ∙ scripts_made scripts ∙ ap (list_all (λ script. list_all is_built script)) said
+pub whole_rules : (rules : Rules) (names : Table) (statements : List Sentence) → R.book_of rules ≡ book_of statements → All (IsWritten names) statements →
+    AreWholeDefinitions (R.book_of rules)
+whole_rules rules names statements book written = subst AreWholeDefinitions (sym book) (whole_templates names statements written)

@@ -1,5 +1,9 @@
 pub mod Words
-pub mod Refusals
-pub mod Sessions
+pub mod Checking
+pub mod Running
+pub mod Replaying
+pub mod Writing
 pub mod Runs
+pub mod Sessions
 pub mod Scripts
+pub mod Laws

@@ -1,18 +1,17 @@
--- What a run answers, and what it writes.
-use Rattle.std.specs.Prelude.{◌≡◌, ℕ, ◌+◌, ◌≤◌, ◌⊎◌, true, false, List, [], length, Option}
-use Rattle.std.specs.Io.KnownBytes.{Appends}
+-- What a run answers, and how it ends.
+use Rattle.std.specs.Prelude.{◌≡◌, ℕ, ◌+◌, ◌≤◌, ◌<◌, ◌⊎◌, List, [], ◌∷◌, ◌++◌, codes, length}
 use Rattle.poets_io.specs.Causes.{Rose}
-use Rattle.poets_io.specs.Streams.{AppendsPart, GivesAll, LosesFront}
+use Rattle.poets_io.specs.Streams.{GivesAll, LosesFront}
 use Rattle.poets_lex.specs.Table.{Table}
 use Rattle.poets_call.specs.Calls.{HistoryEntry}
 use Rattle.poets_call.specs.Sentences.{Sentence}
-use Rattle.poets_print.specs.Lines.{history_text}
-use Rattle.poets_session.specs.declared.form.Form.TheVariants as F
-use Rattle.poets_session.specs.Sessions.{Text, IsSession}
+use Rattle.poets_session.specs.Sessions.{Text, IsSession, IsNoSession}
 use Rattle.poets_session.specs.Refusals.{Refusal, IsRefused}
 use Rattle.poets_session.specs.Texts.{refusal_text}
-use Rattle.poets_top.specs.Refusals.{book_text, not_built_text, too_long_text}
-use Rattle.poets_top.specs.Sessions.{all_built, IsHistoryOf}
+use Rattle.poets_top.specs.Checking.{ChecksBook}
+use Rattle.poets_top.specs.Running.{RunsScripts}
+use Rattle.poets_top.specs.Replaying.{ReplaysJournal}
+use Rattle.poets_top.specs.Writing.{Stream, HasFailed, IsWritten}
 use Rattle.poets_top.specs.Words.{form_of}
 use Rattle.poets_top.specs.declared.words.Task.{Task}
 use Rattle.poets_top.specs.declared.words.Task.TheVariants as T
@@ -25,40 +24,48 @@ longest = 16_777_216
 abbrev pub block : ℕ
 block = 65_536
 
--- what a text asks for that was read: a status, a history, and what is to be written
-pub data IsAnswerTo (text : Text) : (task : Task) → (status : ℕ) → List HistoryEntry → List ℕ → Type 0 where
-  -- a book: the numbers of its templates and of its reports
-  Checked : {names : Table} {statements : List Sentence} → IsSession text F.Book names statements → IsAnswerTo text T.Check 0 [] (book_text statements)
-  -- a session: its history, and the lines of this
-  Ran :
-      {names : Table} {statements : List Sentence} {h : List HistoryEntry} →
-      IsSession text F.Clerks names statements → all_built statements ≡ true → IsHistoryOf statements h → IsAnswerTo text T.Run 0 h (history_text names h)
-  -- a session that the engine does not take yet
-  NotBuilt : {names : Table} {statements : List Sentence} → IsSession text F.Clerks names statements → all_built statements ≡ false → IsAnswerTo text T.Run 1 [] not_built_text
-  -- no session: the line of its first fault
-  Refused : {task : Task} {names : Table} {r : Refusal} → IsRefused text (form_of task) names r → IsAnswerTo text task 1 [] (refusal_text names r)
+abbrev pub too_long_text : List ℕ
+too_long_text = codes "refused: longer than 16777216 bytes" ++ 10 ∷ []
 
--- what a source asks for of which this was left before the run, and that after it
-pub data IsResult (task : Task) (left left' : Option (List ℕ)) : (status : ℕ) → List HistoryEntry → List ℕ → Type 0 where
-  -- the source was read to its end
+-- what a task makes of a session
+abbrev pub IsMade : Task → Table → List Sentence → List HistoryEntry → List ℕ → Type 0
+IsMade T.Check names statements = ChecksBook statements
+IsMade T.Run names statements = RunsScripts names statements
+IsMade T.Replay names statements = ReplaysJournal names statements
+
+-- what a text asks for that was read
+pub data IsAnswerTo (text : Text) (task : Task) : (status : ℕ) → List HistoryEntry → List ℕ → Type 0 where
+  -- a session
+  Made :
+      {names : Table} {statements : List Sentence} {h : List HistoryEntry} {written : List ℕ} →
+      IsSession text (form_of task) names statements → IsMade task names statements h written → IsAnswerTo text task 0 h written
+  -- no session: the line of its first fault
+  Refused : {names : Table} {r : Refusal} → IsRefused text (form_of task) names r → IsAnswerTo text task 1 [] (refusal_text names r)
+
+-- what a source asks for that was like this before the run, and like that after it
+pub data IsResult (task : Task) (source source' : Stream) : (status : ℕ) → List HistoryEntry → List ℕ → Type 0 where
+  -- it was read to its end
   Read :
       {text written : List ℕ} {status : ℕ} {h : List HistoryEntry} →
-      GivesAll left left' text → length text ≤ longest → IsAnswerTo text task status h written → IsResult task left left' status h written
+      GivesAll source.bytes source'.bytes text → length text ≤ longest → IsAnswerTo text task status h written → IsResult task source source' status h written
   -- it gave more bytes than a session may have; they come in blocks, so that at most a block too many was taken
-  TooLong : LosesFront (longest + 1) (longest + block) left left' → IsResult task left left' 6 [] too_long_text
+  TooLong : LosesFront (longest + 1) (longest + block) source.bytes source'.bytes → IsResult task source source' 6 [] too_long_text
 
--- how a run ends that has these results, by what its sink holds before and after and by the sink's counts of faults
-pub data IsEnding (Results : ℕ → List HistoryEntry → List ℕ → Type 0) (held held' : Option (List ℕ)) (faults faults' : ℕ) : (status : ℕ) → List HistoryEntry → Type 0 where
-  -- the text was written whole
-  WroteAll : {status : ℕ} {h : List HistoryEntry} {text : List ℕ} → Results status h text → Appends held held' text → IsEnding Results held held' faults faults' status h
-  -- the sink failed: a front of the text was written
-  WriteFailed :
-      {status : ℕ} {h : List HistoryEntry} {text : List ℕ} →
-      Results status h text → AppendsPart held held' text → Rose faults faults' → IsEnding Results held held' faults faults' 5 h
-  -- want of memory while a history is written: a front of its lines was written, and not all
-  MemoryWhileWriting : {h : List HistoryEntry} {text : List ℕ} → Results 0 h text → AppendsPart held held' text → IsEnding Results held held' faults faults' 3 h
-  -- want of memory ahead of all writing: nothing was written, and no history is handed out
-  MemoryBeforeWriting : held' ≡ held → IsEnding Results held held' faults faults' 3 []
+-- how a run ends, by its source and its sink before and after
+pub data IsEnding (task : Task) (source source' sink sink' : Stream) : (status : ℕ) → List HistoryEntry → Type 0 where
+  -- the source had no fault, and its result was written, or as much of it as there was memory for
+  Answered :
+      {status : ℕ} {h : List HistoryEntry} →
+      source'.faults ≡ source.faults → IsWritten (IsResult task source source') sink sink' status h → IsEnding task source source' sink sink' status h
+  -- the source failed, and nothing was written
+  ReadFailed :
+      HasFailed source source' → LosesFront 0 longest source.bytes source'.bytes → sink' ≡ sink → IsEnding task source source' sink sink' 4 []
+
+-- the status that a text deserves
+pub data Deserves (task : Task) (text : Text) : (status : ℕ) → Type 0 where
+  OfSession : {names : Table} {statements : List Sentence} → length text ≤ longest → IsSession text (form_of task) names statements → Deserves task text 0
+  OfNoSession : length text ≤ longest → IsNoSession text (form_of task) → Deserves task text 1
+  OfTooLong : longest < length text → Deserves task text 6
 
 -- the status, or that of want of memory
 abbrev pub IsStatusOrMemory : (wanted status : ℕ) → Type 0

@@ -9,6 +9,7 @@ use Rattle.poets_top.specs.declared.words.Task.TheVariants as T
 abbrev pub word_of : Task → List ℕ
 word_of T.Check = codes "check"
 word_of T.Run = codes "run"
+word_of T.Replay = codes "replay"
 
 -- the words are the single word for the task
 abbrev pub Asks : List (List ℕ) → Task → Type 0
@@ -22,3 +23,4 @@ IsCommandForm words = (task : Task) × Asks words task
 abbrev pub form_of : Task → Form
 form_of T.Check = F.Book
 form_of T.Run = F.Clerks
+form_of T.Replay = F.Journal

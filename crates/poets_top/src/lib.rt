@@ -1,9 +1,12 @@
 //! The program's one call: it reads a session, makes its calls, and writes its history.
 #![tactic(auto)]
 
+mod checking;
+pub mod laws;
 mod outcome;
 mod program;
-mod refusals;
+mod replaying;
+mod running;
 mod words;
 mod work;
 mod writing;

@@ -8,7 +8,7 @@ use std::alloc::Global;
 /// The text was written whole.
 pub const DONE: u8 = 0;
 
-/// The text is no session, or one that the engine does not take; the line that says so was written.
+/// The text is no session of the form; the line of its first fault was written.
 pub const NO_SESSION: u8 = 1;
 
 /// The words are no command form.
@@ -26,9 +26,9 @@ pub const WRITE_FAULT: u8 = 5;
 /// The text is longer than a session may be.
 pub const TOO_LONG: u8 = 6;
 
-/// The status that the program ends with, and a history. The history of a session of clerks is that of the whole
-/// session where the status is `DONE`, and where it is `WRITE_FAULT` after the calls; it is that or none where the
-/// status is `NO_MEMORY`. Else, and for a book, there is none.
+/// The status that the program ends with, and a history. The history of a session of clerks or of a journal is that of
+/// the whole session where the status is `DONE`, and where it is `WRITE_FAULT` after the calls; it is that or none where
+/// the status is `NO_MEMORY`. Else, and for a book, there is none.
 #[derive(Drop)]
 pub struct Outcome {
     pub status: u8,

@@ -1,16 +1,21 @@
 //! What is written: the history's lines, each by one call where the sink takes whole pieces, and the lines of refusals.
-ghost use Rattle.std.specs.Prelude.{◌≡◌, ◌≤◌, OnOk, OnErr, IsErrOf};
+ghost use Rattle.std.specs.Prelude.{◌≡◌, ◌≤◌, ◌⊎◌, [], OnOk, OnErr, IsErrOf};
 ghost use Rattle.std.specs.Io.KnownBytes.{Appends};
 ghost use Rattle.poets_io.specs.Causes.{Rose};
 ghost use Rattle.poets_io.specs.Streams.{AppendsPart};
 ghost use Rattle.poets_call.specs.Calls.{history_of};
 ghost use Rattle.poets_print.specs.Lines.{history_text};
+ghost use Rattle.poets_session.specs.Sessions.{Text};
+ghost use Rattle.poets_top.specs.Runs.{IsAnswerTo};
+ghost use Rattle.poets_top.specs.Writing.{HasFailed, IsWritten, stream};
+ghost use Rattle.poets_top.specs.declared.words.Task.{Task};
 
+use crate::outcome::{DONE, NO_MEMORY, Outcome, WRITE_FAULT, without_history};
 use poets_call::Entry;
 use poets_io::{Failed, Sink, write_all};
 use poets_lex::Names;
 use poets_print::line_text;
-use poets_value::Memory;
+use poets_value::{List, Memory};
 use std::alloc::Global;
 
 /// Why a text was not written whole.
@@ -52,6 +57,7 @@ pub(crate) fn write_history<K: Sink>(
     ensures ok { OnOk result (Appends (K.held sink.old) (K.held sink.new) (history_text names.now (history_of entries.now))) }
     ensures stopped { OnErr result (AppendsPart (K.held sink.old) (K.held sink.new) (history_text names.now (history_of entries.now))) }
     ensures later { K.faults sink.old ≤ K.faults sink.new }
+    ensures kept { ¬ (IsErrOf result WriteFault.Failed) → K.faults sink.new ≡ K.faults sink.old }
     ensures failed { IsErrOf result WriteFault.Failed → Rose (K.faults sink.old) (K.faults sink.new) }
 {
     for (place, entry) in entries.iter().enumerate() {
@@ -59,4 +65,43 @@ pub(crate) fn write_history<K: Sink>(
         write_all(sink, line.as_bytes())?;
     }
     Ok(())
+}
+
+/// Writes the history, and hands it out.
+pub(crate) fn write<K: Sink>(
+    alloc: Global,
+    sink: &mut K,
+    names: &Names,
+    history: List<Entry>,
+) -> Outcome
+    ensures { (text : Text) (task : Task) → IsAnswerTo text task 0 (history_of history.items) (history_text names.now (history_of history.items)) →
+        IsWritten (IsAnswerTo text task) (stream (K.held sink.old) (K.faults sink.old)) (stream (K.held sink.new) (K.faults sink.new)) result.status (history_of result.history.items) }
+{
+    match write_history(alloc, sink, names, history.as_slice()) {
+        Ok(()) => Outcome {
+            status: DONE,
+            history,
+        },
+        Err(WriteFault::Failed) => Outcome {
+            status: WRITE_FAULT,
+            history,
+        },
+        Err(WriteFault::Memory) => Outcome {
+            status: NO_MEMORY,
+            history,
+        },
+    }
+}
+
+/// Writes a line that is none of a history.
+pub(crate) fn write_line<K: Sink>(alloc: Global, sink: &mut K, status: u8, line: &str) -> Outcome
+    ensures history { result.history.items ≡ [] }
+    ensures line { ((result.status ≡ status) × Appends (K.held sink.old) (K.held sink.new) line.now × (K.faults sink.new ≡ K.faults sink.old))
+        ⊎ ((result.status ≡ 5) × AppendsPart (K.held sink.old) (K.held sink.new) line.now
+        × HasFailed (stream (K.held sink.old) (K.faults sink.old)) (stream (K.held sink.new) (K.faults sink.new))) }
+{
+    match write_all(sink, line.as_bytes()) {
+        Ok(()) => without_history(alloc, status),
+        Err(_) => without_history(alloc, WRITE_FAULT),
+    }
 }

@@ -4,7 +4,6 @@ pub mod CheckedBooks
 pub mod Checks
 pub mod Declaring
 pub mod Indices
-pub mod Reports
 pub mod Scopes
 pub mod Tables
 pub mod Twice

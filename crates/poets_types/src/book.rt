@@ -23,9 +23,9 @@ use crate::{TypeCause, TypeFault};
 use poets_call::Statement;
 use poets_expr::Decls;
 use poets_report::Report;
-use poets_syntax::build::{copy_params, push};
+use poets_syntax::build::copy_params;
 use poets_syntax::{Book, Template};
-use poets_value::{List, Memory, Name, Ty};
+use poets_value::{List, Memory, Name, Ty, push};
 use std::alloc::Global;
 use std::collections::BTreeMap;
 

@@ -1,7 +1,6 @@
 //! Types of commands, and of contracts by themselves.
-ghost use Rattle.std.specs.Prelude.{◌≡◌, [], IfOk, IfErr, map, find};
-ghost use Rattle.std.specs.Option.{option_copied};
-ghost use Rattle.poets_expr.specs.Env.{declared_of, same_name};
+ghost use Rattle.std.specs.Prelude.{◌≡◌, [], IfOk, IfErr, map};
+ghost use Rattle.poets_expr.specs.Env.{declared_of};
 ghost use Rattle.poets_expr.specs.Expression.{expression_of};
 ghost use Rattle.poets_syntax.specs.Book.{definitions_of};
 ghost use Rattle.poets_syntax.specs.Contract.{contract_of};
@@ -20,7 +19,7 @@ use crate::contract::{check_arguments, check_contract};
 use crate::expression::{must_be, name_type};
 use crate::index::Index;
 use crate::scope::Scope;
-use poets_call::Command;
+use poets_call::{Command, report_of};
 use poets_expr::{Decls, Expr};
 use poets_report::Report;
 use poets_syntax::{Book, Term};
@@ -44,15 +43,7 @@ fn check_event(decls: &Decls, event: &Event) -> Result<(), TypeCause>
     check_declared(decls, Ty::Kind, event.what.kind)
 }
 
-// The first report of that name.
-fn report_of(reports: &[Report], name: Name) -> Option<&Report>
-    ensures { option_copied result ≡ find (λ r. same_name r.name name) reports.now }
-{
-    reports.iter().find(|report| report.name == name)
-}
-
 // The arguments are those that a report of that name takes.
-#[tactic(auto, using(crate::proofs::Reports::report_in_find))]
 fn check_report_arguments(
     decls: &Decls,
     reports: &[Report],

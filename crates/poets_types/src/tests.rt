@@ -3,9 +3,9 @@ use crate::{Checked, TypeCause, TypeFault, check_book, check_call, check_term};
 use poets_call::{Command, Statement};
 use poets_expr::Expr;
 use poets_report::Report;
-use poets_syntax::build::{push, transmit};
+use poets_syntax::build::transmit;
 use poets_syntax::{Binders, Param, Template, Term};
-use poets_value::{Day, Event, List, Memory, Name, Resource, Ty};
+use poets_value::{Day, Event, List, Memory, Name, Resource, Ty, push};
 use std::alloc::Global;
 use std::test::Fail;
 

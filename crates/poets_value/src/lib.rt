@@ -13,5 +13,5 @@ mod value;
 pub use day::Day;
 pub use event::Event;
 pub use fault::{DayFault, Memory};
-pub use list::List;
+pub use list::{List, push};
 pub use value::{Name, Resource, Ty, Value};

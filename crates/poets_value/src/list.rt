@@ -140,3 +140,14 @@ impl<T: Drop> List<T> {
         self.vec[place] = item;
     }
 }
+
+/// Adds the item at the end. After want of memory the list is as before, and the item is lost.
+pub fn push<T: Drop>(list: &mut List<T>, item: T) -> Result<(), Memory>
+    ensures items { OnOk result (list.new.items ≡ list.old.items ++ item ∷ []) }
+    ensures memory { OnErr result (list.new ≡ list.old) }
+{
+    match list.push(item) {
+        Ok(()) => Ok(()),
+        Err(_) => Err(Memory),
+    }
+}

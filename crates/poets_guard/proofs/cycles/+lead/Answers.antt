@@ -39,7 +39,7 @@ returns-then-eq-clause-led t c = λ _. elim c.then-eq.branch [
 ]
   where
     longer : c.loop-next.path.items ≡ c.args.path.now.items ++ c.args.from ∷ []
-    longer = c.loop-next.invariant.path ∙ c.in_ok-push.ensures
+    longer = c.loop-next.invariant.path ∙ c.in_ok-push.ensures.items
 
     next : Name
     next = slice_index_or c.as_slice-next-items.result.now c.loop-next.next-index (record { id = 0 })

@@ -15,7 +15,7 @@ loop-template-preserved c = record {
       (record { nullable = c.contains.result; hopeful = c.contains-in-loop-template.result; wide = c.in-Some.wide })
       c.loop-template-test.true c.template-item.is c.loop-template.invariant.marks
       (record { nullable = c.contains.ensures; hopeful = c.contains-in-loop-template.ensures; wide = rw c.in-Some.is at c.in_ok-wide.ensures.width })
-      c.in_ok-push.ensures;
+      c.in_ok-push.ensures.items;
 }
   where
     found : is_some c.in_ok-wide.field-0 ≡ true

@@ -5,5 +5,5 @@ use Rattle.poets_parse.proofs.list.names.Goals as goal
 
 pub loop-names-preserved : goal.loop-names-preserved
 loop-names-preserved c =
-    listing_next name c.in_ok-name.name c.in_ok-name.behind.now c.in-Some.next.now c.loop-names.invariant c.in_ok-name.ensures.gives c.in_ok-name.ensures.shorter c.in_ok-push.ensures
+    listing_next name c.in_ok-name.name c.in_ok-name.behind.now c.in-Some.next.now c.loop-names.invariant c.in_ok-name.ensures.gives c.in_ok-name.ensures.shorter c.in_ok-push.ensures.items
     (sym c.in-Some.ensures.found) c.in-Some.ensures.shorter

@@ -5,6 +5,4 @@ pub returns-clause-statements : goal.returns-clause-statements
 returns-clause-statements c = λ text names statements read. (read_table text names statements read, read_written text names statements read)
 
 pub returns-clause-commands : goal.returns-clause-commands
-returns-clause-commands c = λ text names statements read.
-    let h = read_written text names statements read in
-    (scripts_written names statements h, journal_written names statements h)
+returns-clause-commands c = λ names statements h. (scripts_written names statements h, journal_written names statements h)

@@ -22,7 +22,7 @@ loop-rest-preserved c =
     let here = piece (toks c.first_piece-ended.result.0.now) c.first_piece-ended.result.1 in
     let stands = subst (λ r. Standing p r (sentences_of found)) c.first_piece-ended.ensures.piece c.loop-rest.invariant.0 in
     let more = standing_more p rest here (sentences_of found) (sentence_of s) stands c.in_ok-read_statement.ensures.said in
-    let items = c.in_ok-push.ensures in (
+    let items = c.in_ok-push.ensures.items in (
       subst (Standing p rest) (sym (ap sentences_of items ∙ map-append sentence_of found (s ∷ []))) more,
       (c.first_piece-ended.ensures.natural c.loop-rest.invariant.1).1,
       omega (arith, ap length items ∙ length-append found (s ∷ []), c.first_piece-ended.ensures.shorter, c.loop-rest.invariant.2),

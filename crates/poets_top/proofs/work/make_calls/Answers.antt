@@ -1,34 +1,37 @@
-use Rattle.std.proofs.Common.{◌+◌, ◌++◌, refl, sym, ◌∙◌, ap, subst}
-use Rattle.std.specs.Arc.{arc_value}
-use Rattle.std.proofs.Common.{map}
-use Rattle.poets_call.specs.Calls.{calls_of, history_of, request_of}
-use Rattle.poets_top.specs.Scripts.{AreNoted, under_clerk}
-use Rattle.poets_top.proofs.Noting.{AreNoted-none, Legal-same}
-use Rattle.poets_top.proofs.Making.{calls_of_scripts-more}
+use Rattle.std.proofs.Common.{[], refl, sym, ◌∙◌, ap, subst}
+use Rattle.poets_call.specs.Calls.{calls_of, history_of}
+use Rattle.poets_call.specs.Rules.{book_of, reports_of}
+use Rattle.poets_call.specs.Histories.{IsLegal}
+use Rattle.poets_top.specs.Scripts.{AreNoted}
+use Rattle.poets_top.proofs.Making.{calls_more}
+use Rattle.poets_top.proofs.Noting.{AreNoted-none}
+use Rattle.poets_top.proofs.Owning.{right_made}
+use Rattle.poets_top.proofs.Taking.{taken_at}
 use Rattle.poets_top.proofs.work.make_calls.Goals as goal
 
-pub loop-place-init : goal.loop-place-init
-loop-place-init c = record {
-  noted = subst (λ es. AreNoted c.new-engine.result (history_of es)) (sym c.new-entries.ensures) (AreNoted-none c.new-engine.result c.new-engine.ensures.right c.new-engine.ensures.calls);
+pub loop-numbered-init : goal.loop-numbered-init
+loop-numbered-init g c = record {
+  noted = subst (λ es. AreNoted c.new-engine.result (history_of es)) (sym c.new-entries.ensures)
+      (AreNoted-none c.new-engine.result (subst (λ r. IsLegal (book_of r) (reports_of r) []) (sym c.new-engine.ensures.rules) c.new-engine.ensures.legal) c.new-engine.ensures.calls);
   calls = ap (λ es. calls_of (history_of es)) c.new-entries.ensures;
-  studied = refl;
-  reports = refl;
+  rules = refl;
 }
 
-pub loop-place-preserved : goal.loop-place-preserved
-loop-place-preserved c = record {
-  noted = c.in_ok-make_script.ensures.noted;
-  calls =
-      c.in_ok-make_script.ensures.calls
-      ∙ ap (λ s. calls_of (history_of c.loop-place.entries.items) ++ under_clerk (c.loop-place.place + 1) (map (λ a. request_of (arc_value a)) s)) c.as_slice.ensures
-      ∙ ap (λ calls. calls ++ under_clerk (c.loop-place.place + 1) (map (λ a. request_of (arc_value a)) c.index-scripts-place.result.items)) c.loop-place.invariant.calls
-      ∙ sym (calls_of_scripts-more c.args.scripts.now c.loop-place.place (c.loop-place.place + 1) c.index-scripts-place.result c.loop-place-test.true c.index-scripts-place.is refl);
-  studied = c.make_script.ensures.frame.0 ∙ c.loop-place.invariant.studied;
-  reports = c.make_script.ensures.frame.1 ∙ c.loop-place.invariant.reports;
+pub call-requires-clause-taken : goal.call-requires-clause-taken
+call-requires-clause-taken g c = λ _ _.
+    taken_at c.args.rules c.loop-numbered.engine.rules c.args.calls.now c.loop-numbered.numbered-index c.numbered-item.result c.requires.taken
+    c.loop-numbered-test.true c.numbered-item.is (c.loop-numbered.invariant.rules ∙ c.new-engine.ensures.rules)
+
+pub loop-numbered-preserved : goal.loop-numbered-preserved
+loop-numbered-preserved g c = record {
+  noted = c.in_ok-call.ensures.noted;
+  calls = c.in_ok-call.ensures.calls
+      ∙ calls_more c.args.calls.now c.loop-numbered.numbered-index c.numbered-item.result (calls_of (history_of c.loop-numbered.entries.items))
+      c.loop-numbered-test.true c.numbered-item.is c.loop-numbered.invariant.calls;
+  rules = c.call.ensures.frame ∙ c.loop-numbered.invariant.rules;
 }
 
-pub returns-clause-legal : goal.returns-clause-legal
-returns-clause-legal c =
-    let l = c.loop-place in
-    Legal-same l.engine c.args.studied c.args.reports.items (history_of l.entries.items) (l.invariant.studied ∙ c.new-engine.ensures.studied) (l.invariant.reports ∙ c.new-engine.ensures.reports)
-    l.invariant.noted.right l.invariant.noted.legal
+pub returns-clause-right : goal.returns-clause-right
+returns-clause-right g c =
+    right_made c.args.rules c.loop-numbered.engine.rules (history_of c.loop-numbered.entries.items) c.args.calls.now c.loop-numbered.numbered-index
+    (c.loop-numbered.invariant.rules ∙ c.new-engine.ensures.rules) c.book-book.ensures.studied c.loop-numbered.invariant.noted.legal c.requires.taken c.loop-numbered.invariant.calls

@@ -1,4 +1,4 @@
-use Rattle.std.proofs.Common.{◌∙◌, arith}
+use Rattle.std.proofs.Common.{◌∙◌}
 use Rattle.poets_top.proofs.Lines.{Appends-line, AppendsPart-line, AppendsPart-lines, OnErr-anyway}
 use Rattle.poets_top.proofs.writing.write_history.Goals as goal
 
@@ -15,7 +15,7 @@ returns-in_err-write_all-clause-stopped g c =
 
 pub loop-place-preserved : goal.loop-place-preserved
 loop-place-preserved g c = record {
-  later = omega (arith, c.loop-place.invariant.later, c.write_all.ensures.cause.later);
+  kept = c.in_ok-write_all.ensures.cause.kept ∙ c.loop-place.invariant.kept;
   bytes =
       Appends-line c.args.names.now c.loop-place.place c.args.entries.now c.index-entries-place.result _ _ _ c.as_bytes.result.now c.loop-place-test.true c.index-entries-place.is
       (c.as_bytes.ensures.value ∙ c.in_ok-line.ensures) c.loop-place.invariant.bytes c.in_ok-write_all.ensures.ok;

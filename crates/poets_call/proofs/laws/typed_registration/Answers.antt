@@ -1,0 +1,5 @@
+use Rattle.poets_call.proofs.TypedRequests.{typed_registration}
+use Rattle.poets_call.proofs.laws.typed_registration.Goals as goal
+
+pub returns : goal.returns
+returns c = typed_registration

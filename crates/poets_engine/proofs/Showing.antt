@@ -1,0 +1,33 @@
+-- A look is made.
+use Rattle.std.proofs.Common.{◌≡◌, ℕ, ◌+◌, ◌-◌, Bool, List, [], Some, None, length, slice_get, refl, ◌∙◌, ap, ap₂}
+use Rattle.std.specs.Prelude.{IsTrue, ◌↔◌}
+use Rattle.poets_value.specs.declared.value.Name.{Name}
+use Rattle.poets_syntax.specs.Contract.{Contract, contract_of}
+use Rattle.poets_syntax.specs.declared.term.Term.{Term}
+use Rattle.poets_syntax.specs.Perf.{Perf}
+use Rattle.poets_syntax.specs.Residual.{residual_after}
+use Rattle.poets_syntax.specs.Studied.{marks_of}
+use Rattle.poets_table.specs.TableView.{RowView, number_named}
+use Rattle.poets_call.specs.declared.rules.Rules.{Rules}
+use Rattle.poets_call.specs.Rules.{book_of}
+use Rattle.poets_call.specs.Calls.{Request, Response}
+use Rattle.poets_call.specs.Ledger.{trace}
+use Rattle.poets_engine.specs.Store.{StoreView}
+use Rattle.poets_engine.specs.Makes.{Makes}
+use Rattle.poets_engine.proofs.Standing.{study, leaves, stood, absent, told_end}
+
+module _ (rules : Rules) (x : Name) (t : StoreView) where
+  pub show_absent : number_named x t.rows ≡ None → Makes rules (Request.Show x) t t (Response.NoContract x)
+  show_absent none =
+      leaves rules (Request.Show x) (Response.NoContract x) t (λ l. refl) (λ l h right. rw (absent rules l x t h none) refl)
+
+  pub show_found : (n : ℕ) (r : RowView Term) (may_end : Bool) (residual : Contract) (count : ℕ) → number_named x t.rows ≡ Some n → slice_get t.rows (n - 1) ≡ Some r →
+      IsTrue may_end ↔ Perf (book_of rules) [] (contract_of r.current) [] → residual ≡ contract_of r.current → count ≡ length r.events →
+      Makes rules (Request.Show x) t t (Response.Shown residual count may_end r.ended)
+  show_found n r may_end residual count found row tells same counted =
+      leaves rules (Request.Show x) (Response.Shown residual count may_end r.ended) t (λ l. refl) (λ l h right.
+      let c = stood rules l x t h n r found row in
+      let owed = same ∙ c.is.current ∙ ap (residual_after (book_of rules) (marks_of rules.studied) (contract_of r.original)) c.is.events in
+      let reply = ap₂ (λ d n. Response.Shown d n may_end r.ended) owed (counted ∙ ap length c.is.events)
+      ∙ ap (Response.Shown (residual_after (book_of rules) (marks_of rules.studied) (contract_of r.original) (trace l (1 + c.place))) (length (trace l (1 + c.place))) may_end) c.is.ended in
+      rw c.named (may_end, told_end rules.studied (study rules l t h) l (1 + c.place) r c.is may_end tells, reply))

@@ -1,0 +1,109 @@
+-- What is shown in legal histories of typed commands.
+use Rattle.std.proofs.Common.{◌≡◌, ℕ, suc, Bool, true, false, nat_eq, List, [], ◌∷◌, ◌++◌, Option, Some, None, map, filter, fold, refl, sym, ap, subst, ◌⊎◌, inl, inr}
+use Rattle.std.specs.Prelude.{◌↔◌, if◌then◌else◌}
+use Rattle.std.specs.List.{All}
+use Rattle.std.proofs.lemmas.List.Elements.{All-nil, All-cons, All-head, All-tail, All-append, All-map, All-filter}
+use Rattle.poets_value.specs.declared.value.Name.{Name}
+use Rattle.poets_value.specs.declared.event.Event.{Event}
+use Rattle.poets_expr.specs.Env.{same_name}
+use Rattle.poets_syntax.specs.Applied.{CountsFit}
+use Rattle.poets_syntax.specs.Book.{Definitions}
+use Rattle.poets_syntax.specs.Contract.{Contract}
+use Rattle.poets_syntax.specs.declared.studied.Mark.{Mark}
+use Rattle.poets_syntax.specs.Perf.{Perf}
+use Rattle.poets_syntax.specs.Residual.{residual_after}
+use Rattle.poets_syntax.specs.Studied.{IsStudiedBook, marks_in}
+use Rattle.poets_syntax.specs.WellFormed.{IsWellFormed, IsDeclaredEvent}
+use Rattle.poets_syntax.proofs.StudiedMarks.{AreRight-studied}
+use Rattle.poets_residue.proofs.Studies.{IsStudied-book}
+use Rattle.poets_residue.proofs.Traces.{trace_performed}
+use Rattle.poets_report.specs.Query.{Query}
+use Rattle.poets_call.specs.Calls.{Request, Response, HistoryEntry}
+use Rattle.poets_call.specs.Frame.{Frame}
+use Rattle.poets_call.specs.Histories.{IsLegal, ShowsCompletions, shown}
+use Rattle.poets_call.specs.Ledger.{Ledger, ledger_of, empty_ledger, with_entry, contract_from, contract_named, trace}
+use Rattle.poets_call.specs.Replies.{Legal, Replies}
+use Rattle.poets_call.specs.TypedSentences.{IsTypedRequest}
+use Rattle.poets_call.proofs.Histories.{legal_reply}
+use Rattle.poets_call.proofs.OneFrames.{one_frame}
+use Rattle.poets_call.proofs.TypedRequests.{typed_registration, typed_event}
+use Rattle.poets_engine.specs.Laws.{LegalHistoriesShow}
+
+-- a chosen value is the first or the later one
+first_or_later : {A : Type 0} (b : Bool) (first : A) (later : Option A) (x : A) → (if b then Some first else later) ≡ Some x → (first ≡ x) ⊎ (later ≡ Some x)
+first_or_later true first later x e = inl cc
+first_or_later false first later x e = inr e
+
+module _ (book : Definitions) (reports : List Query) where
+  -- the contract is well-formed and has the right numbers of arguments
+  abbrev Fits : Contract → Type 0
+  Fits c = IsWellFormed book.declared c × CountsFit book c
+
+  -- each contract of the ledger fits, and each event is declared
+  record IsSound (l : Ledger) : Type 0 where
+    pub contracts : All (λ p. Fits p.1) l.contracts
+    pub log : All (λ p. IsDeclaredEvent book.declared p.1) l.log
+
+  sound_more : (l : Ledger) (request : Request) (response : Response) → IsSound l → IsTypedRequest book reports request → IsSound (with_entry l request response)
+  sound_more l (Request.Register x c) (Response.Registered n) h t = record {
+    contracts = All-append (λ p. Fits p.1) l.contracts ((x, c) ∷ []) h.contracts (All-cons (λ p. Fits p.1) (x, c) [] (typed_registration book reports x c t) (All-nil (λ p. Fits p.1)));
+    log = h.log;
+  }
+  sound_more l (Request.Transmit x e) (Response.Recorded n b) h t = record {
+    contracts = h.contracts;
+    log = All-append (λ p. IsDeclaredEvent book.declared p.1) l.log _ h.log
+        (All-cons (λ p. IsDeclaredEvent book.declared p.1) _ [] (typed_event book reports x e t) (All-nil (λ p. IsDeclaredEvent book.declared p.1)));
+  }
+  sound_more l (Request.End x) Response.EndedNow h t = record { contracts = h.contracts; log = h.log }
+  sound_more l (Request.Watch x args) (Response.Watching n) h t = record { contracts = h.contracts; log = h.log }
+  sound_more l request response h t = h
+
+  abbrev AreTyped : List HistoryEntry → Type 0
+  AreTyped h = All (λ e. IsTypedRequest book reports e.request) h
+
+  sound_from : (h : List HistoryEntry) (l : Ledger) → IsSound l → AreTyped h → IsSound (fold (λ m e. with_entry m e.request e.response) l h)
+  sound_from [] l s t = s
+  sound_from (e ∷ h) l s t =
+      sound_from h (with_entry l e.request e.response)
+      (sound_more l e.request e.response s (All-head (λ x. IsTypedRequest book reports x.request) e h t)) (All-tail (λ x. IsTypedRequest book reports x.request) e h t)
+
+  -- the ledger of typed commands is sound
+  sound : (h : List HistoryEntry) → AreTyped h → IsSound (ledger_of h)
+  sound h t = sound_from h empty_ledger (record { contracts = All-nil (λ p. Fits p.1); log = All-nil (λ p. IsDeclaredEvent book.declared p.1) }) t
+
+  front : (before after : List HistoryEntry) → AreTyped (before ++ after) → AreTyped before
+  front [] after t = All-nil (λ e. IsTypedRequest book reports e.request)
+  front (e ∷ before) after t = All-cons (λ x. IsTypedRequest book reports x.request) e before (All-head (λ x. IsTypedRequest book reports x.request) e (before ++ after) t)
+      (front before after (All-tail (λ x. IsTypedRequest book reports x.request) e (before ++ after) t))
+
+  named_fits : (i : ℕ) (x : Name) (contracts : List (Name × Contract)) (n : ℕ) (o : Contract) → All (λ p. Fits p.1) contracts →
+      contract_from i x contracts ≡ Some (n, o) → Fits o
+  named_fits i x [] n o h e = absurd cc
+  named_fits i x (c ∷ contracts) n o h e = elim (first_or_later (same_name c.0 x) (i, c.1) (contract_from (suc i) x contracts) (n, o) e) [
+    | inl here ↦ subst Fits (ap (λ p. p.1) here) (All-head (λ p. Fits p.1) c contracts h)
+    | inr later ↦ named_fits (suc i) x contracts n o (All-tail (λ p. Fits p.1) c contracts h) later
+  ]
+
+  trace_declared : (l : Ledger) (n : ℕ) → IsSound l → All (IsDeclaredEvent book.declared) (trace l n)
+  trace_declared l n s =
+      All-map (IsDeclaredEvent book.declared) (λ p. p.1) (filter (λ p. nat_eq p.0 n) l.log)
+      (All-filter (λ p. nat_eq p.0 n) (λ p. IsDeclaredEvent book.declared p.1) l.log s.log)
+
+  -- a reply that shows a residual shows that of the contract's original by its trace
+  shown_is : (f : Frame) (l : Ledger) (x : Name) (n : ℕ) (o : Contract) (residual : Contract) (count : ℕ) (may_end ended : Bool) →
+      contract_named l x ≡ Some (n, o) → Replies f l (Request.Show x) (Response.Shown residual count may_end ended) → residual ≡ residual_after f.book f.marks o (trace l n)
+  shown_is f l x n o residual count may_end ended e r = let s = rw e at r in let t = s.2 in cc
+
+pub legal_histories_show : LegalHistoriesShow
+legal_histories_show book marks reports h studied legal typed before after clerk x residual count may_end ended number original split named s =
+    let study = IsStudied-book book marks studied in
+    let frame : Frame = record { book = book; reports = reports; marks = marks_in book.templates marks; right = AreRight-studied book marks studied } in
+    let all : Legal frame h = one_frame legal.frame frame h legal.book legal.reports legal.holds in
+    let entry = shown clerk x residual count may_end ended in
+    let reply = legal_reply frame before entry after (subst (Legal frame) split all) in
+    let is = shown_is book reports frame (ledger_of before) x number original residual count may_end ended named reply in
+    let ok = sound book reports before (front book reports before (entry ∷ after) (subst (AreTyped book reports) split typed)) in
+    let fits = named_fits book reports 1 x (ledger_of before).contracts number original ok.contracts named in
+    let law = trace_performed book (marks_in book.templates marks) study original fits.0 fits.1 (trace (ledger_of before) number)
+    (trace_declared book reports (ledger_of before) number ok) s in
+    subst (λ r. Perf book [] r s ↔ Perf book [] original (trace (ledger_of before) number ++ s)) (sym is) law

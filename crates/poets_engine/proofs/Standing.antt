@@ -1,0 +1,120 @@
+-- The contract with a name, in the rows and in the ledger; and commands that leave or change what is kept.
+use Rattle.std.proofs.Common.{◌≡◌, ℕ, ◌+◌, Bool, true, false, ◌-◌, List, [], Option, Some, None, slice_get, option_map, refl, sym, ◌∙◌, ap, subst, arith}
+use Rattle.std.specs.Prelude.{IsTrue, ◌↔◌}
+use Rattle.std.specs.List.{position}
+use Rattle.poets_value.specs.declared.value.Name.{Name}
+use Rattle.poets_syntax.specs.Contract.{Contract, contract_of}
+use Rattle.poets_syntax.specs.declared.term.Term.{Term}
+use Rattle.poets_syntax.specs.Marks.{AreRight}
+use Rattle.poets_syntax.specs.Perf.{Perf}
+use Rattle.poets_syntax.specs.Studied.{StudiedBook, marks_of}
+use Rattle.poets_syntax.proofs.StudiedMarks.{AreRight-studied}
+use Rattle.poets_residue.specs.Unfolding.{IsStudied}
+use Rattle.poets_residue.proofs.Studies.{IsStudied-book}
+use Rattle.poets_table.specs.TableView.{RowView, number_named}
+use Rattle.poets_call.specs.declared.rules.Rules.{Rules}
+use Rattle.poets_call.specs.Rules.{book_of, reports_of}
+use Rattle.poets_call.specs.Calls.{Request, Response}
+use Rattle.poets_call.specs.Ledger.{Ledger, with_entry, contract_named, contract_from, trace}
+use Rattle.poets_call.specs.Frame.{Frame}
+use Rattle.poets_call.specs.Histories.{RepliesIn}
+use Rattle.poets_call.specs.Replies.{Replies}
+use Rattle.poets_engine.specs.Store.{StoreView}
+use Rattle.poets_engine.specs.Rows.{IsLedger, RowIs}
+use Rattle.poets_engine.specs.Makes.{Makes, is_accepted}
+use Rattle.poets_engine.proofs.Named.{has_name, contract_from-none, contract_from-found, contract_from-some, row_is}
+use Rattle.poets_engine.proofs.Owed.{residual_performed}
+use Rattle.poets_engine.proofs.Rows.{book_in}
+
+abbrev pub marks_by : Rules → Type 0
+marks_by rules = AreRight (book_of rules) (marks_of rules.studied)
+
+-- the frame of rules
+abbrev pub frame_by : (rules : Rules) → marks_by rules → Frame
+frame_by rules right = record { book = book_of rules; reports = reports_of rules; marks = marks_of rules.studied; right = right }
+
+-- the book of rules was studied
+pub study : (rules : Rules) (l : Ledger) (store : StoreView) → IsLedger rules l store → IsStudied (book_of rules) (marks_of rules.studied)
+study rules l store h = IsStudied-book (book_of rules) rules.studied.marks h.studied
+
+module _ (rules : Rules) (request : Request) (response : Response) where
+  -- the reply is right after the ledger of what is kept
+  abbrev pub RepliesAfter : StoreView → Type 0
+  RepliesAfter store = (l : Ledger) → IsLedger rules l store → (right : marks_by rules) → Replies (frame_by rules right) l request response
+
+  in_frame : (store : StoreView) → RepliesAfter store → (l : Ledger) → IsLedger rules l store → RepliesIn (book_of rules) (reports_of rules) l request response
+  in_frame store reply l h =
+      let right = AreRight-studied (book_of rules) rules.studied.marks h.studied in
+      record { frame = frame_by rules right; book = refl; reports = refl; holds = reply l h right }
+
+  -- a command that leaves what is kept and the ledger
+  pub leaves : (store : StoreView) → ((l : Ledger) → with_entry l request response ≡ l) → RepliesAfter store → Makes rules request store store response
+  leaves store same reply = record {
+    reply = in_frame store reply;
+    store = λ l h. subst (λ m. IsLedger rules m store) (sym (same l)) h;
+    refused = λ _. refl;
+  }
+
+  -- a command that changes it
+  pub changes : (old new : StoreView) → is_accepted response ≡ true → RepliesAfter old →
+      ((l : Ledger) → IsLedger rules l old → IsLedger rules (with_entry l request response) new) → Makes rules request old new response
+  changes old new accepted reply store = record { reply = in_frame old reply; store = store; refused = λ e. absurd cc }
+
+-- the contract with the name, and its row
+pub record Stood (s : StudiedBook) (l : Ledger) (x : Name) (rows : List (RowView Term)) (n : ℕ) (r : RowView Term) : Type 0 where
+  pub place : ℕ
+  pub number : n ≡ 1 + place
+  pub found : slice_get rows place ≡ Some r
+  pub named : contract_named l x ≡ Some (1 + place, contract_of r.original)
+  pub is : RowIs s l (1 + place) r
+
+module _ (rules : Rules) (l : Ledger) (x : Name) (store : StoreView) (h : IsLedger rules l store) where
+  abbrev rows : List (RowView Term)
+  rows = store.rows
+
+  at_place : (o : Option ℕ) (n : ℕ) (r : RowView Term) → position (has_name x) rows ≡ o → option_map (λ i. i + 1) o ≡ Some n → slice_get rows (n - 1) ≡ Some r →
+      Stood rules.studied l x rows n r
+  at_place None n r p e g = absurd cc
+  at_place (Some k) n r p e g =
+      let number : k + 1 ≡ n = cc in
+      let found : slice_get rows k ≡ Some r = subst (λ i. slice_get rows i ≡ Some r) (let z : n - 1 ≡ k = omega (arith, number) in z) g in
+      record {
+        place = k;
+        number = omega (arith, number);
+        found = found;
+        named = ap (contract_from 1 x) (sym h.contracts) ∙ contract_from-some x 1 k rows r p found;
+        is = row_is rules.studied l 1 k rows r h.rows found;
+      }
+
+  -- the row with the name is that of the contract with the name
+  pub stood : (n : ℕ) (r : RowView Term) → number_named x rows ≡ Some n → slice_get rows (n - 1) ≡ Some r → Stood rules.studied l x rows n r
+  stood n r e g = at_place (position (has_name x) rows) n r refl e g
+
+  no_place : (o : Option ℕ) → position (has_name x) rows ≡ o → option_map (λ i. i + 1) o ≡ None → contract_named l x ≡ None
+  no_place None p e = ap (contract_from 1 x) (sym h.contracts) ∙ contract_from-none x 1 rows p
+  no_place (Some k) p e = absurd cc
+
+  -- where no row has the name, no contract has it
+  pub absent : number_named x rows ≡ None → contract_named l x ≡ None
+  absent e = no_place (position (has_name x) rows) refl e
+
+  taken_place : (o : Option ℕ) (n : ℕ) → position (has_name x) rows ≡ o → option_map (λ i. i + 1) o ≡ Some n → (c : Contract) × (contract_named l x ≡ Some (n, c))
+  taken_place None n p e = absurd cc
+  taken_place (Some k) n p e =
+      let number : k + 1 ≡ n = cc in
+      let there = contract_from-found x 1 k rows p in
+      (there.0, ap (contract_from 1 x) (sym h.contracts) ∙ there.1 ∙ ap (λ m. Some (m, there.0)) (let z : 1 + k ≡ n = omega (arith, number) in z))
+
+  -- where a row has the name, a contract has its number
+  pub taken : (n : ℕ) → number_named x rows ≡ Some n → (c : Contract) × (contract_named l x ≡ Some (n, c))
+  taken n e = taken_place (position (has_name x) rows) n refl e
+
+-- whether what is still owed on a contract may end is whether its events perform it
+pub told_end : (s : StudiedBook) → IsStudied (book_in s) (marks_of s) → (l : Ledger) (n : ℕ) (r : RowView Term) → RowIs s l n r → (may_end : Bool) →
+    IsTrue may_end ↔ Perf (book_in s) [] (contract_of r.current) [] → IsTrue may_end ↔ Perf (book_in s) [] (contract_of r.original) (trace l n)
+told_end s study l n r row may_end t =
+    let law = residual_performed (book_in s) (marks_of s) study (contract_of r.original) r.events row.formed row.fit row.declared in
+    subst (λ events. IsTrue may_end ↔ Perf (book_in s) [] (contract_of r.original) events) row.events (
+      λ y. law.0 (subst (λ c. Perf (book_in s) [] c []) row.current (t.0 y)),
+      λ p. t.1 (subst (λ c. Perf (book_in s) [] c []) (sym row.current) (law.1 p)),
+    )

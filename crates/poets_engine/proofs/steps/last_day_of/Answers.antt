@@ -1,9 +1,0 @@
-use Rattle.std.proofs.Common.{Some, None}
-use Rattle.poets_engine.proofs.Days.{last_day_is}
-use Rattle.poets_engine.proofs.steps.last_day_of.Goals as goal
-
-pub returns-in-Some : goal.returns-in-Some
-returns-in-Some c = last_day_is c.args.events.now (Some c.in-Some.last.now) c.in-Some.ensures.value
-
-pub returns-in-None : goal.returns-in-None
-returns-in-None c = last_day_is c.args.events.now None c.in-None.ensures.value

@@ -1,0 +1,29 @@
+//! Ends of contracts.
+ghost use Rattle.poets_call.specs.Calls.{response_of, Request};
+ghost use Rattle.poets_engine.specs.Choices.{AreKept};
+ghost use Rattle.poets_engine.specs.Makes.{Makes};
+
+use crate::store::Store;
+use poets_call::{Reply, Rules};
+use poets_residue::may_end;
+use poets_value::Name;
+
+/// Ends the contract with a name, where it may end.
+#[tactic(auto, using(crate::proofs::Ending::end_absent))]
+pub(crate) fn end(rules: &Rules, store: &mut Store, name: Name) -> Reply
+    requires { AreKept rules.now.studied store.old.rows }
+    ensures { Makes rules.now (Request.End name) store.old store.new (response_of result) }
+{
+    let Some(number) = store.find(name) else {
+        return Reply::NoContract(name);
+    };
+    let row = store.row(number);
+    if row.ended {
+        return Reply::AlreadyEnded;
+    }
+    if !may_end(&rules.studied, &row.current) {
+        return Reply::NotPerformed;
+    }
+    store.finish(number);
+    Reply::EndedNow
+}

@@ -1,0 +1,55 @@
+//! Which contracts are kept.
+ghost use Rattle.std.specs.Prelude.{◌≡◌, nat_lt};
+ghost use Rattle.poets_syntax.specs.Contract.{contract_of};
+ghost use Rattle.poets_syntax.specs.Applied.{CountsFit};
+ghost use Rattle.poets_syntax.specs.Book.{definitions_of};
+ghost use Rattle.poets_call.specs.Calls.{response_of};
+ghost use Rattle.poets_call.specs.Replies.{widest};
+ghost use Rattle.poets_engine.specs.Choices.{KeptFits, choice_of, is_failure as is_failure_lem, judge as judge_lem, width_in};
+
+use poets_call::Reply;
+use poets_norm::wide;
+use poets_syntax::{Studied, Term};
+
+/// The greatest width of a contract that is kept.
+const WIDEST: u64 = 1000;
+
+/// A refusal, or a contract that is kept.
+#[derive(Drop)]
+pub(crate) enum Decision {
+    Refused(Reply),
+    Kept(Term),
+}
+
+// Whether the contract is `Failure`.
+fn is_failure(term: &Term) -> bool
+    ensures { result ≡ is_failure_lem (contract_of term.now) }
+{
+    match term {
+        Term::Failure => true,
+        _ => false,
+    }
+}
+
+// Whether the contract is wider than one that is kept.
+fn is_large(studied: &Studied, term: &Term) -> bool
+    requires { CountsFit (definitions_of studied.now.book) (contract_of term.now) }
+    ensures { result ≡ nat_lt widest (width_in studied.now (contract_of term.now)) }
+{
+    wide(studied, term) > WIDEST
+}
+
+/// Refuses a contract that no number of granted steps performs by the given reply, and one that is too large.
+pub(crate) fn judge(studied: &Studied, refusal: Reply, term: Term) -> Decision
+    requires { CountsFit (definitions_of studied.now.book) (contract_of term) }
+    ensures choice { choice_of result ≡ judge_lem studied.now (response_of refusal) (contract_of term) }
+    ensures fits { KeptFits (definitions_of studied.now.book) (choice_of result) }
+{
+    if is_failure(&term) {
+        return Decision::Refused(refusal);
+    }
+    if is_large(studied, &term) {
+        return Decision::Refused(Reply::TooLarge);
+    }
+    Decision::Kept(term)
+}

@@ -1,0 +1,31 @@
+//! Looks at contracts.
+ghost use Rattle.std.specs.Prelude.{IfOk};
+ghost use Rattle.poets_call.specs.Calls.{response_of, Request};
+ghost use Rattle.poets_engine.specs.Choices.{AreKept};
+ghost use Rattle.poets_engine.specs.Makes.{Makes};
+
+use crate::store::Store;
+use poets_call::{Reply, Rules};
+use poets_residue::may_end;
+use poets_syntax::copy;
+use poets_value::{Memory, Name};
+use std::alloc::Global;
+
+/// Shows the contract with a name: a copy of what is still owed, how many events are recorded on it, whether it may
+/// end, and whether it was ended.
+#[tactic(auto, using(crate::proofs::Showing::show_absent))]
+pub(crate) fn show(alloc: Global, rules: &Rules, store: &Store, name: Name) -> Result<Reply, Memory>
+    requires { AreKept rules.now.studied store.now.rows }
+    ensures { IfOk result (λ r. Makes rules.now (Request.Show name) store.now store.now (response_of r)) }
+{
+    let Some(number) = store.find(name) else {
+        return Ok(Reply::NoContract(name));
+    };
+    let row = store.row(number);
+    Ok(Reply::Shown {
+        residual: copy(alloc, &row.current)?,
+        count: row.events.len() as u64,
+        may_end: may_end(&rules.studied, &row.current),
+        ended: row.ended,
+    })
+}

@@ -1,0 +1,49 @@
+//! Registrations.
+ghost use Rattle.std.specs.Prelude.{◌≡◌, ◌+◌, ◌≤◌, IfOk, OnErr};
+ghost use Rattle.poets_syntax.specs.Contract.{contract_of};
+ghost use Rattle.poets_syntax.specs.Width.{size};
+ghost use Rattle.poets_call.specs.Calls.{response_of, Request};
+ghost use Rattle.poets_call.specs.Rules.{book_of, reports_of};
+ghost use Rattle.poets_call.specs.Taken.{IsTaken};
+ghost use Rattle.poets_engine.specs.Makes.{Makes};
+
+use crate::judging::{Decision, judge};
+use crate::store::Store;
+use poets_call::{Reply, Rules};
+use poets_expr::Asks;
+use poets_norm::normal;
+use poets_syntax::{Term, copy};
+use poets_value::{Memory, Name};
+use std::alloc::Global;
+
+/// Registers a contract under a name.
+#[tactic(auto, using(crate::proofs::Registering::register_taken))]
+pub(crate) fn register<T>(
+    alloc: Global,
+    rules: &Rules,
+    store: &mut Store,
+    name: Name,
+    term: &Term,
+    asks: &mut Asks<T>,
+) -> Result<Reply, Memory>
+    requires { IsTaken (book_of rules.now) (reports_of rules.now) (Request.Register name (contract_of term.now)) }
+    ensures ok { IfOk result (λ r. Makes rules.now (Request.Register name (contract_of term.now)) store.old store.new (response_of r)) }
+    ensures err { OnErr result (store.new ≡ store.old) }
+    ensures asks { asks.new ≤ asks.old + size (contract_of term.now) }
+    ensures rises { asks.old ≤ asks.new }
+{
+    // The counter stands where it stood.
+    let _count = asks.count();
+    if let Some(number) = store.find(name) {
+        return Ok(Reply::NameTaken(number));
+    }
+    let current = normal(alloc, &rules.studied, term, asks)?;
+    match judge(&rules.studied, Reply::Hopeless, current) {
+        Decision::Refused(reply) => Ok(reply),
+        Decision::Kept(current) => {
+            let original = copy(alloc, term)?;
+            let number = store.add(name, original, current)?;
+            Ok(Reply::Registered(number))
+        }
+    }
+}

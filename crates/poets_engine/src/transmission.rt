@@ -1,0 +1,103 @@
+//! Transmissions.
+ghost use Rattle.std.specs.Prelude.{◌≡◌, ◌+◌, ◌*◌, ◌≤◌, length, IfOk, OnErr};
+ghost use Rattle.poets_syntax.specs.Contract.{contract_of};
+ghost use Rattle.poets_syntax.specs.Applied.{CountsFit};
+ghost use Rattle.poets_syntax.specs.Book.{definitions_of};
+ghost use Rattle.poets_table.specs.TableView.{row_view};
+ghost use Rattle.poets_call.specs.Calls.{response_of, Request};
+ghost use Rattle.poets_call.specs.Ledger.{last_day, late_day};
+ghost use Rattle.poets_call.specs.Rules.{book_of, reports_of};
+ghost use Rattle.poets_call.specs.Taken.{IsTaken};
+ghost use Rattle.poets_engine.specs.Choices.{AreKept, KeptFits, choice_of, choice_by, width_in};
+ghost use Rattle.poets_engine.specs.Evaluations.{width_owed};
+ghost use Rattle.poets_engine.specs.Makes.{Makes};
+
+use crate::judging::{Decision, judge};
+use crate::store::Store;
+use poets_call::{Reply, Rules};
+use poets_expr::Asks;
+use poets_residue::{may_end, residual};
+use poets_syntax::{Studied, Term};
+use poets_table::Row;
+use poets_value::{Day, Event, Memory, Name};
+use std::alloc::Global;
+
+// The day of the last event.
+fn last_day_of(events: &[Event]) -> Option<Day>
+    ensures { result ≡ last_day events.now }
+{
+    match events.last() {
+        Some(last) => Some(last.day),
+        None => None,
+    }
+}
+
+// The last day recorded, where the given day is before it.
+fn late(events: &[Event], day: &Day) -> Option<Day>
+    ensures { result ≡ late_day events.now day.now }
+{
+    let last = last_day_of(events)?;
+    if day.number() < last.number() {
+        Some(last)
+    } else {
+        None
+    }
+}
+
+// What becomes of a contract's row by an event.
+fn decide<T>(
+    alloc: Global,
+    studied: &Studied,
+    row: &Row<Term>,
+    event: &Event,
+    asks: &mut Asks<T>,
+) -> Result<Decision, Memory>
+    requires { CountsFit (definitions_of studied.now.book) (contract_of row.now.current) }
+    ensures choice { IfOk result (λ d. choice_of d ≡ choice_by studied.now (row_view row.now) event.now) }
+    ensures fits { IfOk result (λ d. KeptFits (definitions_of studied.now.book) (choice_of d)) }
+    ensures asks { asks.new ≤ asks.old + width_in studied.now (contract_of row.now.current) }
+    ensures rises { asks.old ≤ asks.new }
+{
+    if row.ended {
+        return Ok(Decision::Refused(Reply::Ended));
+    }
+    if let Some(last) = late(row.events.as_slice(), &event.day) {
+        return Ok(Decision::Refused(Reply::Late(last)));
+    }
+    // The numbers of arguments fit in the bodies of the templates.
+    let _book = studied.book();
+    let next = residual(alloc, studied, &row.current, event, asks)?;
+    Ok(judge(studied, Reply::Unmatched, next))
+}
+
+/// Transmits an event on the contract with a name.
+#[tactic(auto, using(crate::proofs::Transmitting::transmit_absent))]
+pub(crate) fn transmit<T>(
+    alloc: Global,
+    rules: &Rules,
+    store: &mut Store,
+    name: Name,
+    event: &Event,
+    asks: &mut Asks<T>,
+) -> Result<Reply, Memory>
+    requires taken { IsTaken (book_of rules.now) (reports_of rules.now) (Request.Transmit name event.now) }
+    requires rows { AreKept rules.now.studied store.old.rows }
+    ensures ok { IfOk result (λ r. Makes rules.now (Request.Transmit name event.now) store.old store.new (response_of r)) }
+    ensures err { OnErr result (store.new ≡ store.old) }
+    ensures asks { asks.new ≤ asks.old + width_owed rules.now.studied store.old.rows name + 2 * length store.old.watches }
+    ensures rises { asks.old ≤ asks.new }
+{
+    let Some(number) = store.find(name) else {
+        return Ok(Reply::NoContract(name));
+    };
+    let row = store.row(number);
+    let count = row.events.as_slice().len() as u64 + 1;
+    match decide(alloc, &rules.studied, row, event, asks)? {
+        Decision::Refused(reply) => Ok(reply),
+        Decision::Kept(next) => {
+            let may_end = may_end(&rules.studied, &next);
+            store.record(&rules.studied.book().decls, number, event, next, asks)?;
+            Ok(Reply::Recorded { count, may_end })
+        }
+    }
+}

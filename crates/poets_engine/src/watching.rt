@@ -1,0 +1,48 @@
+//! Watches: reports that are kept live.
+ghost use Rattle.std.specs.Prelude.{◌≡◌, ◌+◌, ◌≤◌, length, map, IfOk, OnErr};
+ghost use Rattle.poets_expr.specs.Expression.{expression_of};
+ghost use Rattle.poets_call.specs.Calls.{response_of, Request};
+ghost use Rattle.poets_call.specs.Rules.{book_of, reports_of};
+ghost use Rattle.poets_call.specs.Taken.{IsTaken};
+ghost use Rattle.poets_engine.specs.Makes.{Makes};
+
+use crate::store::Store;
+use crate::tallies::report_called;
+use poets_call::{Reply, Rules};
+use poets_expr::{Asks, Expr};
+use poets_report::{argument_values, copy};
+use poets_value::{Memory, Name};
+use std::alloc::Global;
+
+/// Begins a watch of the report.
+pub(crate) fn watch<T>(
+    alloc: Global,
+    rules: &Rules,
+    store: &mut Store,
+    name: Name,
+    args: &[Expr],
+    asks: &mut Asks<T>,
+) -> Result<Reply, Memory>
+    requires { IsTaken (book_of rules.now) (reports_of rules.now) (Request.Watch name (map expression_of args.now)) }
+    ensures ok { IfOk result (λ r. Makes rules.now (Request.Watch name (map expression_of args.now)) store.old store.new (response_of r)) }
+    ensures err { OnErr result (store.new ≡ store.old) }
+    ensures asks { asks.new ≤ asks.old + length args.now }
+    ensures rises { asks.old ≤ asks.new }
+{
+    let report = report_called(rules, name, args);
+    let decls = &rules.studied.book().decls;
+    let values = argument_values(alloc, decls, args, asks)?;
+    let report = copy(alloc, report)?;
+    let number = store.watch(decls, report, values)?;
+    Ok(Reply::Watching(number))
+}
+
+/// Reads the watch with a number.
+pub(crate) fn read(store: &Store, number: u64) -> Result<Reply, Memory>
+    ensures { IfOk result (λ r. (rules : _) → Makes rules (Request.Read number) store.now store.now (response_of r)) }
+{
+    if number == 0 || store.watch_count() < number {
+        return Ok(Reply::NoWatch(number));
+    }
+    Ok(Reply::Answered(store.read(number)?))
+}

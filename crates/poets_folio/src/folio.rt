@@ -1,0 +1,105 @@
+//! Portfolios.
+ghost use Rattle.std.specs.Prelude.{◌≡◌, length, map, IfOk};
+ghost use Rattle.std.specs.List.{AllZip};
+ghost use Rattle.poets_expr.specs.Env.{declared_of};
+ghost use Rattle.poets_report.specs.Query.{query_of};
+ghost use Rattle.poets_call.specs.Calls.{folio_row_of};
+ghost use Rattle.poets_call.specs.Replies.{total_of};
+ghost use Rattle.poets_folio.specs.Rows.{IsRow};
+
+use crate::total::total;
+use poets_call::Folio;
+use poets_expr::{Asks, Decls};
+use poets_report::{Answer, Report, value_of};
+use poets_value::{Event, List, Memory, Name, Value, push};
+use rayon::prelude::*;
+use std::alloc::Global;
+use std::thread::Threads;
+
+/// A contract's name and its recorded events.
+#[derive(Drop)]
+pub struct Part {
+    pub name: Name,
+    pub events: List<Event>,
+}
+
+/// The report over the events of each part, in the order of the parts, and the total, which is
+/// there exactly for a report of whole numbers without a key. The rows are made in parallel.
+pub fn portfolio<R: Threads + Sync>(
+    rt: &R,
+    alloc: Global,
+    decls: &Decls,
+    report: &Report,
+    args: &List<Option<Value>>,
+    parts: &List<Part>,
+) -> Result<Folio, Memory>
+    requires { length args.now.items ≡ length report.now.params.items }
+    ensures rows { IfOk result (λ f. AllZip
+        (IsRow (declared_of decls.now.names) (query_of report.now) args.now.items) parts.now.items f.rows.items) }
+    ensures total { IfOk result (λ f. f.total ≡ total_of (query_of report.now) (map folio_row_of f.rows.items)) }
+{
+    let rows = listed(
+        alloc,
+        rows(rt, alloc, decls, report, args, parts.as_slice())?,
+    )?;
+    let total = total(report, rows.as_slice());
+    Ok(Folio { rows, total })
+}
+
+// The rows of the parts in order, from as many threads as there are processors.
+fn rows<R: Threads + Sync>(
+    rt: &R,
+    alloc: Global,
+    decls: &Decls,
+    report: &Report,
+    args: &List<Option<Value>>,
+    parts: &[Part],
+) -> Result<Vec<(Name, Answer)>, Memory>
+    requires { length args.now.items ≡ length report.now.params.items }
+    ensures { IfOk result (λ v. AllZip
+        (IsRow (declared_of decls.now.names) (query_of report.now) args.now.items) parts.now v.items) }
+{
+    let made: Result<Result<Vec<(Name, Answer)>, Memory>, _> = parts
+        .par_iter()
+        .map(
+            |part: &Part| -> Result<(Name, Answer), Memory>
+                requires { length args.now.items ≡ length report.now.params.items }
+                ensures { IfOk result (IsRow
+                    (declared_of decls.entry.now.names) (query_of report.entry.now) args.entry.now.items part.now) }
+            { row(alloc, decls, report, args, part) },
+        )
+        .collect(rt, alloc);
+    match made {
+        Ok(rows) => rows,
+        Err(_) => Err(Memory),
+    }
+}
+
+// The row of a part.
+fn row(
+    alloc: Global,
+    decls: &Decls,
+    report: &Report,
+    args: &List<Option<Value>>,
+    part: &Part,
+) -> Result<(Name, Answer), Memory>
+    requires { length args.now.items ≡ length report.now.params.items }
+    ensures { IfOk result (IsRow (declared_of decls.now.names) (query_of report.now) args.now.items part.now) }
+{
+    let mut asks = Asks::new(());
+    let events = part.events.as_slice();
+    let answer = value_of(alloc, decls, report, args, events, &mut asks)?;
+    Ok((part.name, answer))
+}
+
+// The same rows as a list.
+fn listed(alloc: Global, rows: Vec<(Name, Answer)>) -> Result<List<(Name, Answer)>, Memory>
+    ensures { IfOk result (λ l. l.items ≡ rows.items) }
+{
+    let mut list = List::new(alloc);
+    list.reserve(rows.len())?;
+    for row in rows {
+        push(&mut list, row)?;
+    }
+    Ok(list)
+}

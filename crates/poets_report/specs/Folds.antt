@@ -1,0 +1,70 @@
+-- Folds that go on from event to event. This file only ties the code to `IsAnswer`.
+use Rattle.std.specs.Prelude.{◌≡◌, ℕ, List, map, [], ◌∷◌, ◌++◌, Option, unwrap_or}
+use Rattle.poets_value.specs.declared.event.Event.{Event}
+use Rattle.poets_value.specs.declared.value.Value.{Value}
+use Rattle.poets_expr.specs.Env.{Declared, Env}
+use Rattle.poets_report.specs.Query.{Query, given, start}
+use Rattle.poets_report.specs.Answers.{Row, Finding, Single, Rows, IsAnswer}
+use Rattle.poets_report.specs.Keyed.{Sets, HasRoom}
+use Rattle.poets_report.specs.declared.folds.Change.{Change}
+use Rattle.poets_report.specs.declared.folds.Running.{Running}
+use Rattle.poets_report.specs.declared.folds.Running.TheVariants as R
+
+-- a fold as plain data
+pub record FoldView : Type 0 where
+  -- the parameters with the arguments
+  pub env : Env
+  -- what is carried to the first event, and to the first event of each key
+  pub start : Option Value
+  -- the answer over the events so far
+  pub answer : Finding
+  -- the keys for whose rows there is room
+  pub keys : List Value
+
+abbrev pub answer_in : Running → Finding
+answer_in (R.Carried v) = Single v
+answer_in (R.Keyed rows) = Rows rows.rows
+
+abbrev pub keys_in : Running → List Value
+keys_in (R.Carried v) = []
+keys_in (R.Keyed rows) = rows.keys
+
+-- a fold by its parts
+abbrev pub fold_by : Env → Option Value → Running → FoldView
+fold_by env start running = record { env = env; start = start; answer = answer_in running; keys = keys_in running }
+
+-- the fold of a report under arguments stands for these events: it has the answer over them, and goes on from it
+pub record StandsFor
+    (declared : Declared) (q : Query) (args : List (Option Value)) (events : List Event) (fold : FoldView)
+    : Type 0 where
+  pub under : fold.env ≡ given q args
+  pub starts : fold.start ≡ start declared q args
+  pub answers : IsAnswer declared q args events fold.answer
+
+-- the events of a log of contracts' numbers and events
+abbrev pub events_of : List (ℕ × Event) → List Event
+events_of log = map (λ p. p.1) log
+
+-- a fold that stood for any events stands for these and then `more`
+abbrev pub GoesOn : Declared → Query → List Event → FoldView → FoldView → Type 0
+GoesOn declared q more old new = (args : List (Option Value)) (events : List Event) →
+    StandsFor declared q args events old → StandsFor declared q args (events ++ more) new
+
+-- a change put in place in an answer
+abbrev pub Changes : Change → Finding → Finding → Type 0
+Changes c (Single v) new = new ≡ Single (unwrap_or c.row v)
+Changes c (Rows rows) new = (rows' : List Row) × (new ≡ Rows rows') × Sets c.key c.row rows rows'
+
+-- the change is what an event brings to a fold: put in place, it makes the answer over the events so far and this one
+abbrev pub Brings : Declared → Query → Event → FoldView → Change → Type 0
+Brings declared q e fold c = (args : List (Option Value)) (events : List Event) (new : Finding) →
+    StandsFor declared q args events fold → Changes c fold.answer new → IsAnswer declared q args (events ++ e ∷ []) new
+
+-- there is room to put the change in place
+abbrev pub HasRoomFor : Change → Finding → List Value → Type 0
+HasRoomFor c (Single v) keys = Unit {0}
+HasRoomFor c (Rows rows) keys = HasRoom c.key keys
+
+abbrev pub IsSingle : Finding → Type 0
+IsSingle (Single v) = Unit {0}
+IsSingle (Rows rows) = ⊥

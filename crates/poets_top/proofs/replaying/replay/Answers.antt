@@ -1,0 +1,39 @@
+use Rattle.std.proofs.Common.{refl, sym, ◌∙◌, ap, subst}
+use Rattle.poets_call.specs.Calls.{history_of}
+use Rattle.poets_session.specs.Sessions.{calls_in, journal_of}
+use Rattle.poets_session.proofs.LawsFitting.{read_written, journal_written}
+use Rattle.poets_top.specs.Runs.{IsAnswerTo}
+use Rattle.poets_top.specs.Scripts.{AreTaken}
+use Rattle.poets_top.specs.declared.words.Task.TheVariants as T
+use Rattle.poets_top.proofs.Endings.{IsWritten-nothing}
+use Rattle.poets_top.proofs.Owning.{IsReplayOf-made}
+use Rattle.poets_top.proofs.Taking.{journal_taken, AreTaken-code, whole_rules}
+use Rattle.poets_top.proofs.replaying.replay.Goals as goal
+
+pub make_calls-requires-clause-whole : goal.make_calls-requires-clause-whole
+make_calls-requires-clause-whole g c = λ _ _.
+    let session = c.requires.1.1 in
+    let written = read_written c.requires.0 c.args.session.names c.requires.1.0 session.is.read in
+    whole_rules c.args.session.rules c.args.session.names c.requires.1.0 session.holds.book written
+
+pub make_calls-requires-clause-taken : goal.make_calls-requires-clause-taken
+make_calls-requires-clause-taken g c = λ _ _.
+    let statements = c.requires.1.0 in
+    let session = c.requires.1.1 in
+    let written = read_written c.requires.0 c.args.session.names statements session.is.read in
+    let commands = journal_written c.args.session.names statements written in
+    subst (AreTaken c.args.session.rules) (sym c.as_slice.ensures)
+    (AreTaken-code c.args.session.rules statements c.args.session.journal.items (journal_of statements) session.holds.book session.holds.reports session.holds.journal
+    (journal_taken c.args.session.names statements session.is.valid.typed commands))
+
+pub returns-in-Ok : goal.returns-in-Ok
+returns-in-Ok g c = λ text statements session.
+    let calls = c.in-Ok.ensures.calls ∙ ap calls_in c.as_slice.ensures ∙ session.holds.journal in
+    c.write.ensures text T.Replay (IsAnswerTo.Made session.is (record {
+      history = IsReplayOf-made c.args.session.rules statements (history_of c.in-Ok.history.items) session.holds.book session.holds.reports c.in-Ok.ensures.right calls;
+      lines = refl;
+    }))
+
+pub returns : goal.returns
+returns g c = λ text statements session.
+    IsWritten-nothing (IsAnswerTo text T.Replay) _ _ c.without_history.result.status _ refl c.without_history.ensures.status (ap history_of c.without_history.ensures.history)

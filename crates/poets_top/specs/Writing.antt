@@ -1,0 +1,36 @@
+-- How an answer is written.
+use Rattle.std.specs.Prelude.{◌≡◌, ◌≢◌, ℕ, ◌≤◌, List, [], Option}
+use Rattle.std.specs.Io.KnownBytes.{Appends}
+use Rattle.poets_io.specs.Causes.{Rose}
+use Rattle.poets_io.specs.Streams.{AppendsPart}
+use Rattle.poets_call.specs.Calls.{HistoryEntry}
+
+-- a source or a sink: the bytes that it has left or holds, where it tells them, and its count of faults
+pub record Stream : Type 0 where
+  pub bytes : Option (List ℕ)
+  pub faults : ℕ
+
+abbrev pub stream : Option (List ℕ) → ℕ → Stream
+stream bytes faults = record { bytes = bytes; faults = faults }
+
+-- the count of faults rose, and did not fall
+pub record HasFailed (old new : Stream) : Type 0 where
+  pub rose : Rose old.faults new.faults
+  pub later : old.faults ≤ new.faults
+
+-- how it ends that an answer is written to a sink; it tells the status, the history, and the text that is to be written
+pub data IsWritten (Is : (status : ℕ) → List HistoryEntry → (text : List ℕ) → Type 0) (sink sink' : Stream) : (status : ℕ) → List HistoryEntry → Type 0 where
+  -- the text was written whole, without a fault
+  Whole :
+      {status : ℕ} {h : List HistoryEntry} {text : List ℕ} →
+      Is status h text → Appends sink.bytes sink'.bytes text → sink'.faults ≡ sink.faults → IsWritten Is sink sink' status h
+  -- the sink failed: a front of the text was written
+  Failed :
+      {status : ℕ} {h : List HistoryEntry} {text : List ℕ} →
+      Is status h text → AppendsPart sink.bytes sink'.bytes text → HasFailed sink sink' → IsWritten Is sink sink' 5 h
+  -- want of memory while the lines of a history are written: a front of them was written, and not all, without a fault
+  MemoryBetween :
+      {h : List HistoryEntry} {text : List ℕ} →
+      Is 0 h text → h ≢ [] → AppendsPart sink.bytes sink'.bytes text → sink'.faults ≡ sink.faults → IsWritten Is sink sink' 3 h
+  -- want of memory ahead of all writing: nothing was written, and no history is handed out
+  MemoryBefore : sink' ≡ sink → IsWritten Is sink sink' 3 []
