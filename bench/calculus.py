@@ -6,10 +6,8 @@ Usage: bench/calculus.py [PROGRAM]      (PROGRAM: crates/poets/out/poets, made b
 Beside what bench/measuring.py prints, each family is told the cost of the last quarter of its commands to that of the
 first: it must stay below the same bound.
 """
-from measuring import Case, measure_growth
+from measuring import ANY, COMMANDS, HEAD, Case, measure_growth
 
-HEAD = "agents ann, bob;;\nkinds Oil, USD;;\n"
-COMMANDS = 65_536
 PARTS = 10
 CHAIN = 200
 
@@ -17,9 +15,8 @@ CHAIN = 200
 def recursive(share):
     """Transmissions on a recursive template, each of which is recorded."""
     count = int(COMMANDS * share) - 1
-    template = "template any() = Success + transmit(a, b, r, t | true). any();;\n"
     lines = "transmit c ann bob 1 Oil @2006-01-01;;\n" * count
-    return Case("run", (HEAD + template + "clerk;;\nregister c = any();;\n" + lines).encode(), count + 1)
+    return Case("run", (HEAD + ANY + "clerk;;\nregister c = any();;\n" + lines).encode(), count + 1)
 
 
 def deliveries(share):

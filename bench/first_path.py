@@ -5,11 +5,9 @@ Usage: bench/first_path.py [PROGRAM]      (PROGRAM: crates/poets/out/poets, made
 
 What is printed, and when the script fails, bench/measuring.py tells.
 """
-from measuring import Case, measure
+from measuring import COMMANDS, HEAD, Case, measure
 
-HEAD = "agents ann, bob;;\nkinds Oil, USD;;\nclerk;;\n"
 LIMIT = 16_777_216
-COMMANDS = 65_536
 OPERATORS = 1_000
 
 
@@ -25,7 +23,7 @@ def transmissions(share):
     count = int(COMMANDS * share) - 1
     contract = "transmit(a, b, r, t | kind(r) = Oil). transmit(c, d, q, w | kind(q) = Oil). Success"
     line = "transmit deal ann bob 7 Oil @2006-05-03;;\n"
-    text = (HEAD + f"register deal = {contract};;\n" + line * count).encode()
+    text = (HEAD + f"clerk;;\nregister deal = {contract};;\n" + line * count).encode()
     return Case("run", text, count + 1)
 
 
@@ -34,8 +32,8 @@ def contract(share):
     # `register x =` has one operator; each alternative has `=`, `.` and, but for the first, `+`
     alternatives = (int(OPERATORS * share) - 1 + 1) // 3
     parts = [f"transmit(a, b, r, t | amount(r) = {i}). Success" for i in range(alternatives)]
-    text = (HEAD + "register big =\n" + "\n+ ".join(parts) + ";;\n" + "transmit big ann bob 1 Oil @2006-05-03;;\n").encode()
-    return Case("run", text, alternatives)
+    lines = "register big =\n" + "\n+ ".join(parts) + ";;\n" + "transmit big ann bob 1 Oil @2006-05-03;;\n"
+    return Case("run", (HEAD + "clerk;;\n" + lines).encode(), alternatives)
 
 
 if __name__ == "__main__":

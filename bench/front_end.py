@@ -5,11 +5,9 @@ Usage: bench/front_end.py [PROGRAM]      (PROGRAM: crates/poets/out/poets, made 
 
 What is printed, and when the script fails, bench/measuring.py tells.
 """
-from measuring import Case, measure
+from measuring import COMMANDS, HEAD, Case, measure
 
-HEAD = "agents ann, bob;;\nkinds Oil, USD;;\n"
 LIMIT = 16_777_216
-COMMANDS = 65_536
 TEMPLATES = 256
 BRACKETS = 200
 OPERATORS = 1_000

@@ -1,13 +1,19 @@
 """Times the built program on generated texts, a quarter, a half (or three quarters) and the whole of each size.
 
-A family is a function from a share of its size to a case: the words, the text, and the number of units that its cost is
-told in (bytes or commands). For each share `measure` prints seconds (the least of seven runs), peak memory and the cost of
-a unit. It ends the script with status 1 where the cost of the whole is 1.3 times that of a quarter or more, where peak
-memory passes its bound, which is 20 times the text plus 16 MB unless the case gives another, or where the program ends
-with another status than the case gives.
+A family is a function from a share of its size to a case: the words, the text, and the number of units that its cost
+is told in (bytes or commands). For each share `measure` prints seconds (the least of seven runs), peak memory and the
+cost of a unit, and for each family whether it kept its bounds. It ends the script with status 1 where the cost of the
+whole is 1.3 times that of a quarter or more, where peak memory passes its bound, which is 20 times the text plus 16 MB
+unless the case gives another, where the program ends with another status than the case gives, or where it prints
+something else than the case gives, if it gives that.
+
+A family may begin with a set-up, which is the same at every share: it is the family's share 0, and what it costs is
+taken off the seconds of the others before the costs of units are told and compared. A ratio is told as `nan`, and keeps
+no bound, where nothing is left of a cost.
 
 A peak below that of a Python process, some 10 MB, is told as that.
 """
+import math
 import os
 import pathlib
 import subprocess
@@ -18,11 +24,18 @@ from collections import namedtuple
 
 PROGRAM = pathlib.Path(__file__).resolve().parent.parent / "crates/poets/out/poets"
 SHARES = (0.25, 0.5, 1.0)
+GROWTH = (0.25, 0.75, 1.0)
+SMALL = 1 / 256
 MOST_RATIO = 1.3
 ROUNDS = 7
 
-# A run that is measured, its status, and how many times the text, beside 16 MB, its memory may take.
-Case = namedtuple("Case", "words text units status most_memory", defaults=(0, 20))
+# The most commands of a session, what a book begins with, and a template of contracts that take every transmission.
+COMMANDS = 65_536
+HEAD = "agents ann, bob;;\nkinds Oil, USD;;\n"
+ANY = "template any() = Success + transmit(a, b, r, t | true). any();;\n"
+
+# A run that is measured, its status, how many times the text, beside 16 MB, its memory may take, and what it prints.
+Case = namedtuple("Case", "words text units status most_memory printed", defaults=(0, 20, None))
 
 
 def once(program, words, path):
@@ -48,24 +61,75 @@ def told(program, case):
     return [float(word) for word in told.stdout.split()]
 
 
+def around(text, at):
+    """What stands around the place in its line."""
+    begin = max(text.rfind(b"\n", 0, at) + 1, at - 60)
+    return text[begin:at + 60].decode(errors="replace").partition("\n")[0]
+
+
+def prints(program, case):
+    """Whether the program prints what the case gives, if it gives that. Else tells where it first differs."""
+    if case.printed is None:
+        return True
+    run = subprocess.run([program, case.words], input=case.text, stdout=subprocess.PIPE, check=False)
+    if run.stdout == case.printed:
+        return True
+    at = len(os.path.commonprefix([run.stdout, case.printed]))
+    line = case.printed.count(b"\n", 0, at) + 1
+    lines, wanted = (text.count(b"\n") for text in (run.stdout, case.printed))
+    print(f"  {lines} lines are printed, wanted {wanted}; line {line} differs:\n"
+          f"    printed  {around(run.stdout, at)}\n"
+          f"    wanted   {around(case.printed, at)}", flush=True)
+    return False
+
+
+def cost(seconds, units):
+    """The cost of a unit as it is printed; a set-up has no units."""
+    return f"{1e6 * seconds / units:9.4f} us a unit" if units else f"{'the set-up':>19}"
+
+
+def ratio_of(cost, first):
+    """The one cost to the other."""
+    return cost / first if cost > 0 and first > 0 else math.nan
+
+
 def measure_family(program, family, shares=SHARES):
-    """Prints what the family costs at the shares. Answers whether it kept its bounds, and the seconds."""
+    """Prints what the family costs at the shares. Answers which bounds it broke, and the seconds beyond the set-up."""
     print(family.__doc__)
     cases = [family(share) for share in shares]
+    broken = [] if all([prints(program, case) for case in cases]) else ["what is printed"]
     # the shares take turns, so that what else the machine does falls on all of them
     rounds = [[told(program, case) for case in cases] for _ in range(ROUNDS)]
-    kept = True
+    set_up = min(runs[0][0] for runs in rounds) if shares[0] == 0 else 0.0
     spent = []
     for share, case, runs in zip(shares, cases, zip(*rounds)):
         seconds, peak, status = min(r[0] for r in runs), max(r[1] for r in runs), int(max(abs(r[2]) for r in runs))
-        spent.append(seconds)
+        spent.append(seconds - set_up)
         room = case.most_memory * len(case.text) + 16 * 2**20
         print(f"  {share:4} {len(case.text):>9} bytes {case.units:>9} units  status {status}  {seconds:7.3f} s"
-              f"  {1e6 * seconds / case.units:9.4f} us a unit  peak {peak / 2**20:7.1f} MB (allowed {room / 2**20:.1f})", flush=True)
-        kept &= status == case.status and peak < room
-    ratio = spent[-1] / cases[-1].units / (spent[0] / cases[0].units)
+              f"  {cost(spent[-1], case.units)}  peak {peak / 2**20:7.1f} MB (allowed {room / 2**20:.1f})",
+              flush=True)
+        broken += ["status"] * (status != case.status) + ["memory"] * (peak >= room)
+    costs = [seconds / case.units for seconds, case in zip(spent, cases) if case.units]
+    ratio = ratio_of(costs[-1], costs[0])
     print(f"  cost of the whole to that of a quarter: {ratio:.2f}", flush=True)
-    return kept and ratio < MOST_RATIO, spent
+    return broken + ["cost of the whole"] * (not ratio < MOST_RATIO), spent
+
+
+def grows(program, family, shares):
+    """Measures the family, and prints the cost of its last quarter to that of its first. Answers which bounds broke."""
+    broken, spent = measure_family(program, family, shares)
+    first, almost, whole = spent[-3:]
+    ratio = ratio_of(whole - almost, first)
+    print(f"  cost of the last quarter to that of the first: {ratio:.2f}", flush=True)
+    return broken + ["cost of the last quarter"] * (not ratio < MOST_RATIO)
+
+
+def is_kept(broken):
+    """Prints whether a family kept its bounds, and answers it."""
+    kept = f"kept: ratios below {MOST_RATIO}, memory within its bound"
+    print("  " + (f"NOT KEPT: {', '.join(dict.fromkeys(broken))}" if broken else kept), flush=True)
+    return not broken
 
 
 def program_named():
@@ -73,23 +137,26 @@ def program_named():
     return sys.argv[1] if len(sys.argv) > 1 else str(PROGRAM)
 
 
+def check(families):
+    """Makes each family small. Ends the script with status 1 where the program prints something else than one gives."""
+    right = True
+    for family in families:
+        if not prints(program_named(), family(SMALL)):
+            print(f"    made small: {family.__doc__}", flush=True)
+            right = False
+    if not right:
+        sys.exit(1)
+
+
 def measure(families):
     """Measures the families."""
-    kept = [measure_family(program_named(), family)[0] for family in families]
+    kept = [is_kept(measure_family(program_named(), family)[0]) for family in families]
     sys.exit(0 if all(kept) else 1)
 
 
-def grows(program, family):
-    """Measures the family, and prints the cost of its last quarter to that of its first. Answers whether bounds were kept."""
-    kept, (first, almost, whole) = measure_family(program, family, (0.25, 0.75, 1.0))
-    ratio = (whole - almost) / first
-    print(f"  cost of the last quarter to that of the first: {ratio:.2f}", flush=True)
-    return kept and ratio < MOST_RATIO
-
-
-def measure_growth(families):
+def measure_growth(families, shares=GROWTH):
     """Measures the families, whose cost must not grow with what was done before."""
-    kept = [grows(program_named(), family) for family in families]
+    kept = [is_kept(grows(program_named(), family, shares)) for family in families]
     sys.exit(0 if all(kept) else 1)
 
 
