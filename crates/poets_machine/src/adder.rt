@@ -1,0 +1,100 @@
+//! A machine that adds, by which the crates above are tried.
+ghost use Rattle.std.specs.Prelude.{◌≡◌, ℕ, ◌+◌, ◌%◌, ◌^◌, ◌≤◌, List, [], length, map};
+ghost use Rattle.std.specs.Arc.{arc_value};
+ghost use Rattle.poets_machine.specs.Adding.{IsSum, calls_of, total};
+
+use crate::Machine;
+use poets_value::{List, Memory};
+use std::alloc::Global;
+use std::sync::Arc;
+use std::thread::Threads;
+
+/// Takes amounts up to the most, and replies to each with the sum so far, modulo 2 to the 64th.
+#[derive(Drop)]
+pub struct Adder {
+    most: u64,
+    sum: u64,
+    entries: List<(u32, Arc<u64>)>,
+    ghost summed: { sum ≡ total (calls_of entries.items) % 2 ^ 64 },
+}
+
+/// A sum, and the number of amounts before the last one.
+#[derive(Drop)]
+pub struct Sum {
+    place: u64,
+    sum: u64,
+}
+
+impl Adder {
+    /// An adder that took no amount yet.
+    pub fn new(alloc: Global, most: u64) -> Adder
+        ensures most { ⟦<Adder as Machine>⟧.frame result ≡ most }
+        ensures history { ⟦<Adder as Machine>⟧.history result ≡ [] }
+    {
+        Adder {
+            most,
+            sum: 0,
+            entries: List::new(alloc),
+        }
+    }
+
+    /// The sum of all amounts.
+    pub fn sum(&self) -> u64
+        ensures { result ≡ total (⟦<Adder as Machine>⟧.history self.now) % 2 ^ 64 }
+    {
+        self.sum
+    }
+
+    /// The number of amounts.
+    pub fn count(&self) -> usize
+        ensures { result ≡ length (⟦<Adder as Machine>⟧.history self.now) }
+    {
+        self.entries.len()
+    }
+}
+
+impl Machine for Adder {
+    type Call = u64;
+
+    type Reply = u64;
+
+    type Kept = Sum;
+
+    type Frame = u64;
+
+    ghost history = { λ a. calls_of a.entries.items };
+
+    ghost frame = { λ a. a.most };
+
+    ghost takes = { λ most amount. amount ≤ most };
+
+    ghost answers = { λ most before clerk amount sum. IsSum before amount sum };
+
+    ghost owes = { λ most before clerk amount kept. (kept.place ≡ length before) × IsSum before amount kept.sum };
+
+    fn turn<R: Threads + Sync>(
+        &mut self,
+        rt: &R,
+        alloc: Global,
+        clerk: u32,
+        call: &Arc<u64>,
+    ) -> Result<Sum, Memory> {
+        self.entries.reserve(1)?;
+        let amount = Arc::try_clone(call)?;
+        let place = self.entries.len() as u64;
+        let sum = self.sum.wrapping_add(**call);
+        let Ok(()) = self.entries.push((clerk, amount)) else {
+            unreachable!();
+        };
+        self.sum = sum;
+        Ok(Sum { place, sum })
+    }
+
+    fn place(kept: &Sum) -> u64 {
+        kept.place
+    }
+
+    fn finish<R: Threads + Sync>(rt: &R, alloc: Global, kept: Sum) -> Result<u64, Memory> {
+        Ok(kept.sum)
+    }
+}

@@ -1,0 +1,65 @@
+//! What a machine is.
+ghost use Rattle.std.specs.Prelude.{◌≡◌, ℕ, List, [], ◌∷◌, ◌++◌, length, IfOk, MatchResult};
+ghost use Rattle.std.specs.Thread.{IsSync};
+ghost use Rattle.std.specs.Arc.{arc_value};
+
+use poets_value::Memory;
+use std::alloc::Global;
+use std::sync::Arc;
+use std::thread::Threads;
+
+/// What takes calls one at a time. A reply is worked out in two parts: `turn` while the machine is held, and `finish`
+/// once others may have it.
+///
+/// To contracts a machine has a history, which is the list of the calls that it took, each with the number of its
+/// clerk, and a frame, which no turn changes.
+pub trait Machine: Drop {
+    type Call;
+
+    type Reply: Drop;
+
+    /// What a turn leaves to be finished.
+    type Kept: Drop;
+    /// What no turn changes. No value of it is made.
+    type Frame;
+
+    /// The calls that the machine took, each with its clerk's number.
+    ghost history: { Self → List (ℕ × Self.Call) };
+
+    ghost frame: { Self → Self.Frame };
+    /// Whether machines of this frame take this call.
+    ghost takes: { Self.Frame → Self.Call → Type 0 };
+    /// After the calls before it, the clerk's call has this reply.
+    ghost answers: { Self.Frame → List (ℕ × Self.Call) → ℕ → Self.Call → Self.Reply → Type 0 };
+    /// After the calls before it, this was kept of the clerk's call.
+    ghost owes: { Self.Frame → List (ℕ × Self.Call) → ℕ → Self.Call → Self.Kept → Type 0 };
+
+    /// Takes a call of the clerk. After want of memory the history is as before.
+    fn turn<R: Threads + Sync>(
+        &mut self,
+        rt: &R,
+        alloc: Global,
+        clerk: u32,
+        call: &Arc<Self::Call>,
+    ) -> Result<Self::Kept, Memory>
+        requires sync { IsSync R.row }
+        requires takes { takes (frame self.old) (arc_value call.now) }
+        ensures frame { frame self.new ≡ frame self.old }
+        ensures turn { MatchResult result
+            (λ kept. (history self.new ≡ history self.old ++ (clerk, arc_value call.now) ∷ [])
+            × owes (frame self.old) (history self.old) clerk (arc_value call.now) kept)
+            (λ _. history self.new ≡ history self.old) };
+
+    /// The number of calls that stood before this one.
+    fn place(kept: &Self::Kept) -> u64
+        ensures { (f : Self.Frame) (before : List (ℕ × Self.Call)) (clerk : ℕ) (call : Self.Call) → owes f before clerk call kept.now → result ≡ length before };
+
+    /// The reply to the call, whatever the machine did since.
+    fn finish<R: Threads + Sync>(
+        rt: &R,
+        alloc: Global,
+        kept: Self::Kept,
+    ) -> Result<Self::Reply, Memory>
+        requires sync { IsSync R.row }
+        ensures { IfOk result (λ reply. (f : Self.Frame) (before : List (ℕ × Self.Call)) (clerk : ℕ) (call : Self.Call) → owes f before clerk call kept → answers f before clerk call reply) };
+}
