@@ -1,0 +1,6 @@
+pub mod Ending
+pub mod Fronts
+pub mod Making
+pub mod Places
+pub mod Seats
+pub mod Steps

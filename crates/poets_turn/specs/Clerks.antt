@@ -1,0 +1,82 @@
+-- What contracts say of a turnstile, its clerks and its notes.
+use Rattle.std.specs.Prelude.{◌≡◌, ◌⊎◌, ℕ, ◌<◌, ◌^◌, List, [], ◌∷◌, ◌++◌, length, Option, Some, Contains}
+use mathlib.Core.List.{IsPrefix}
+use Rattle.atomic_table.specs.declared.shared.Seat.{Seat}
+use Rattle.poets_machine.specs.Histories.{own_calls}
+use Rattle.poets_turn.specs.declared.types.Turn.{Turn}
+use Rattle.poets_turn.specs.declared.types.ClerkOf.{ClerkOf}
+use Rattle.poets_turn.specs.declared.types.NoteOf.{NoteOf}
+use Rattle.poets_turn.specs.declared.view.View.{View}
+use Rattle.poets_turn.specs.Turnstile.{OnlyClerks}
+use Rattle.poets_turn.specs.Steps.{setting_of}
+
+module _ {M C R K F : Type 0} where
+  -- how many clerks there are
+  abbrev pub clerk_count : Turn M C R K F → ℕ
+  clerk_count turn = turn.table.shared.key.clerks
+
+  -- the machine's frame, which no call changes
+  abbrev pub turn_frame : (M → F) → Turn M C R K F → F
+  turn_frame frame turn = frame turn.table.shared.key.machine.value
+
+  -- the seat is one of the turnstile's
+  pub record IsAt (frame : M → F) (turn : Turn M C R K F) (it : Seat (Option M) (View C F)) : Type 0 where
+    pub table : it.table_id ≡ turn.table.shared.table_id
+    pub setting : it.me.0.setting ≡ Some (setting_of (turn_frame frame turn) (clerk_count turn))
+
+  -- the seat of a clerk that saw nothing and made no call
+  pub record IsFreshAt (frame : M → F) (turn : Turn M C R K F) (it : Seat (Option M) (View C F)) : Type 0 where
+    pub of : IsAt frame turn it
+    pub front : it.me.0.front ≡ []
+    pub calls : it.me.0.calls ≡ []
+
+module _ {M C F : Type 0} where
+  abbrev pub number : ClerkOf M C F → ℕ
+  number clerk = clerk.number
+
+  -- the beginning of the history that the clerk saw
+  abbrev pub front : ClerkOf M C F → List (ℕ × C)
+  front clerk = clerk.seat.me.0.front
+
+  -- the calls that the clerk made
+  abbrev pub calls : ClerkOf M C F → List C
+  calls clerk = clerk.seat.me.0.calls
+
+  -- the beginning of the history that the note tells
+  abbrev pub note_front : NoteOf M C F → List (ℕ × C)
+  note_front note = note.seat.me.0.front
+
+  abbrev pub IsClerkOf : {R K : Type 0} → (M → F) → Turn M C R K F → ClerkOf M C F → Type 0
+  IsClerkOf frame turn clerk = IsAt frame turn clerk.seat
+
+  -- a clerk that saw nothing and made no call
+  abbrev pub IsFresh : {R K : Type 0} → (M → F) → Turn M C R K F → ClerkOf M C F → Type 0
+  IsFresh frame turn clerk = IsFreshAt frame turn clerk.seat
+
+  abbrev pub IsNoteOf : {R K : Type 0} → (M → F) → Turn M C R K F → NoteOf M C F → Type 0
+  IsNoteOf frame turn note = IsAt frame turn note.seat
+
+-- a clerk of the number, of so many, made the call: it saw this and now that, and had made these calls and now those
+pub record HasCalled {C K : Type 0} (owes : List (ℕ × C) → ℕ → C → K → Type 0) (count number : ℕ) (call : C) (kept : K) (saw saw' : List (ℕ × C)) (made made' : List C) : Type 0 where
+  -- the entries before the call, which go on from what the clerk had seen
+  pub before : List (ℕ × C)
+  pub longer : IsPrefix saw before
+  -- the call is the last entry that the clerk saw, under its number
+  pub last : saw' ≡ before ++ (number, call) ∷ []
+  -- what was kept is owed there
+  pub owed : owes before number call kept
+  -- the call is one more of the clerk's own, and what it saw has just these of it
+  pub calls : made' ≡ made ++ call ∷ []
+  pub own : own_calls number saw' ≡ made'
+  pub clerks : OnlyClerks count saw'
+  pub short : length saw' < 2 ^ 64
+
+-- the history begins with all that the clerk of the number saw, and has just the calls of it that it made
+pub record IsClerkIn {C : Type 0} (history : List (ℕ × C)) (number : ℕ) (saw : List (ℕ × C)) (made : List C) : Type 0 where
+  pub front : IsPrefix saw history
+  pub calls : own_calls number history ≡ made
+
+-- the seat of the view is the clerk's or took it in, and knows all that the clerk saw, and its calls
+pub record KnowsClerk {C F : Type 0} (v : View C F) (number : ℕ) (saw : List (ℕ × C)) (made : List C) : Type 0 where
+  pub front : IsPrefix saw v.front
+  pub calls : ((v.number ≡ number) × (v.calls ≡ made)) ⊎ Contains v.ended (number, made)

@@ -1,0 +1,3 @@
+pub mod Clerks
+pub mod Steps
+pub mod Turnstile

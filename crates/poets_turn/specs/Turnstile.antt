@@ -1,0 +1,158 @@
+-- The rule of the turnstile, which holds between any two steps of any threads.
+-- Word 0 is the next ticket, word 1 is the ticket that is served, and slot 0 has the machine where no seat holds it.
+use Rattle.std.specs.Prelude.{◌≡◌, ◌⊎◌, ℕ, ◌<◌, ◌≤◌, Bool, true, false, List, [], ◌∷◌, length, if◌then◌else◌, Option, Some, All, Contains}
+use mathlib.Core.List.{IsPrefix}
+use mathlib.Core.Option.{none, some}
+use lib.ListN.{get_elem?}
+use Rattle.std.proofs.Math.Dec.{ltb}
+use Rattle.atomic_table.specs.Table.{State}
+use Rattle.poets_machine.specs.Histories.{own_calls}
+use Rattle.poets_turn.specs.declared.view.View.{View}
+use Rattle.poets_turn.specs.declared.view.Setting.{Setting}
+use Rattle.poets_turn.specs.declared.view.Stage.{Stage}
+use Rattle.poets_turn.specs.declared.view.Stage.TheVariants.{Idle, Waiting, Serving}
+
+-- the numbers of clerks, which count from 1
+pub record Numbers : Type 0 where
+  -- how many were made
+  pub made : ℕ
+  -- the seat that makes them
+  pub maker : ℕ
+  -- the seat of a number: its clerk's, or the one that took in its clerk
+  pub number_seat : ℕ → ℕ
+  -- whether the clerk of a number was taken in
+  pub is_ended : ℕ → Bool
+
+-- what the words and the views of a turnstile stand for
+pub record Meaning (C : Type 0) : Type 0 where
+  -- the next ticket
+  pub ticket : ℕ
+  -- the ticket that is served
+  pub serving : ℕ
+  -- the seat of a ticket
+  pub ticket_seat : ℕ → ℕ
+  -- all entries, each a clerk's number and a call
+  pub log : List (ℕ × C)
+  pub numbers : Numbers
+
+module _ {C : Type 0} where
+  -- what the stage of a seat says of its ticket and of the log
+  abbrev pub FitsStage : Meaning C → ℕ → Stage C → Type 0
+  FitsStage m seat Idle = Unit {0}
+  FitsStage m seat (Waiting ticket) = (m.serving ≤ ticket) × (ticket < m.ticket) × (m.ticket_seat ticket ≡ seat)
+  FitsStage m seat (Serving ticket log) = (ticket ≡ m.serving) × (ticket < m.ticket) × (m.ticket_seat ticket ≡ seat) × (log ≡ m.log)
+
+  abbrev pub HasTicket : ℕ → Stage C → Type 0
+  HasTicket ticket Idle = ⊥
+  HasTicket ticket (Waiting mine) = mine ≡ ticket
+  HasTicket ticket (Serving mine log) = mine ≡ ticket
+
+  -- the clerk of the number is among those that were taken in
+  abbrev pub HasEnded : ℕ → List (ℕ × List C) → Type 0
+  HasEnded number ended = (calls : List C) × Contains ended (number, calls)
+
+  -- each entry is under the number of a clerk, of so many
+  abbrev pub OnlyClerks : ℕ → List (ℕ × C) → Type 0
+  OnlyClerks count entries = All (λ e. (0 < e.0) × (e.0 ≤ count)) entries
+
+  abbrev pub longer : List (ℕ × C) → List (ℕ × C) → List (ℕ × C)
+  longer xs ys = if ltb (length xs) (length ys) then ys else xs
+
+-- all that a seat saw or heard of
+abbrev pub known : {C F : Type 0} → View C F → List (ℕ × C)
+known v = longer v.front v.heard
+
+-- an ended clerk, which the seat took in
+pub record IsEnded {C : Type 0} (n : Numbers) (log : List (ℕ × C)) (place : ℕ) (e : ℕ × List C) : Type 0 where
+  -- its number was made
+  pub low : 0 < e.0
+  pub high : e.0 ≤ n.made
+  pub seat : n.number_seat e.0 ≡ place
+  pub over : n.is_ended e.0 ≡ true
+  -- its own calls are exactly those that the log has of it
+  pub calls : e.1 ≡ own_calls e.0 log
+
+-- the seat of a clerk
+pub record IsClerk {C : Type 0} (n : Numbers) (log : List (ℕ × C)) (place number : ℕ) (front : List (ℕ × C)) (mine : List C) : Type 0 where
+  -- its number was made, and is its own
+  pub high : number ≤ n.made
+  pub seat : n.number_seat number ≡ place
+  pub over : n.is_ended number ≡ false
+  -- its own calls are exactly those that the log has of it, and its front has the same
+  pub calls : mine ≡ own_calls number log
+  pub seen : own_calls number front ≡ mine
+
+-- what holds of the view of a seat
+pub record Fits {C F : Type 0} (f : F) (clerks : ℕ) (m : Meaning C) (seat : ℕ) (v : View C F) : Type 0 where
+  -- its front, and what it heard of, begin the log
+  pub front : IsPrefix v.front m.log
+  pub heard : IsPrefix v.heard m.log
+  -- its setting, if any, is that of the turnstile
+  pub setting : (s : Setting F) → v.setting ≡ Some s → (s.frame ≡ f) × (s.clerks ≡ clerks)
+  -- its ticket is not yet served, or is the one that is served
+  pub stage : FitsStage m seat v.stage
+  -- with a number it is the seat of a clerk
+  pub clerk : 0 < v.number → IsClerk m.numbers m.log seat v.number v.front v.calls
+  -- with none it has no ticket, no calls, no count and no ended clerks
+  pub nobody : v.number ≡ 0 → (v.stage ≡ Idle) × (v.calls ≡ []) × (v.count ≡ 0) × (v.ended ≡ [])
+  -- with a count it makes the numbers, and the count is right
+  pub count : 0 < v.count → (m.numbers.maker ≡ seat) × (v.count ≡ m.numbers.made)
+  pub ended : All (IsEnded m.numbers m.log seat) v.ended
+
+module _ {M C F : Type 0} (history : M → List (ℕ × C)) (frame : M → F) (f : F) where
+  -- the machine is in its slot, and its history is the log
+  pub record IsHome (log : List (ℕ × C)) (homes : List (mathlib.Core.Option.Option (Option M))) : Type 0 where
+    pub machine : M
+    pub home : homes ≡ some (Some machine) ∷ []
+    pub history_is : history machine ≡ log
+    pub frame_is : frame machine ≡ f
+
+-- the machine is out of its slot, and its holder is the seat whose ticket is served
+pub record IsHeld {M C F : Type 0} (serving seat : ℕ) (log : List (ℕ × C)) (homes : List (mathlib.Core.Option.Option (Option M))) (views : List (View C F)) : Type 0 where
+  pub holder : View C F
+  pub away : homes ≡ none ∷ []
+  pub there : get_elem? views seat ≡ some holder
+  pub serves : holder.stage ≡ Serving serving log
+
+-- the seat with this view has the number, or took in its clerk
+abbrev pub HasNumber : {C F : Type 0} → (ended : Bool) → ℕ → View C F → Type 0
+HasNumber true number v = HasEnded number v.ended
+HasNumber false number v = v.number ≡ number
+
+-- each ticket from the one that is served on is that of its seat
+abbrev pub TicketsHeld : {C F : Type 0} → Meaning C → List (View C F) → Type 0
+TicketsHeld {C} {F} m views = (t : ℕ) → m.serving ≤ t → t < m.ticket → (v : View C F) × (get_elem? views (m.ticket_seat t) ≡ some v) × HasTicket t v.stage
+
+-- each number that was made has its seat, and one seat makes them
+pub record NumbersHeld {C F : Type 0} (n : Numbers) (clerks : ℕ) (views : List (View C F)) : Type 0 where
+  pub makes : (v : View C F) × (get_elem? views n.maker ≡ some v) × (v.count ≡ n.made)
+  pub some_made : 0 < n.made
+  pub few_made : n.made ≤ clerks
+  pub each : (k : ℕ) → 0 < k → k ≤ n.made → (v : View C F) × (get_elem? views (n.number_seat k) ≡ some v) × HasNumber (n.is_ended k) k v
+
+-- some seat knows the whole log
+abbrev pub IsKnown : {C F : Type 0} → List (ℕ × C) → List (View C F) → Type 0
+IsKnown {C} {F} log views = (seat : ℕ) × (v : View C F) × (get_elem? views seat ≡ some v) × (known v ≡ log)
+
+-- The rule. No two seats have one ticket or one number, since each ticket and each number has one seat.
+-- What the holder of the machine knows of it stands in no view: once it took a call, its history is the log with this call at the end.
+pub record Rule {M C F : Type 0} (history : M → List (ℕ × C)) (frame : M → F) (f : F) (clerks : ℕ) (s : State (Option M) (View C F)) : Type 0 where
+  pub meaning : Meaning C
+  -- the words are the next ticket and the one that is served
+  pub words : s.words ≡ meaning.ticket ∷ meaning.serving ∷ []
+  -- no ticket is served that was not drawn
+  pub order : meaning.serving ≤ meaning.ticket
+  -- each ticket that was served made one entry at most
+  pub short : length meaning.log ≤ meaning.serving
+  -- the machine is in its slot, with the log for its history, or the seat whose ticket is served holds it
+  pub machine : IsHome history frame f meaning.log s.homes ⊎ IsHeld meaning.serving (meaning.ticket_seat meaning.serving) meaning.log s.homes s.views
+  -- each seat's front begins the log, its ticket and its number are its own, and its own calls are those that the log has of it
+  pub each_seat : (seat : ℕ) (v : View C F) → get_elem? s.views seat ≡ some v → Fits f clerks meaning seat v
+  -- each ticket that waits or is served has its seat
+  pub tickets : TicketsHeld meaning s.views
+  -- each number that was made has its seat
+  pub numbers : NumbersHeld meaning.numbers clerks s.views
+  -- each entry of the log is under a number that was made
+  pub all_made : OnlyClerks meaning.numbers.made meaning.log
+  -- the log is the longest of what the seats know
+  pub seen : IsKnown meaning.log s.views

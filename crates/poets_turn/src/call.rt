@@ -1,0 +1,153 @@
+//! One call: a ticket is drawn and waited for, the machine takes the call, and the turn is handed on.
+ghost use Rattle.std.specs.Prelude.{◌≡◌, ◌⊎◌, length, ℕ, ◌+◌, ◌^◌, ◌<◌, List, [], ◌∷◌, ◌++◌, None, Some, MatchResult};
+ghost use Rattle.std.specs.Arc.{arc_value};
+ghost use Rattle.poets_turn.specs.Steps.{Served, Holds};
+ghost use Rattle.poets_turn.specs.Clerks.{IsAt, HasCalled, front, calls, number, clerk_count, turn_frame, IsClerkOf};
+ghost use Rattle.poets_turn.specs.declared.view.Stage.TheVariants.{Idle, Waiting, Serving};
+
+use crate::rule::{Draw, Enter, Look, Pass};
+use crate::types::{Clerk, Place, Turn};
+use poets_machine::Machine;
+use poets_value::Memory;
+use std::alloc::Global;
+use std::sync::{Arc, Wait};
+use std::thread;
+use std::thread::Threads;
+
+impl<M: Machine> Turn<M> {
+    /// Waits for the clerk's turn, and has the machine take the call. The call then stands at the end of what the clerk
+    /// saw. After want of memory no entry was made.
+    pub fn call<R: Threads + Wait + Sync>(
+        &self,
+        rt: &R,
+        alloc: Global,
+        clerk: &mut Clerk<M>,
+        call: &Arc<M::Call>,
+    ) -> Result<M::Kept, Memory>
+        requires of { IsClerkOf M.frame self.now clerk.old }
+        requires takes { M.takes (turn_frame M.frame self.now) (arc_value call.now) }
+        ensures of { IsClerkOf M.frame self.now clerk.new }
+        ensures number { number clerk.new ≡ number clerk.old }
+        ensures call { MatchResult result
+            (λ kept. HasCalled (M.owes (turn_frame M.frame self.now)) (clerk_count self.now) (number clerk.old) (arc_value call.now) kept (front clerk.old) (front clerk.new) (calls clerk.old) (calls clerk.new))
+            (λ _. (front clerk.new ≡ front clerk.old) × (calls clerk.new ≡ calls clerk.old)) }
+    {
+        let number = clerk.number;
+        let made = self.take_turn(rt, alloc, &mut clerk.seat, number, call);
+        if let Ok(kept) = &made {
+            clerk.front_length = M::place(kept) + 1;
+        }
+        made
+    }
+
+    // The turn of a seat, from its ticket to the next one's.
+    fn take_turn<R: Threads + Wait + Sync>(
+        &self,
+        rt: &R,
+        alloc: Global,
+        seat: &mut Place<M>,
+        number: u32,
+        call: &Arc<M::Call>,
+    ) -> Result<M::Kept, Memory>
+        requires of { IsAt M.frame self.now seat.old }
+        requires idle { (seat.old.me.0.stage ≡ Idle) × (seat.old.me.1 ≡ []) × (0 < number) × (seat.old.me.0.number ≡ number) × (seat.old.me.0.heard ≡ []) }
+        requires takes { M.takes (turn_frame M.frame self.now) (arc_value call.now) }
+        ensures of { IsAt M.frame self.now seat.new }
+        ensures same { (seat.new.id ≡ seat.old.id) × (seat.new.me.0.number ≡ number) × (seat.new.me.0.stage ≡ Idle) × (seat.new.me.1 ≡ []) × (seat.new.me.0.heard ≡ []) }
+        ensures call { MatchResult result
+            (λ kept. HasCalled (M.owes (turn_frame M.frame self.now)) (clerk_count self.now) number (arc_value call.now) kept seat.old.me.0.front seat.new.me.0.front seat.old.me.0.calls seat.new.me.0.calls)
+            (λ _. (seat.new.me.0.front ≡ seat.old.me.0.front) × (seat.new.me.0.calls ≡ seat.old.me.0.calls)) }
+    {
+        let (ticket, mut machine) = self.take_machine(rt, seat);
+        let made = machine.turn(rt, alloc, number, call);
+        if made.is_ok() {
+            self.enter(seat, ticket, machine, call);
+        } else {
+            self.pass(seat, ticket, machine);
+        }
+        made
+    }
+
+    // Draws a ticket. Once all tickets are drawn it waits for ever.
+    fn draw<R: Wait>(&self, rt: &R, seat: &mut Place<M>) -> u64
+        requires table { seat.old.table_id ≡ self.now.table.shared.table_id }
+        requires idle { (seat.old.me.0.stage ≡ Idle) × (seat.old.me.1 ≡ []) × (0 < seat.old.me.0.number) }
+        ensures same { (seat.new.table_id ≡ seat.old.table_id) × (seat.new.id ≡ seat.old.id) }
+        ensures drawn { (result + 1 < 2 ^ 64) × (seat.new.me ≡ (record seat.old.me.0 { stage = Waiting result }, [])) }
+    {
+        for _ in rt.forever() {
+            let ticket = self.table.shared.peek(0);
+            if ticket < u64::MAX {
+                let next = ticket + 1;
+                let found = self
+                    .table
+                    .shared
+                    .compare_exchange::<Draw>(seat, 0, ticket, next);
+                if found == ticket {
+                    return ticket;
+                }
+            }
+            thread::yield_now();
+        }
+        unreachable!()
+    }
+
+    // Waits until the ticket is served. The seat then holds the machine.
+    fn wait_for<R: Wait>(&self, rt: &R, seat: &mut Place<M>, ticket: u64)
+        requires table { seat.old.table_id ≡ self.now.table.shared.table_id }
+        requires waiting { (seat.old.me.0.stage ≡ Waiting ticket) × (seat.old.me.1 ≡ []) }
+        ensures same { (seat.new.table_id ≡ seat.old.table_id) × (seat.new.id ≡ seat.old.id) }
+        ensures holds { (machine : M) × Holds M.history M.frame seat.old.me.0 ticket machine (Some machine) seat.new.me × Served M.history M.frame seat.old.me.0 ticket machine }
+    {
+        for _ in rt.forever() {
+            let serving = self.table.shared.load::<Look>(seat, 1);
+            if serving == ticket {
+                return;
+            }
+            thread::yield_now();
+        }
+        unreachable!()
+    }
+
+    // Waits for the seat's turn, and takes the machine.
+    fn take_machine<R: Wait>(&self, rt: &R, seat: &mut Place<M>) -> (u64, M)
+        requires table { seat.old.table_id ≡ self.now.table.shared.table_id }
+        requires idle { (seat.old.me.0.stage ≡ Idle) × (seat.old.me.1 ≡ []) × (0 < seat.old.me.0.number) }
+        ensures same { (seat.new.table_id ≡ seat.old.table_id) × (seat.new.id ≡ seat.old.id) }
+        ensures holds { Holds M.history M.frame seat.old.me.0 result.0 result.1 None seat.new.me }
+        ensures served { Served M.history M.frame seat.old.me.0 result.0 result.1 }
+        ensures fits { result.0 + 1 < 2 ^ 64 }
+    {
+        let ticket = self.draw(rt, seat);
+        self.wait_for(rt, seat, ticket);
+        let Some(machine) = self.table.shared.exchange(seat, 0, None) else {
+            unreachable!()
+        };
+        (ticket, machine)
+    }
+
+    // Puts the machine back with the seat's call as its last, and hands the turn on.
+    fn enter(&self, seat: &mut Place<M>, ticket: u64, machine: M, call: &Arc<M::Call>)
+        requires of { IsAt M.frame self.now seat.old }
+        requires frame { M.frame machine ≡ turn_frame M.frame self.now }
+        requires entry { (before : List (ℕ × M.Call)) × (seat.old.me.0.stage ≡ Serving ticket before) × (M.history machine ≡ before ++ (seat.old.me.0.number, arc_value call.now) ∷ []) }
+        requires hand { (seat.old.me.1 ≡ (0, None) ∷ []) × (ticket + 1 < 2 ^ 64) }
+        ensures same { (seat.new.table_id ≡ seat.old.table_id) × (seat.new.id ≡ seat.old.id) }
+        ensures after { seat.new.me ≡ (record seat.old.me.0 { stage = Idle; front = M.history machine; calls = seat.old.me.0.calls ++ arc_value call.now ∷ [] }, []) }
+    {
+        self.table.shared.exchange(seat, 0, Some(machine));
+        self.table.shared.store::<Enter>(seat, 1, ticket + 1);
+    }
+
+    // Puts the machine back as it was, and hands the turn on.
+    fn pass(&self, seat: &mut Place<M>, ticket: u64, machine: M)
+        requires of { IsAt M.frame self.now seat.old }
+        requires frame { M.frame machine ≡ turn_frame M.frame self.now }
+        requires hand { (seat.old.me.0.stage ≡ Serving ticket (M.history machine)) × (seat.old.me.1 ≡ (0, None) ∷ []) × (ticket + 1 < 2 ^ 64) }
+        ensures same { (seat.new.table_id ≡ seat.old.table_id) × (seat.new.id ≡ seat.old.id) }
+        ensures after { seat.new.me ≡ (record seat.old.me.0 { stage = Idle }, []) }
+    {
+        self.table.shared.exchange(seat, 0, Some(machine));
+        self.table.shared.store::<Pass>(seat, 1, ticket + 1);
+    }
+}

@@ -1,0 +1,59 @@
+//! What clerks tell of themselves and tell each other.
+ghost use Rattle.std.specs.Prelude.{◌≡◌, ℕ, ◌+◌, ◌<◌, ◌≤◌, List, [], ◌∷◌, length, IfOk};
+ghost use mathlib.Core.List.{IsPrefix};
+ghost use Rattle.poets_turn.specs.Clerks.{front, calls, number, note_front, IsClerkOf, IsNoteOf};
+
+use crate::rule::{ForNote, Settle, TakeNote};
+use crate::types::{Clerk, ClerkOf, Note, NoteOf, Turn};
+use poets_machine::Machine;
+use poets_value::Memory;
+
+impl<M, C, F> ClerkOf<M, C, F> {
+    /// The clerk's number.
+    pub fn number(&self) -> u32
+        ensures { result ≡ number self.now }
+    {
+        self.number
+    }
+
+    /// How many entries of the history it saw.
+    pub fn front_length(&self) -> u64
+        ensures { result ≡ length (front self.now) }
+    {
+        self.front_length
+    }
+}
+
+impl<M: Machine> Turn<M> {
+    /// A copy of what the clerk saw.
+    pub fn note(&self, clerk: &mut Clerk<M>) -> Result<Note<M>, Memory>
+        requires of { IsClerkOf M.frame self.now clerk.old }
+        ensures of { IsClerkOf M.frame self.now clerk.new }
+        ensures note { IfOk result (λ n. IsNoteOf M.frame self.now n × (note_front n ≡ front clerk.old)) }
+        ensures same { (number clerk.new ≡ number clerk.old) × (front clerk.new ≡ front clerk.old) × (calls clerk.new ≡ calls clerk.old) }
+    {
+        let seat = self.table.shared.split_seat::<ForNote>(&mut clerk.seat);
+        Ok(NoteOf {
+            seat,
+            front_length: clerk.front_length,
+        })
+    }
+
+    /// From now on the clerk saw all that the note tells, too.
+    pub fn hear(&self, clerk: &mut Clerk<M>, note: Note<M>)
+        requires of { IsClerkOf M.frame self.now clerk.old }
+        requires note { IsNoteOf M.frame self.now note }
+        ensures of { IsClerkOf M.frame self.now clerk.new }
+        ensures seen { IsPrefix (front clerk.old) (front clerk.new) × IsPrefix (note_front note) (front clerk.new) }
+        ensures same { (number clerk.new ≡ number clerk.old) × (calls clerk.new ≡ calls clerk.old) }
+    {
+        let NoteOf { seat, front_length } = note;
+        self.table
+            .shared
+            .join_seat::<TakeNote>(&mut clerk.seat, seat);
+        self.table.shared.load::<Settle>(&mut clerk.seat, 1);
+        if clerk.front_length < front_length {
+            clerk.front_length = front_length;
+        }
+    }
+}

@@ -1,0 +1,14 @@
+//! A turnstile: clerks in many threads call one machine, one at a time, and each call is one entry of one history.
+#![tactic(auto)]
+
+mod call;
+mod clerks;
+mod close;
+mod rule;
+mod start;
+#[cfg(test)]
+mod tests;
+mod types;
+mod view;
+
+pub use types::{Clerk, ClerkOf, Note, NoteOf, Turn};

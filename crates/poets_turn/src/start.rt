@@ -1,0 +1,99 @@
+//! A turnstile is made, with its clerks.
+ghost use Rattle.std.specs.Prelude.{◌≡◌, ℕ, ◌+◌, ◌<◌, ◌≤◌, List as AnttList, [], ◌∷◌, length, All, IfOk, IfErr, slice_index_or};
+ghost use Rattle.poets_turn.specs.Steps.{first_view};
+ghost use Rattle.poets_turn.specs.Clerks.{IsAt, IsFreshAt, number, clerk_count, turn_frame, IsClerkOf, IsFresh};
+
+use crate::rule::{ForClerk, Start, Turnstile};
+use crate::types::{Clerk, ClerkOf, Place, Turn};
+use atomic_table::{Refused, Table};
+use poets_machine::Machine;
+use poets_value::List;
+use std::alloc::Global;
+use std::snapshot::Snapshot;
+
+impl<M: Machine> Turn<M> {
+    /// A turnstile for a machine that took no call yet, with its clerks, numbered from 1. For want of memory the
+    /// machine comes back.
+    pub fn start(alloc: Global, machine: M, clerks: u32) -> Result<(Turn<M>, List<Clerk<M>>), M>
+        requires clerks { (0 < clerks) × (clerks ≤ 64) }
+        requires new { M.history machine ≡ [] }
+        ensures frame { IfOk result (λ r. (turn_frame M.frame r.0 ≡ M.frame machine) × (clerk_count r.0 ≡ clerks)) }
+        ensures clerks { IfOk result (λ r. (length r.1.items ≡ clerks) × All (λ c. IsFresh M.frame r.0 c) r.1.items) }
+        ensures numbers { IfOk result (λ r. (k : ℕ) (d : _) → k < length r.1.items → number (slice_index_or r.1.items k d) ≡ k + 1) }
+        ensures err { IfErr result (λ m. m ≡ machine) }
+    {
+        let mut list = List::new(alloc);
+        if list.reserve(clerks as usize).is_err() {
+            return Err(machine);
+        }
+        let (turn, seat) = Turn::open(alloc, machine, clerks)?;
+        let first = ClerkOf {
+            seat,
+            number: 1,
+            front_length: 0,
+        };
+        turn.add_clerks(&mut list, first, clerks);
+        Ok((turn, list))
+    }
+
+    // The turnstile with its first seat.
+    fn open(alloc: Global, machine: M, clerks: u32) -> Result<(Turn<M>, Place<M>), M>
+        requires clerks { 0 < clerks }
+        requires new { M.history machine ≡ [] }
+        ensures frame { IfOk result (λ r. (turn_frame M.frame r.0 ≡ M.frame machine) × (clerk_count r.0 ≡ clerks)) }
+        ensures seat { IfOk result (λ r. (r.1.table_id ≡ r.0.table.shared.table_id) × (r.1.me ≡ (first_view (M.frame machine) clerks, []))) }
+        ensures err { IfErr result (λ m. m ≡ machine) }
+    {
+        let Ok(mut slots) = Vec::with_capacity(alloc, 1) else {
+            return Err(machine);
+        };
+        let start = Start {
+            machine: Snapshot::of(&machine),
+            clerks,
+        };
+        slots.push_reserved(Some(machine));
+        match Table::<_, _, _, Turnstile, Global>::new(alloc, &[0, 0], slots, &start) {
+            Ok((table, seat)) => Ok((Turn { table }, seat)),
+            Err(Refused { mut slots }) => {
+                let Some(Some(machine)) = slots.pop() else {
+                    unreachable!()
+                };
+                Err(machine)
+            }
+        }
+    }
+
+    // The first clerk and the others, in a list with room.
+    fn add_clerks(&self, list: &mut List<Clerk<M>>, first: Clerk<M>, clerks: u32)
+        requires room { (list.old.items ≡ []) × (clerks ≤ list.old.room) × (clerks ≡ clerk_count self.now) }
+        requires first { (first.number ≡ 1) × (first.seat.me.0.count ≡ 1) × IsFresh M.frame self.now first }
+        ensures clerks { (length list.new.items ≡ clerks) × All (λ c. IsFresh M.frame self.now c) list.new.items }
+        ensures numbers { (k : ℕ) (d : _) → k < length list.new.items → number (slice_index_or list.new.items k d) ≡ k + 1 }
+    {
+        let mut first = first;
+        for made in 1..clerks {
+            let next = self.next_clerk(&mut first, made + 1);
+            let Ok(()) = list.push(next) else {
+                unreachable!()
+            };
+        }
+        let Ok(()) = list.insert(0, first) else {
+            unreachable!()
+        };
+    }
+
+    // One more clerk. The first makes the numbers.
+    fn next_clerk(&self, first: &mut Clerk<M>, number: u32) -> Clerk<M>
+        requires of { IsFresh M.frame self.now first.old }
+        requires count { (0 < first.old.seat.me.0.count) × (number ≡ first.old.seat.me.0.count + 1) × (number ≤ clerk_count self.now) }
+        ensures first { (first.new.number ≡ first.old.number) × (first.new.seat.me.0.count ≡ number) × IsFresh M.frame self.now first.new }
+        ensures next { (result.number ≡ number) × IsFresh M.frame self.now result }
+    {
+        let seat = self.table.shared.split_seat::<ForClerk>(&mut first.seat);
+        ClerkOf {
+            seat,
+            number,
+            front_length: 0,
+        }
+    }
+}
