@@ -9,7 +9,7 @@ use std::alloc::Global;
 use std::sync::Arc;
 use std::thread::Threads;
 
-/// Takes amounts up to the most, and replies to each with the sum so far, modulo 2 to the 64th.
+/// Takes amounts that are not greater than `most`, and replies to each with the sum so far, modulo 2 to the 64th.
 #[derive(Drop)]
 pub struct Adder {
     most: u64,
@@ -18,7 +18,7 @@ pub struct Adder {
     ghost summed: { sum ≡ total (calls_of entries.items) % 2 ^ 64 },
 }
 
-/// A sum, and the number of amounts before the last one.
+/// What a turn of an adder keeps: how many amounts came before, and the sum.
 #[derive(Drop)]
 pub struct Sum {
     place: u64,
@@ -45,11 +45,11 @@ impl Adder {
         self.sum
     }
 
-    /// The number of amounts.
-    pub fn count(&self) -> usize
-        ensures { result ≡ length (⟦<Adder as Machine>⟧.history self.now) }
+    /// The amounts in the order in which they were taken, each with its clerk's number.
+    pub fn entries(&self) -> &[(u32, Arc<u64>)]
+        ensures { calls_of result.now ≡ ⟦<Adder as Machine>⟧.history self.now }
     {
-        self.entries.len()
+        self.entries.as_slice()
     }
 }
 

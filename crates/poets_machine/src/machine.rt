@@ -20,21 +20,27 @@ pub trait Machine: Drop {
 
     /// What a turn leaves to be finished.
     type Kept: Drop;
+
     /// What no turn changes. No value of it is made.
     type Frame;
 
     /// The calls that the machine took, each with its clerk's number.
     ghost history: { Self → List (ℕ × Self.Call) };
 
+    /// What no turn changes of the machine.
     ghost frame: { Self → Self.Frame };
-    /// Whether machines of this frame take this call.
+
+    /// Machines of this frame take this call.
     ghost takes: { Self.Frame → Self.Call → Type 0 };
-    /// After the calls before it, the clerk's call has this reply.
+
+    /// After these calls, the clerk's call has this reply.
     ghost answers: { Self.Frame → List (ℕ × Self.Call) → ℕ → Self.Call → Self.Reply → Type 0 };
-    /// After the calls before it, this was kept of the clerk's call.
+
+    /// After these calls, this is kept of the clerk's call.
     ghost owes: { Self.Frame → List (ℕ × Self.Call) → ℕ → Self.Call → Self.Kept → Type 0 };
 
-    /// Takes a call of the clerk. After want of memory the history is as before.
+    /// Takes a call of the clerk: the history has it at the end, and what is kept is owed after the calls before it. After
+    /// want of memory the history is as before.
     fn turn<R: Threads + Sync>(
         &mut self,
         rt: &R,
@@ -50,9 +56,10 @@ pub trait Machine: Drop {
             × owes (frame self.old) (history self.old) clerk (arc_value call.now) kept)
             (λ _. history self.new ≡ history self.old) };
 
-    /// The number of calls that stood before this one.
+    /// How many calls stood before this one.
     fn place(kept: &Self::Kept) -> u64
-        ensures { (f : Self.Frame) (before : List (ℕ × Self.Call)) (clerk : ℕ) (call : Self.Call) → owes f before clerk call kept.now → result ≡ length before };
+        ensures { (f : Self.Frame) (before : List (ℕ × Self.Call)) (clerk : ℕ) (call : Self.Call)
+            → owes f before clerk call kept.now → result ≡ length before };
 
     /// The reply to the call, whatever the machine did since.
     fn finish<R: Threads + Sync>(
@@ -61,5 +68,6 @@ pub trait Machine: Drop {
         kept: Self::Kept,
     ) -> Result<Self::Reply, Memory>
         requires sync { IsSync R.row }
-        ensures { IfOk result (λ reply. (f : Self.Frame) (before : List (ℕ × Self.Call)) (clerk : ℕ) (call : Self.Call) → owes f before clerk call kept → answers f before clerk call reply) };
+        ensures { IfOk result (λ reply. (f : Self.Frame) (before : List (ℕ × Self.Call)) (clerk : ℕ) (call : Self.Call)
+            → owes f before clerk call kept → answers f before clerk call reply) };
 }

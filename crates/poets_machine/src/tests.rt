@@ -14,6 +14,6 @@ fn a_reply_is_finished_after_other_turns(rt: HostRuntime) -> Result<(), Fail> {
     assert_eq!(rt; Adder::finish(&rt, alloc, two)?, 10);
     assert_eq!(rt; Adder::finish(&rt, alloc, one)?, 5);
     assert_eq!(rt; adder.sum(), 10);
-    assert_eq!(rt; adder.count(), 2);
+    assert_eq!(rt; adder.entries().len(), 2);
     Ok(())
 }

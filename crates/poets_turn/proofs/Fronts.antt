@@ -1,7 +1,7 @@
 -- Beginnings of one list.
 use Rattle.std.proofs.Common.{◌≡◌, ℕ, ◌≤◌, Bool, true, false, List, [], ◌∷◌, ◌++◌, length, refl, ap, sym, ◌∙◌, arith, append_assoc, length-append, if◌then◌else◌}
 use Rattle.std.proofs.lemmas.List.{append-nil}
-use Rattle.std.proofs.Math.Dec.{ltb}
+use Rattle.std.specs.Prelude.{ltb}
 use mathlib.Core.List.{IsPrefix}
 use Rattle.poets_machine.specs.Histories.{own_calls}
 use Rattle.poets_machine.proofs.Histories.{own_calls-append}

@@ -11,7 +11,7 @@ use Rattle.poets_turn.specs.declared.view.Setting.{Setting}
 use Rattle.poets_turn.specs.declared.view.Stage.TheVariants.{Idle}
 use Rattle.poets_turn.specs.Turnstile.{OnlyClerks}
 use Rattle.poets_turn.specs.Steps.{Served, Holds}
-use Rattle.poets_turn.specs.Clerks.{HasCalled}
+use Rattle.poets_turn.specs.Clerks.{IsCall}
 
 module _ {A E : Type 0} where
   pub match_ok : (r : Result A E) (P R : A → Type 0) (Q S : E → Type 0) → true ≡ is_ok r → MatchResult r P Q → ((a : A) → P a → R a) → MatchResult r R S
@@ -27,7 +27,7 @@ module _ {M C F K : Type 0} (history : M → List (ℕ × C)) (frame : M → F) 
   pub called : (owes : List (ℕ × C) → ℕ → C → K → Type 0) (v w : View C F) (t : ℕ) (x y : M) (m : Me (Option M) (View C F)) (k : ℕ) (c : C) (kept : K) (u : Setting F)
       → Holds history frame v t x None m → Served history frame v t x → v.setting ≡ Some u → v.number ≡ k → 0 < k
       → history y ≡ history x ++ (k, c) ∷ [] → owes (history x) k c kept → t + 1 < 2 ^ 64 → w ≡ record m.0 { stage = Idle; front = history y; calls = m.0.calls ++ c ∷ [] }
-      → HasCalled owes u.clerks k c kept v.front w.front v.calls w.calls
+      → IsCall owes u.clerks k c kept v.front w.front v.calls w.calls
   called owes v w t x y m k c kept u holds h has is low adds owed fits now =
       let e = ap (λ m. m.0) holds in let setting = h.setting u has in let few : k ≤ u.clerks = let a = setting.2 in omega arith in
       let front : w.front ≡ history x ++ (k, c) ∷ [] = ap (λ z. z.front) now ∙ adds in

@@ -15,7 +15,7 @@ use Rattle.poets_turn.specs.declared.view.View.{View}
 use Rattle.poets_turn.specs.declared.view.Setting.{Setting}
 use Rattle.poets_turn.specs.declared.view.Stage.{Stage}
 use Rattle.poets_turn.specs.declared.view.Stage.TheVariants.{Idle, Serving}
-use Rattle.poets_turn.specs.Turnstile.{Numbers, Meaning, HasTicket, HasEnded, OnlyClerks, longer, known, IsKnown, IsEnded, IsClerk, Fits, IsHome, IsHeld, HasNumber, Rule}
+use Rattle.poets_turn.specs.Turnstile.{Numbers, Meaning, HasTicket, HasEnded, OnlyClerks, longer, known, IsKnown, IsEnded, IsClerk, Fits, IsInSlot, IsHeld, HasNumber, Rule}
 use Rattle.poets_turn.specs.Steps.{first_view, note_view, one_more, next_clerk, with_note, with_clerk, empty_view}
 use Rattle.poets_turn.proofs.Fronts.{prefix_nil, longer_nil, longer_left, longer_right}
 use Rattle.poets_turn.proofs.Places.{put, put_here, put_else, moved, moved_here, moved_else, at_below, at_end, one_there, still, each_stays}
@@ -355,7 +355,7 @@ module _ {M C F : Type 0} (history : M → List (ℕ × C)) (frame : M → F) (f
       → (x : M) × (get_elem? xs 0 ≡ some (Some x)) × (frame x ≡ f) × IsPrefix v.front (history x) × OnlyClerks clerks (history x) × (v.calls ≡ own_calls v.number (history x))
       × All (λ e. e.1 ≡ own_calls e.0 (history x)) v.ended
   closes ws xs id v final idle mine all = let s = final.0 in let r = final.1.0 in let at = final.1.1 in let m = r.meaning in let q = r.each_seat id v at in
-      let i : IsHome history frame f m.log s.homes = ⊎_elim (λ i. i) (λ (o : IsHeld m.serving (m.ticket_seat m.serving) m.log s.homes s.views). absurd (no_holder s r id v at idle mine all o)) r.machine in (
+      let i : IsInSlot history frame f m.log s.homes = ⊎_elim (λ i. i) (λ (o : IsHeld m.serving (m.ticket_seat m.serving) m.log s.homes s.views). absurd (no_holder s r id v at idle mine all o)) r.machine in (
         i.machine,
         final.4 0 (Some i.machine) (ap (λ hs. get_elem? hs 0) i.home),
         i.frame_is,

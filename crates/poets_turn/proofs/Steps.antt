@@ -18,7 +18,7 @@ use Rattle.poets_turn.specs.declared.view.View.{View}
 use Rattle.poets_turn.specs.declared.view.Setting.{Setting}
 use Rattle.poets_turn.specs.declared.view.Stage.{Stage}
 use Rattle.poets_turn.specs.declared.view.Stage.TheVariants.{Idle, Waiting, Serving}
-use Rattle.poets_turn.specs.Turnstile.{Numbers, Meaning, FitsStage, HasTicket, HasEnded, OnlyClerks, longer, known, IsKnown, IsEnded, Fits, IsHome, IsHeld, HasNumber, TicketsHeld, NumbersHeld, Rule}
+use Rattle.poets_turn.specs.Turnstile.{Numbers, Meaning, FitsStage, HasTicket, HasEnded, OnlyClerks, longer, known, IsKnown, IsEnded, Fits, IsInSlot, IsHeld, HasNumber, TicketsHeld, NumbersHeld, Rule}
 use Rattle.poets_turn.specs.Steps.{AfterDraw, AfterLook, AfterEntry, AfterPass, AfterSettling}
 use Rattle.poets_turn.proofs.Fronts.{prefix_self, prefix_nil, prefix_trans, own_between, longer_one, longer_nil, longer_left}
 use Rattle.poets_turn.proofs.Places.{put, put_here, put_else, at_below, one_there, still, each_stays}
@@ -180,7 +180,7 @@ module _ {M C F : Type 0} (history : M → List (ℕ × C)) (frame : M → F) (f
       no_waiting t e = cc
 
   -- a ticket that is served while its seat waits finds the machine at home
-  at_home : (s : St) (r : Kept s) (t id : ℕ) (v : V) → get_elem? s.views id ≡ some v → v.stage ≡ Waiting t → t ≡ r.meaning.serving → IsHome history frame f r.meaning.log s.homes
+  at_home : (s : St) (r : Kept s) (t id : ℕ) (v : V) → get_elem? s.views id ≡ some v → v.stage ≡ Waiting t → t ≡ r.meaning.serving → IsInSlot history frame f r.meaning.log s.homes
   at_home s r t id v at waits now = let m = r.meaning in let mine = subst (FitsStage m id) waits (r.each_seat id v at).stage in
       ⊎_elim (λ i. i) (λ (o : IsHeld m.serving (m.ticket_seat m.serving) m.log s.homes s.views).
       let e : id ≡ m.ticket_seat m.serving = sym mine.2 ∙ ap m.ticket_seat now in

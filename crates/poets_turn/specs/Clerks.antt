@@ -1,5 +1,5 @@
 -- What contracts say of a turnstile, its clerks and its notes.
-use Rattle.std.specs.Prelude.{◌≡◌, ◌⊎◌, ℕ, ◌<◌, ◌^◌, List, [], ◌∷◌, ◌++◌, length, Option, Some, Contains}
+use Rattle.std.specs.Prelude.{◌≡◌, ◌⊎◌, ℕ, ◌+◌, ◌<◌, ◌≤◌, ◌^◌, List, [], ◌∷◌, ◌++◌, length, map, slice_index_or, Option, Some, Contains}
 use mathlib.Core.List.{IsPrefix}
 use Rattle.atomic_table.specs.declared.shared.Seat.{Seat}
 use Rattle.poets_machine.specs.Histories.{own_calls}
@@ -31,21 +31,23 @@ module _ {M C R K F : Type 0} where
     pub calls : it.me.0.calls ≡ []
 
 module _ {M C F : Type 0} where
+  -- the clerk's number, from 1
   abbrev pub number : ClerkOf M C F → ℕ
   number clerk = clerk.number
 
-  -- the beginning of the history that the clerk saw
+  -- what the clerk saw of the history, which is a beginning of it
   abbrev pub front : ClerkOf M C F → List (ℕ × C)
   front clerk = clerk.seat.me.0.front
 
-  -- the calls that the clerk made
+  -- the clerk's own calls, in order
   abbrev pub calls : ClerkOf M C F → List C
   calls clerk = clerk.seat.me.0.calls
 
-  -- the beginning of the history that the note tells
+  -- what the writer of the note had seen of the history
   abbrev pub note_front : NoteOf M C F → List (ℕ × C)
   note_front note = note.seat.me.0.front
 
+  -- the clerk is one of the turnstile's
   abbrev pub IsClerkOf : {R K : Type 0} → (M → F) → Turn M C R K F → ClerkOf M C F → Type 0
   IsClerkOf frame turn clerk = IsAt frame turn clerk.seat
 
@@ -53,25 +55,43 @@ module _ {M C F : Type 0} where
   abbrev pub IsFresh : {R K : Type 0} → (M → F) → Turn M C R K F → ClerkOf M C F → Type 0
   IsFresh frame turn clerk = IsFreshAt frame turn clerk.seat
 
+  -- the note is of one of the turnstile's clerks
   abbrev pub IsNoteOf : {R K : Type 0} → (M → F) → Turn M C R K F → NoteOf M C F → Type 0
   IsNoteOf frame turn note = IsAt frame turn note.seat
 
--- a clerk of the number, of so many, made the call: it saw this and now that, and had made these calls and now those
-pub record HasCalled {C K : Type 0} (owes : List (ℕ × C) → ℕ → C → K → Type 0) (count number : ℕ) (call : C) (kept : K) (saw saw' : List (ℕ × C)) (made made' : List C) : Type 0 where
-  -- the entries before the call, which go on from what the clerk had seen
+  -- the clerks have the numbers 1, 2 and so on
+  abbrev pub AreNumbered : List (ClerkOf M C F) → Type 0
+  AreNumbered clerks = (k : ℕ) (d : ClerkOf M C F) → k < length clerks → number (slice_index_or clerks k d) ≡ k + 1
+
+  -- each number up to the count is that of one of the clerks
+  abbrev pub AreAll : ℕ → List (ClerkOf M C F) → Type 0
+  AreAll count clerks = (k : ℕ) → 0 < k → k ≤ count → Contains (map (λ c. number c) clerks) k
+
+-- the clerk of a number, of so many, made the call, of which this was kept: it saw and had made this before, and that after
+pub record IsCall {C K : Type 0} (owes : List (ℕ × C) → ℕ → C → K → Type 0) (count number : ℕ) (call : C) (kept : K) (saw saw' : List (ℕ × C)) (made made' : List C) : Type 0 where
+  -- the entries before the call, which begin with what the clerk had seen
   pub before : List (ℕ × C)
   pub longer : IsPrefix saw before
   -- the call is the last entry that the clerk saw, under its number
   pub last : saw' ≡ before ++ (number, call) ∷ []
   -- what was kept is owed there
   pub owed : owes before number call kept
-  -- the call is one more of the clerk's own, and what it saw has just these of it
+  -- it is one more of the clerk's own calls
   pub calls : made' ≡ made ++ call ∷ []
+  -- of this clerk, what it saw has just its own calls
   pub own : own_calls number saw' ≡ made'
+  -- each entry that it saw is under the number of a clerk
   pub clerks : OnlyClerks count saw'
+  -- and their number is one of the machine's numbers
   pub short : length saw' < 2 ^ 64
 
--- the history begins with all that the clerk of the number saw, and has just the calls of it that it made
+module _ {M C R K F T : Type 0} where
+  -- the clerk made the call, and this was kept of it
+  abbrev pub HasCalled : (F → List (ℕ × C) → ℕ → C → T → Type 0) → (M → F) → Turn M C R K F → C → T → (clerk clerk' : ClerkOf M C F) → Type 0
+  HasCalled owes frame turn call kept clerk clerk' =
+      IsCall (owes (turn_frame frame turn)) (clerk_count turn) (number clerk) call kept (front clerk) (front clerk') (calls clerk) (calls clerk')
+
+-- the history begins with all that the clerk of the number saw, and of this clerk it has just its own calls, each once, in order
 pub record IsClerkIn {C : Type 0} (history : List (ℕ × C)) (number : ℕ) (saw : List (ℕ × C)) (made : List C) : Type 0 where
   pub front : IsPrefix saw history
   pub calls : own_calls number history ≡ made

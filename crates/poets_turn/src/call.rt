@@ -2,7 +2,7 @@
 ghost use Rattle.std.specs.Prelude.{◌≡◌, ◌⊎◌, length, ℕ, ◌+◌, ◌^◌, ◌<◌, List, [], ◌∷◌, ◌++◌, None, Some, MatchResult};
 ghost use Rattle.std.specs.Arc.{arc_value};
 ghost use Rattle.poets_turn.specs.Steps.{Served, Holds};
-ghost use Rattle.poets_turn.specs.Clerks.{IsAt, HasCalled, front, calls, number, clerk_count, turn_frame, IsClerkOf};
+ghost use Rattle.poets_turn.specs.Clerks.{IsAt, IsCall, HasCalled, front, calls, number, clerk_count, turn_frame, IsClerkOf};
 ghost use Rattle.poets_turn.specs.declared.view.Stage.TheVariants.{Idle, Waiting, Serving};
 
 use crate::rule::{Draw, Enter, Look, Pass};
@@ -29,7 +29,7 @@ impl<M: Machine> Turn<M> {
         ensures of { IsClerkOf M.frame self.now clerk.new }
         ensures number { number clerk.new ≡ number clerk.old }
         ensures call { MatchResult result
-            (λ kept. HasCalled (M.owes (turn_frame M.frame self.now)) (clerk_count self.now) (number clerk.old) (arc_value call.now) kept (front clerk.old) (front clerk.new) (calls clerk.old) (calls clerk.new))
+            (λ kept. HasCalled M.owes M.frame self.now (arc_value call.now) kept clerk.old clerk.new)
             (λ _. (front clerk.new ≡ front clerk.old) × (calls clerk.new ≡ calls clerk.old)) }
     {
         let number = clerk.number;
@@ -55,7 +55,8 @@ impl<M: Machine> Turn<M> {
         ensures of { IsAt M.frame self.now seat.new }
         ensures same { (seat.new.id ≡ seat.old.id) × (seat.new.me.0.number ≡ number) × (seat.new.me.0.stage ≡ Idle) × (seat.new.me.1 ≡ []) × (seat.new.me.0.heard ≡ []) }
         ensures call { MatchResult result
-            (λ kept. HasCalled (M.owes (turn_frame M.frame self.now)) (clerk_count self.now) number (arc_value call.now) kept seat.old.me.0.front seat.new.me.0.front seat.old.me.0.calls seat.new.me.0.calls)
+            (λ kept. IsCall (M.owes (turn_frame M.frame self.now)) (clerk_count self.now) number (arc_value call.now) kept
+            seat.old.me.0.front seat.new.me.0.front seat.old.me.0.calls seat.new.me.0.calls)
             (λ _. (seat.new.me.0.front ≡ seat.old.me.0.front) × (seat.new.me.0.calls ≡ seat.old.me.0.calls)) }
     {
         let (ticket, mut machine) = self.take_machine(rt, seat);

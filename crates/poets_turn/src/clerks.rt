@@ -1,12 +1,11 @@
 //! What clerks tell of themselves and tell each other.
-ghost use Rattle.std.specs.Prelude.{◌≡◌, ℕ, ◌+◌, ◌<◌, ◌≤◌, List, [], ◌∷◌, length, IfOk};
+ghost use Rattle.std.specs.Prelude.{◌≡◌, ℕ, ◌+◌, ◌<◌, ◌≤◌, List, [], ◌∷◌, length};
 ghost use mathlib.Core.List.{IsPrefix};
 ghost use Rattle.poets_turn.specs.Clerks.{front, calls, number, note_front, IsClerkOf, IsNoteOf};
 
 use crate::rule::{ForNote, Settle, TakeNote};
 use crate::types::{Clerk, ClerkOf, Note, NoteOf, Turn};
 use poets_machine::Machine;
-use poets_value::Memory;
 
 impl<M, C, F> ClerkOf<M, C, F> {
     /// The clerk's number.
@@ -25,18 +24,18 @@ impl<M, C, F> ClerkOf<M, C, F> {
 }
 
 impl<M: Machine> Turn<M> {
-    /// A copy of what the clerk saw.
-    pub fn note(&self, clerk: &mut Clerk<M>) -> Result<Note<M>, Memory>
+    /// A note of what the clerk saw, for another clerk of the turnstile to hear.
+    pub fn note(&self, clerk: &mut Clerk<M>) -> Note<M>
         requires of { IsClerkOf M.frame self.now clerk.old }
         ensures of { IsClerkOf M.frame self.now clerk.new }
-        ensures note { IfOk result (λ n. IsNoteOf M.frame self.now n × (note_front n ≡ front clerk.old)) }
+        ensures note { IsNoteOf M.frame self.now result × (note_front result ≡ front clerk.old) }
         ensures same { (number clerk.new ≡ number clerk.old) × (front clerk.new ≡ front clerk.old) × (calls clerk.new ≡ calls clerk.old) }
     {
         let seat = self.table.shared.split_seat::<ForNote>(&mut clerk.seat);
-        Ok(NoteOf {
+        NoteOf {
             seat,
             front_length: clerk.front_length,
-        })
+        }
     }
 
     /// From now on the clerk saw all that the note tells, too.

@@ -1,6 +1,6 @@
 //! The clerks go, and the machine comes back.
 ghost use Rattle.std.specs.Prelude.{◌≡◌, ℕ, ◌<◌, ◌≤◌, List as AnttList, [], ◌∷◌, length, map, All, Contains};
-ghost use Rattle.poets_turn.specs.Clerks.{KnowsClerk, IsClerkIn, front, calls, number, clerk_count, turn_frame, IsClerkOf};
+ghost use Rattle.poets_turn.specs.Clerks.{AreAll, KnowsClerk, IsClerkIn, front, calls, number, clerk_count, turn_frame, IsClerkOf};
 ghost use Rattle.poets_turn.specs.Turnstile.{OnlyClerks};
 ghost use Rattle.poets_turn.specs.declared.view.Stage.TheVariants.{Idle};
 
@@ -13,7 +13,7 @@ impl<M: Machine> Turn<M> {
     /// Ends the turnstile with all its clerks. The machine's history has the calls of each, in order, and no others.
     pub fn close(self, clerks: List<Clerk<M>>) -> M
         requires of { All (λ c. IsClerkOf M.frame self c) clerks.items }
-        requires all { (k : ℕ) → 0 < k → k ≤ clerk_count self → Contains (map (λ c. number c) clerks.items) k }
+        requires all { AreAll (clerk_count self) clerks.items }
         ensures frame { M.frame result ≡ turn_frame M.frame self }
         ensures clerks { All (λ c. IsClerkIn (M.history result) (number c) (front c) (calls c)) clerks.items }
         ensures numbers { OnlyClerks (clerk_count self) (M.history result) }

@@ -1,7 +1,7 @@
 //! A turnstile is made, with its clerks.
 ghost use Rattle.std.specs.Prelude.{◌≡◌, ℕ, ◌+◌, ◌<◌, ◌≤◌, List as AnttList, [], ◌∷◌, length, All, IfOk, IfErr, slice_index_or};
 ghost use Rattle.poets_turn.specs.Steps.{first_view};
-ghost use Rattle.poets_turn.specs.Clerks.{IsAt, IsFreshAt, number, clerk_count, turn_frame, IsClerkOf, IsFresh};
+ghost use Rattle.poets_turn.specs.Clerks.{IsAt, IsFreshAt, number, AreNumbered, clerk_count, turn_frame, IsClerkOf, IsFresh};
 
 use crate::rule::{ForClerk, Start, Turnstile};
 use crate::types::{Clerk, ClerkOf, Place, Turn};
@@ -19,7 +19,7 @@ impl<M: Machine> Turn<M> {
         requires new { M.history machine ≡ [] }
         ensures frame { IfOk result (λ r. (turn_frame M.frame r.0 ≡ M.frame machine) × (clerk_count r.0 ≡ clerks)) }
         ensures clerks { IfOk result (λ r. (length r.1.items ≡ clerks) × All (λ c. IsFresh M.frame r.0 c) r.1.items) }
-        ensures numbers { IfOk result (λ r. (k : ℕ) (d : _) → k < length r.1.items → number (slice_index_or r.1.items k d) ≡ k + 1) }
+        ensures numbers { IfOk result (λ r. AreNumbered r.1.items) }
         ensures err { IfErr result (λ m. m ≡ machine) }
     {
         let mut list = List::new(alloc);
@@ -68,7 +68,7 @@ impl<M: Machine> Turn<M> {
         requires room { (list.old.items ≡ []) × (clerks ≤ list.old.room) × (clerks ≡ clerk_count self.now) }
         requires first { (first.number ≡ 1) × (first.seat.me.0.count ≡ 1) × IsFresh M.frame self.now first }
         ensures clerks { (length list.new.items ≡ clerks) × All (λ c. IsFresh M.frame self.now c) list.new.items }
-        ensures numbers { (k : ℕ) (d : _) → k < length list.new.items → number (slice_index_or list.new.items k d) ≡ k + 1 }
+        ensures numbers { AreNumbered list.new.items }
     {
         let mut first = first;
         for made in 1..clerks {
