@@ -5,6 +5,7 @@ ghost use Rattle.poets_turn.specs.Steps.{Served, Holds};
 ghost use Rattle.poets_turn.specs.Clerks.{IsAt, IsCall, HasCalled, front, calls, number, clerk_count, turn_frame, IsClerkOf};
 ghost use Rattle.poets_turn.specs.declared.view.Stage.TheVariants.{Idle, Waiting, Serving};
 
+use crate::bells::Patience;
 use crate::rule::{Draw, Enter, Look, Pass};
 use crate::types::{Clerk, Place, Turn};
 use poets_machine::Machine;
@@ -100,12 +101,13 @@ impl<M: Machine> Turn<M> {
         ensures same { (seat.new.table_id ≡ seat.old.table_id) × (seat.new.id ≡ seat.old.id) }
         ensures holds { (machine : M) × Holds M.history M.frame seat.old.me.0 ticket machine (Some machine) seat.new.me × Served M.history M.frame seat.old.me.0 ticket machine }
     {
+        let mut patience = Patience::new();
         for _ in rt.forever() {
             let serving = self.table.shared.load::<Look>(seat, 1);
             if serving == ticket {
                 return;
             }
-            thread::yield_now();
+            self.bells.wait(rt, ticket, serving, &mut patience);
         }
         unreachable!()
     }
@@ -138,6 +140,7 @@ impl<M: Machine> Turn<M> {
     {
         self.table.shared.exchange(seat, 0, Some(machine));
         self.table.shared.store::<Enter>(seat, 1, ticket + 1);
+        self.bells.ring(ticket + 1);
     }
 
     // Puts the machine back as it was, and hands the turn on.
@@ -150,5 +153,6 @@ impl<M: Machine> Turn<M> {
     {
         self.table.shared.exchange(seat, 0, Some(machine));
         self.table.shared.store::<Pass>(seat, 1, ticket + 1);
+        self.bells.ring(ticket + 1);
     }
 }

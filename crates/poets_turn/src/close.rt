@@ -19,7 +19,7 @@ impl<M: Machine> Turn<M> {
         ensures numbers { OnlyClerks (clerk_count self) (M.history result) }
     {
         let seat = self.gather(clerks);
-        let Turn { table } = self;
+        let Turn { table, bells: _ } = self;
         let mut closed = table.close_with(seat);
         let Some(machine) = closed.take(0) else {
             unreachable!()

@@ -1,6 +1,7 @@
 //! A turnstile: clerks in many threads call one machine, one at a time, and each call is one entry of one history.
 #![tactic(auto)]
 
+mod bells;
 mod call;
 mod clerks;
 mod close;

@@ -3,6 +3,7 @@ ghost use Rattle.std.specs.Prelude.{◌≡◌, ℕ, ◌+◌, ◌<◌, ◌≤◌,
 ghost use Rattle.poets_turn.specs.Steps.{first_view};
 ghost use Rattle.poets_turn.specs.Clerks.{IsAt, IsFreshAt, number, AreNumbered, clerk_count, turn_frame, IsClerkOf, IsFresh};
 
+use crate::bells::Bells;
 use crate::rule::{ForClerk, Start, Turnstile};
 use crate::types::{Clerk, ClerkOf, Place, Turn};
 use atomic_table::{Refused, Table};
@@ -47,13 +48,16 @@ impl<M: Machine> Turn<M> {
         let Ok(mut slots) = Vec::with_capacity(alloc, 1) else {
             return Err(machine);
         };
+        let Ok(bells) = Bells::silent(alloc) else {
+            return Err(machine);
+        };
         let start = Start {
             machine: Snapshot::of(&machine),
             clerks,
         };
         slots.push_reserved(Some(machine));
         match Table::<_, _, _, Turnstile, Global>::new(alloc, &[0, 0], slots, &start) {
-            Ok((table, seat)) => Ok((Turn { table }, seat)),
+            Ok((table, seat)) => Ok((Turn { table, bells }, seat)),
             Err(Refused { mut slots }) => {
                 let Some(Some(machine)) = slots.pop() else {
                     unreachable!()

@@ -2,6 +2,7 @@
 ghost use Rattle.std.specs.Prelude.{◌≡◌, ℕ, ◌<◌, List, [], length};
 ghost use Rattle.poets_turn.specs.declared.view.Stage.TheVariants.{Idle};
 
+use crate::bells::Bells;
 use crate::rule::{Start, Turnstile};
 use crate::view::View;
 use atomic_table::{Seat, Table};
@@ -12,6 +13,7 @@ use std::alloc::Global;
 #[derive(Drop)]
 pub struct Turn<M: Machine> {
     pub(crate) table: Table<Option<M>, View<M::Call, M::Frame>, Start<M>, Turnstile, Global>,
+    pub(crate) bells: Bells,
     pub(crate) ghost sized: { (table.shared.table_id.words ≡ 2) × (table.shared.table_id.slots ≡ 1) },
     pub(crate) ghost some_clerk: { 0 < table.shared.key.clerks },
 }
