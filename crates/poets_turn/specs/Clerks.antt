@@ -82,7 +82,7 @@ pub record IsCall {C K : Type 0} (owes : List (ℕ × C) → ℕ → C → K →
   pub own : own_calls number saw' ≡ made'
   -- each entry that it saw is under the number of a clerk
   pub clerks : OnlyClerks count saw'
-  -- and their number is one of the machine's numbers
+  -- and they can be counted in 64 bits
   pub short : length saw' < 2 ^ 64
 
 module _ {M C R K F T : Type 0} where
