@@ -1,5 +1,5 @@
 //! One call: a ticket is drawn and waited for, the machine takes the call, and the turn is handed on.
-ghost use Rattle.std.specs.Prelude.{◌≡◌, ◌⊎◌, length, ℕ, ◌+◌, ◌^◌, ◌<◌, List, [], ◌∷◌, ◌++◌, None, Some, MatchResult};
+ghost use Rattle.std.specs.Prelude.{◌≡◌, ℕ, ◌+◌, ◌^◌, ◌<◌, List, [], ◌∷◌, ◌++◌, None, Some, MatchResult};
 ghost use Rattle.std.specs.Arc.{arc_value};
 ghost use Rattle.poets_turn.specs.Steps.{Served, Holds};
 ghost use Rattle.poets_turn.specs.Clerks.{IsAt, IsCall, HasCalled, front, calls, number, clerk_count, turn_frame, IsClerkOf};

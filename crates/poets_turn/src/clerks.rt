@@ -1,5 +1,5 @@
 //! What clerks tell of themselves and tell each other.
-ghost use Rattle.std.specs.Prelude.{◌≡◌, ℕ, ◌+◌, ◌<◌, ◌≤◌, List, [], ◌∷◌, length};
+ghost use Rattle.std.specs.Prelude.{◌≡◌, ◌<◌, length};
 ghost use mathlib.Core.List.{IsPrefix};
 ghost use Rattle.poets_turn.specs.Clerks.{front, calls, number, note_front, IsClerkOf, IsNoteOf};
 

@@ -1,5 +1,5 @@
 //! The clerks go, and the machine comes back.
-ghost use Rattle.std.specs.Prelude.{◌≡◌, ℕ, ◌<◌, ◌≤◌, List as AnttList, [], ◌∷◌, length, map, All, Contains};
+ghost use Rattle.std.specs.Prelude.{◌≡◌, ℕ, ◌<◌, List as AnttList, [], length, All};
 ghost use Rattle.poets_turn.specs.Clerks.{AreAll, KnowsClerk, IsClerkIn, front, calls, number, clerk_count, turn_frame, IsClerkOf};
 ghost use Rattle.poets_turn.specs.Turnstile.{OnlyClerks};
 ghost use Rattle.poets_turn.specs.declared.view.Stage.TheVariants.{Idle};

@@ -1,7 +1,7 @@
 //! A turnstile is made, with its clerks.
-ghost use Rattle.std.specs.Prelude.{◌≡◌, ℕ, ◌+◌, ◌<◌, ◌≤◌, List as AnttList, [], ◌∷◌, length, All, IfOk, IfErr, slice_index_or};
+ghost use Rattle.std.specs.Prelude.{◌≡◌, ◌+◌, ◌<◌, ◌≤◌, [], length, All, IfOk, IfErr};
 ghost use Rattle.poets_turn.specs.Steps.{first_view};
-ghost use Rattle.poets_turn.specs.Clerks.{IsAt, IsFreshAt, number, AreNumbered, clerk_count, turn_frame, IsClerkOf, IsFresh};
+ghost use Rattle.poets_turn.specs.Clerks.{number, AreNumbered, clerk_count, turn_frame, IsFresh};
 
 use crate::bells::Bells;
 use crate::rule::{ForClerk, Start, Turnstile};

@@ -1,5 +1,5 @@
 //! The turnstile, its clerks and their notes.
-ghost use Rattle.std.specs.Prelude.{◌≡◌, ℕ, ◌<◌, List, [], length};
+ghost use Rattle.std.specs.Prelude.{◌≡◌, ◌<◌, [], length};
 ghost use Rattle.poets_turn.specs.declared.view.Stage.TheVariants.{Idle};
 
 use crate::bells::Bells;
