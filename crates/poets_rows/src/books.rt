@@ -1,7 +1,6 @@
-//! Books that `check` accepts, and the templates and reports that other tests share.
+//! Books that `check` accepts, and the templates and reports that other rows share.
 
-use crate::program::{checks, joined};
-use std::test::Fail;
+use crate::table::Line::{self, Row, Text, Written};
 
 /// The agents and the kinds of most tests.
 pub(crate) const HEAD: &str = "agents ann, bob;; kinds Oil, USD;;\n";
@@ -27,24 +26,25 @@ pub(crate) const SUM: &str =
 pub(crate) const MOVED: &str =
     "report moved(): Int = fold x = 0 with (s, v, r, t) in x + amount(r) by kind(r);;\n";
 
-#[test]
-fn a_book_is_counted(rt: HostRuntime) -> Result<(), Fail> {
-    let text = joined(rt.alloc(), &[HEAD, SALE, QUOTIENT, ANY, MOVED, SUM])?;
-    let line = "book: templates 3, reports 2\n";
-    checks(&rt, rt.alloc(), text.as_str(), line)
-}
-
-#[test]
-fn a_book_sees_what_is_declared_after(rt: HostRuntime) -> Result<(), Fail> {
-    let text = joined(rt.alloc(), &[SALE, MOVED, HEAD])?;
-    let line = "book: templates 1, reports 1\n";
-    checks(&rt, rt.alloc(), text.as_str(), line)
-}
-
-#[test]
-fn small_books_are_accepted(rt: HostRuntime) -> Result<(), Fail> {
-    let guarded = "template h() = transmit(a, b, r, t | true). h() + Success;;";
-    let line = "book: templates 1, reports 0\n";
-    checks(&rt, rt.alloc(), guarded, line)?;
-    checks(&rt, rt.alloc(), "", "book: templates 0, reports 0\n")
-}
+// Books that `check` accepts.
+pub(crate) const BOOKS: [Line; 19] = [
+    Row("a book is counted"),
+    Text(HEAD),
+    Text(SALE),
+    Text(QUOTIENT),
+    Text(ANY),
+    Text(MOVED),
+    Text(SUM),
+    Written("book: templates 3, reports 2\n"),
+    Row("a book sees what is declared after"),
+    Text(SALE),
+    Text(MOVED),
+    Text(HEAD),
+    Written("book: templates 1, reports 1\n"),
+    Row("a small book is accepted"),
+    Text("template h() = transmit(a, b, r, t | true). h() + Success;;"),
+    Written("book: templates 1, reports 0\n"),
+    Row("an empty book is accepted"),
+    Text(""),
+    Written("book: templates 0, reports 0\n"),
+];

@@ -22,12 +22,16 @@ mod refusals;
 #[cfg(test)]
 mod sessions;
 #[cfg(test)]
-mod steps;
-#[cfg(test)]
 mod streams;
+#[cfg(test)]
+mod table;
+#[cfg(test)]
+mod tables;
 #[cfg(test)]
 mod tallies;
 #[cfg(test)]
 mod templates;
+#[cfg(test)]
+mod texts;
 #[cfg(test)]
 mod watches;

@@ -1,21 +1,28 @@
 //! A past of many events: a transmission and a reading do not go over it again.
 
 use crate::books::{ANY, HEAD, SUM};
-use crate::program::{Answer, answered, joined, repeated};
+use crate::program::{answered, joined, repeated};
 use std::alloc::Global;
 use std::test::Fail;
 
-const WATCHES: usize = 16;
+const WATCH: &str = "watch sum()";
 
-const EVENTS: usize = 65_518;
+const WATCHES: u32 = 16;
 
 const EVENT: &str = "transmit c ann bob 1 Oil @2006-01-01";
 
+const EVENTS: u32 = 65_518;
+
+// The command, so many times.
+fn commands(alloc: Global, command: &str, count: u32) -> Result<String, Fail> {
+    let line = joined(alloc, &[command, ";;\n"])?;
+    repeated(alloc, line.as_str(), count as usize)
+}
+
 // A registration, the watches, the events, and a reading of the last watch.
 fn session(alloc: Global) -> Result<String, Fail> {
-    let watches = repeated(alloc, "watch sum();;\n", WATCHES)?;
-    let event = joined(alloc, &[EVENT, ";;\n"])?;
-    let events = repeated(alloc, event.as_str(), EVENTS)?;
+    let watches = commands(alloc, WATCH, WATCHES)?;
+    let events = commands(alloc, EVENT, EVENTS)?;
     let pieces = [
         HEAD,
         ANY,
@@ -28,25 +35,17 @@ fn session(alloc: Global) -> Result<String, Fail> {
     joined(alloc, &pieces)
 }
 
-// The lines of the watches, which stand after the registration.
-fn watching(alloc: Global) -> Result<String, Fail> {
+// The lines of such commands, so many after the first ones. A reply counts the commands.
+fn replies(
+    alloc: Global,
+    command: &str,
+    (past, count): (u32, u32),
+    (before, after): (&str, &str),
+) -> Result<String, Fail> {
     let mut text = String::new(alloc);
-    for place in 0..WATCHES {
-        let watch = place + 1;
-        let number = place + 2;
-        let line = format!(in alloc; "{number} 1: watch sum() => watching {watch}\n")?;
-        text.push_str(line.as_str())?;
-    }
-    Ok(text)
-}
-
-// The lines of the events, which stand after the watches.
-fn recorded(alloc: Global) -> Result<String, Fail> {
-    let mut text = String::new(alloc);
-    for place in 0..EVENTS {
-        let count = place + 1;
-        let number = place + 18;
-        let line = format!(in alloc; "{number} 1: {EVENT} => recorded {count}, may end yes\n")?;
+    for place in 1..=count {
+        let number = past as u64 + place as u64;
+        let line = format!(in alloc; "{number} 1: {command} => {before}{place}{after}\n")?;
         text.push_str(line.as_str())?;
     }
     Ok(text)
@@ -56,17 +55,15 @@ fn recorded(alloc: Global) -> Result<String, Fail> {
 fn a_long_past_is_not_gone_over_again(rt: HostRuntime) -> Result<(), Fail> {
     let alloc = rt.alloc();
     let text = session(alloc)?;
-    let watching = watching(alloc)?;
-    let recorded = recorded(alloc)?;
-    let answer = Answer {
-        status: 0,
-        entries: 65_536,
-        lines: &[
-            "1 1: register c = any() => registered 1\n",
-            watching.as_str(),
-            recorded.as_str(),
-            "65536 1: read 16 => value 65518\n",
-        ],
-    };
-    answered(&rt, alloc, "run", text.as_str(), &answer)
+    let watching = replies(alloc, WATCH, (1, WATCHES), ("watching ", ""))?;
+    let recorded = replies(alloc, EVENT, (17, EVENTS), ("recorded ", ", may end yes"))?;
+    let pieces = [
+        "1 1: register c = any() => registered 1\n",
+        watching.as_str(),
+        recorded.as_str(),
+        "65536 1: read 16 => value 65518\n",
+    ];
+    let lines = joined(alloc, &pieces)?;
+    let row = ("a long past is not gone over again", text.as_str());
+    answered(&rt, alloc, row, (0, 65_536, lines.as_str()))
 }

@@ -22,15 +22,7 @@ pub(crate) const SOUND: Edges = Edges {
     writes: &[],
 };
 
-/// What is answered to a text: the status, the number of entries, and the lines that are written.
-#[derive(Clone, Copy)]
-pub(crate) struct Answer<'a> {
-    pub status: u8,
-    pub entries: usize,
-    pub lines: &'a [&'a str],
-}
-
-// A list of these items.
+/// A list of these items.
 pub(crate) fn list<T: Copy + Drop>(alloc: Global, items: &[T]) -> Result<List<T>, Memory> {
     let mut all = List::new(alloc);
     for item in items {
@@ -47,7 +39,7 @@ pub(crate) fn all_words(alloc: Global, words: &[&str]) -> Result<Vec<String>, Fa
     Ok(all)
 }
 
-// The text that the pieces are.
+/// The text that the pieces are.
 pub(crate) fn joined(alloc: Global, pieces: &[&str]) -> Result<String, Fail> {
     let mut text = String::new(alloc);
     for piece in pieces {
@@ -56,7 +48,7 @@ pub(crate) fn joined(alloc: Global, pieces: &[&str]) -> Result<String, Fail> {
     Ok(text)
 }
 
-// The piece, so many times.
+/// The piece, so many times.
 pub(crate) fn repeated(alloc: Global, piece: &str, count: usize) -> Result<String, Fail> {
     let mut text = String::new(alloc);
     for _ in 0..count {
@@ -65,121 +57,53 @@ pub(crate) fn repeated(alloc: Global, piece: &str, count: usize) -> Result<Strin
     Ok(text)
 }
 
-// Whether the program answers the bytes so.
+/// For each number from the first to the last what stands before it, the number, and what stands after it.
+pub(crate) fn numbered(
+    alloc: Global,
+    (first, last): (u32, u32),
+    (before, after): (&str, &str),
+) -> Result<String, Fail> {
+    let mut text = String::new(alloc);
+    for number in first..=last {
+        let piece = format!(in alloc; "{before}{number}{after}")?;
+        text.push_str(piece.as_str())?;
+    }
+    Ok(text)
+}
+
+/// Whether the program, called with the words, answers the text with the status, so many entries and these lines.
 pub(crate) fn answers<R: Threads + Sync>(
     rt: &R,
     alloc: Global,
     words: &[&str],
-    bytes: List<u8>,
+    text: &str,
     edges: &Edges,
-    answer: &Answer,
+    (status, entries, lines): (u8, usize, &str),
 ) -> Result<bool, Fail> {
     let words = all_words(alloc, words)?;
+    let bytes = list(alloc, text.as_bytes())?;
     let reads = list(alloc, edges.reads)?;
     let writes = list(alloc, edges.writes)?;
-    let wanted = joined(alloc, answer.lines)?;
     let mut source = TextSource::new(alloc, bytes, edges.step.max(1), reads);
     let mut sink = TextSink::new(alloc, writes)?;
     let outcome = run(rt, alloc, words.as_slice(), &mut source, &mut sink);
     Ok(
-        outcome.status == answer.status
-            && outcome.history.len() == answer.entries
-            && sink.bytes() == wanted.as_bytes(),
+        outcome.status == status
+            && outcome.history.len() == entries
+            && sink.bytes() == lines.as_bytes(),
     )
 }
 
-// The program, called with the word, answers the text so.
+/// `run` answers the text with the status, so many entries and these lines.
 pub(crate) fn answered<R: Abort + Threads + Sync>(
     rt: &R,
     alloc: Global,
-    word: &str,
-    text: &str,
-    answer: &Answer,
+    (about, text): (&str, &str),
+    answer: (u8, usize, &str),
 ) -> Result<(), Fail> {
-    let bytes = list(alloc, text.as_bytes())?;
     assert!(rt;
-        answers(rt, alloc, &[word], bytes, &SOUND, answer)?,
-        "{word}: {text}"
+        answers(rt, alloc, &["run"], text, &SOUND, answer)?,
+        "{about}"
     );
-    Ok(())
-}
-
-// These lines are written of the text, one for each command.
-fn made<R: Abort + Threads + Sync>(
-    rt: &R,
-    alloc: Global,
-    word: &str,
-    text: &str,
-    lines: &[&str],
-) -> Result<(), Fail> {
-    let answer = Answer {
-        status: 0,
-        entries: lines.len(),
-        lines,
-    };
-    answered(rt, alloc, word, text, &answer)
-}
-
-// `run` writes these lines of the text.
-pub(crate) fn runs<R: Abort + Threads + Sync>(
-    rt: &R,
-    alloc: Global,
-    text: &str,
-    lines: &[&str],
-) -> Result<(), Fail> {
-    made(rt, alloc, "run", text, lines)
-}
-
-// `replay` writes these lines of the text.
-pub(crate) fn replays<R: Abort + Threads + Sync>(
-    rt: &R,
-    alloc: Global,
-    text: &str,
-    lines: &[&str],
-) -> Result<(), Fail> {
-    made(rt, alloc, "replay", text, lines)
-}
-
-// `check` writes this line of the text.
-pub(crate) fn checks<R: Abort + Threads + Sync>(
-    rt: &R,
-    alloc: Global,
-    text: &str,
-    line: &str,
-) -> Result<(), Fail> {
-    let answer = Answer {
-        status: 0,
-        entries: 0,
-        lines: &[line],
-    };
-    answered(rt, alloc, "check", text, &answer)
-}
-
-// The text is refused with this line.
-pub(crate) fn refused<R: Abort + Threads + Sync>(
-    rt: &R,
-    alloc: Global,
-    word: &str,
-    text: &str,
-    line: &str,
-) -> Result<(), Fail> {
-    let answer = Answer {
-        status: 1,
-        entries: 0,
-        lines: &[line],
-    };
-    answered(rt, alloc, word, text, &answer)
-}
-
-// Each text is refused with its line.
-pub(crate) fn all_refused<R: Abort + Threads + Sync>(
-    rt: &R,
-    alloc: Global,
-    word: &str,
-    rows: &[(&str, &str)],
-) -> Result<(), Fail> {
-    for (text, line) in rows {
-        refused(rt, alloc, word, text, line)?;
-    }
     Ok(())
 }

@@ -1,6 +1,6 @@
 //! Reads and writes that are short, fail or cannot fail, and words that are no command form.
 
-use crate::program::{Answer, Edges, SOUND, all_words, answers, joined, list};
+use crate::program::{Edges, SOUND, all_words, answers, joined, list};
 use poets_io::{SureSink, SureSource};
 use poets_top::run;
 use std::alloc::Global;
@@ -21,135 +21,102 @@ const LINES: [&str; 4] = [
 
 const REFUSED: &str = "agents ann, ann;;";
 
-// The program, called with the word, answers the text so over such a source and sink.
+// The program, called with the words, answers the text so over such a source and sink: the status, the number of entries,
+// and how many of the lines are written.
 fn answered<R: Abort + Threads + Sync>(
     rt: &R,
     alloc: Global,
-    (word, text): (&str, &str),
+    (words, text): (&[&str], &str),
     edges: &Edges,
-    answer: &Answer,
+    (status, entries, written): (u8, usize, usize),
 ) -> Result<(), Fail> {
-    let bytes = list(alloc, text.as_bytes())?;
-    assert!(rt;
-        answers(rt, alloc, &[word], bytes, edges, answer)?,
-        "{word}"
-    );
+    let mut lines = String::new(alloc);
+    for line in LINES.iter().take(written) {
+        lines.push_str(line)?;
+    }
+    let answer = (status, entries, lines.as_str());
+    let holds = answers(rt, alloc, words, text, edges, answer)?;
+    assert!(rt; holds, "{words:?}, {text}, {written}");
     Ok(())
 }
 
-#[test]
-fn short_reads_change_nothing(rt: HostRuntime) -> Result<(), Fail> {
-    let answer = Answer {
-        status: 0,
-        entries: 4,
-        lines: &LINES,
-    };
+// Short reads change nothing.
+fn reads_are_short<R: Abort + Threads + Sync>(rt: &R, alloc: Global) -> Result<(), Fail> {
     for step in [1, 2, 7, 250] {
         let edges = Edges { step, ..SOUND };
-        answered(&rt, rt.alloc(), ("run", ENDED), &edges, &answer)?;
+        answered(rt, alloc, (&["run"], ENDED), &edges, (0, 4, 4))?;
     }
     Ok(())
 }
 
-// The history is made whole, and these lines of it are written, where the write with the number fails.
-fn cut<R: Abort + Threads + Sync>(
-    rt: &R,
-    alloc: Global,
-    at: u64,
-    lines: &[&str],
-) -> Result<(), Fail> {
+const UNREAD: [(&str, u64); 5] = [
+    ("run", 1),
+    ("run", 2),
+    ("run", 3),
+    ("check", 1),
+    ("replay", 1),
+];
+
+// A failing read writes nothing.
+fn reads_fail<R: Abort + Threads + Sync>(rt: &R, alloc: Global) -> Result<(), Fail> {
+    for (word, at) in UNREAD {
+        let edges = Edges {
+            step: 50,
+            reads: &[at],
+            writes: &[],
+        };
+        answered(rt, alloc, (&[word], ENDED), &edges, (4, 0, 0))?;
+    }
+    Ok(())
+}
+
+// A failing write leaves whole lines of the history, which is made whole.
+fn writes_fail<R: Abort + Threads + Sync>(rt: &R, alloc: Global) -> Result<(), Fail> {
+    for (at, written) in [(1, 0), (2, 1), (3, 2), (4, 3)] {
+        let edges = Edges {
+            writes: &[at],
+            ..SOUND
+        };
+        answered(rt, alloc, (&["run"], ENDED), &edges, (5, 4, written))?;
+    }
+    Ok(())
+}
+
+const UNWRITTEN: [(&str, &str); 4] = [
+    ("check", ""),
+    ("check", REFUSED),
+    ("run", REFUSED),
+    ("replay", REFUSED),
+];
+
+// A failing write leaves no line of a book, nor of a text that is refused.
+fn only_writes_fail<R: Abort + Threads + Sync>(rt: &R, alloc: Global) -> Result<(), Fail> {
     let edges = Edges {
-        writes: &[at],
+        writes: &[1],
         ..SOUND
     };
-    let answer = Answer {
-        status: 5,
-        entries: 4,
-        lines,
-    };
-    answered(rt, alloc, ("run", ENDED), &edges, &answer)
-}
-
-#[test]
-fn a_failing_write_leaves_whole_lines(rt: HostRuntime) -> Result<(), Fail> {
-    cut(&rt, rt.alloc(), 1, &[])?;
-    cut(&rt, rt.alloc(), 2, &[LINES[0]])?;
-    cut(&rt, rt.alloc(), 3, &[LINES[0], LINES[1]])?;
-    cut(&rt, rt.alloc(), 4, &[LINES[0], LINES[1], LINES[2]])
-}
-
-const FAILING_WRITE: Edges = Edges {
-    step: 65_536,
-    reads: &[],
-    writes: &[1],
-};
-
-const UNWRITTEN: Answer = Answer {
-    status: 5,
-    entries: 0,
-    lines: &[],
-};
-
-#[test]
-fn a_failing_write_leaves_no_line(rt: HostRuntime) -> Result<(), Fail> {
-    let refused = [("check", REFUSED), ("run", REFUSED), ("replay", REFUSED)];
-    answered(&rt, rt.alloc(), ("check", ""), &FAILING_WRITE, &UNWRITTEN)?;
-    for asked in refused {
-        answered(&rt, rt.alloc(), asked, &FAILING_WRITE, &UNWRITTEN)?;
+    for (word, text) in UNWRITTEN {
+        answered(rt, alloc, (&[word], text), &edges, (5, 0, 0))?;
     }
     Ok(())
 }
 
-const UNREAD: Answer = Answer {
-    status: 4,
-    entries: 0,
-    lines: &[],
-};
-
-// The read with the number fails.
-fn unread<R: Abort + Threads + Sync>(
-    rt: &R,
-    alloc: Global,
-    word: &str,
-    at: u64,
-) -> Result<(), Fail> {
-    let edges = Edges {
-        step: 50,
-        reads: &[at],
-        writes: &[],
-    };
-    answered(rt, alloc, (word, ENDED), &edges, &UNREAD)
-}
-
 #[test]
-fn a_failing_read_writes_nothing(rt: HostRuntime) -> Result<(), Fail> {
-    for at in [1, 2, 3] {
-        unread(&rt, rt.alloc(), "run", at)?;
-    }
-    unread(&rt, rt.alloc(), "check", 1)?;
-    unread(&rt, rt.alloc(), "replay", 1)
+fn reads_and_writes_are_short_or_fail(rt: HostRuntime) -> Result<(), Fail> {
+    reads_are_short(&rt, rt.alloc())?;
+    reads_fail(&rt, rt.alloc())?;
+    writes_fail(&rt, rt.alloc())?;
+    only_writes_fail(&rt, rt.alloc())
 }
-
-const FAILING: Edges = Edges {
-    step: 100,
-    reads: &[1],
-    writes: &[1],
-};
-
-const NOTHING: Answer = Answer {
-    status: 2,
-    entries: 0,
-    lines: &[],
-};
 
 // The words are no command form; each first call would fail.
 fn no_form<R: Abort + Threads + Sync>(rt: &R, alloc: Global, words: &[&str]) -> Result<(), Fail> {
-    let bytes = list(alloc, ENDED.as_bytes())?;
-    assert!(rt;
-        answers(rt, alloc, words, bytes, &FAILING, &NOTHING)?,
-        "{words:?}"
-    );
-    Ok(())
+    let edges = Edges {
+        step: 100,
+        reads: &[1],
+        writes: &[1],
+    };
+    answered(rt, alloc, (words, ENDED), &edges, (2, 0, 0))
 }
 
 #[test]
