@@ -8,7 +8,6 @@ use Rattle.poets_report.specs.Query.{Query}
 use Rattle.poets_call.specs.Calls.{Request, Response, HistoryEntry, Call}
 use Rattle.poets_call.specs.Ledger.{Ledger, ledger_of}
 use Rattle.poets_call.specs.Frame.{Frame}
-use Rattle.poets_call.specs.Histories.{InFrame, IsLegal, AnswersIn}
 use Rattle.poets_call.specs.Replies.{Replies, Legal, Answers}
 use Rattle.poets_call.specs.Laws.{OneFrame, AnyFrame, AnyFrameAnswers}
 use Rattle.poets_call.proofs.OneReplies.{bool_one}

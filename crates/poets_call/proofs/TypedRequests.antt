@@ -3,23 +3,20 @@ use Rattle.std.proofs.Common.{◌≡◌, Bool, true, false, nat_eq, List, [], Op
 use Rattle.std.specs.Prelude.{if◌then◌else◌}
 use Rattle.std.proofs.lemmas.Bool.{eqb-true}
 use Rattle.poets_value.specs.declared.value.Name.{Name}
-use Rattle.poets_value.specs.declared.event.Event.{Event}
 use Rattle.poets_value.specs.declared.value.Ty.{Ty}
 use Rattle.poets_value.specs.declared.value.Ty.TheVariants as T
 use Rattle.poets_expr.specs.Expression.{Expression}
 use Rattle.poets_expr.specs.Env.{Declared}
 use Rattle.poets_expr.specs.Same.{ty_place}
 use Rattle.poets_expr.proofs.SameTrees.{ty_one}
-use Rattle.poets_syntax.specs.Book.{Definitions}
 use Rattle.poets_syntax.specs.TypeOf.{Fault, WrongType, WrongCount, Verdict, Passes, Fails, ◌>>=◌, name_type, must_be, same_type}
 use Rattle.poets_syntax.specs.Typed.{check_args}
-use Rattle.poets_syntax.specs.WellFormed.{IsDeclaredEvent}
 use Rattle.poets_syntax.proofs.Nullability.{CountsFit-fit}
 use Rattle.poets_syntax.proofs.Typedness.{passed, ApplicationsFit-typed, IsWellFormed-typed}
 use Rattle.poets_report.specs.Query.{Query}
 use Rattle.poets_call.specs.Laws.{TypedRegistration, TypedEvent, TypedReport, IsReportOf}
 use Rattle.poets_call.specs.Replies.{report_in}
-use Rattle.poets_call.specs.TypedSentences.{report_names, check_declared, check_event, check_report_arguments}
+use Rattle.poets_call.specs.TypedSentences.{report_names, check_declared, check_report_arguments}
 
 unfailed : (b : Bool) (next : Verdict (Unit {0})) (f : Fault) → (if b then next else Fails f) ≡ Passes tt → b ≡ true
 unfailed true next f h = refl

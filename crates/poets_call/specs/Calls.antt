@@ -47,7 +47,7 @@ pub data Response : Type 0 where
 
 -- `Command` as plain data, without boxes
 abbrev pub request_of : Command → Request
-request_of (C.Register x term) = Register x (contract_of term)
+request_of (C.Register x term) = Register x (contract_of (arc_value term))
 request_of (C.Transmit x e) = Transmit x e
 request_of (C.End x) = End x
 request_of (C.Show x) = Show x

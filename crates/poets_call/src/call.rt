@@ -11,7 +11,8 @@ use std::sync::Arc;
 pub enum Command {
     Register {
         name: Name,
-        term: Term,
+        /// Shared, so that the contract can be kept without a copy.
+        term: Arc<Term>,
     },
     Transmit {
         name: Name,

@@ -32,7 +32,7 @@ fn five(alloc: Global) -> Result<List<Expr>, Memory> {
 
 fn commands(alloc: Global, day: Day) -> Result<List<Command>, Memory> {
     let mut commands = List::new(alloc);
-    let term = Term::Success;
+    let term = Arc::new(alloc, Term::Success)?;
     push(
         &mut commands,
         Command::Register {

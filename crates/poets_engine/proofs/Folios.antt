@@ -1,14 +1,13 @@
 -- Portfolios are made.
-use Rattle.std.proofs.Common.{◌≡◌, ℕ, ◌+◌, ◌-◌, List, [], ◌∷◌, Option, Some, None, map, slice_get, refl, sym, ◌∙◌, ap, subst, arith}
+use Rattle.std.proofs.Common.{◌≡◌, ℕ, List, [], ◌∷◌, Option, Some, None, map, refl, sym, ◌∙◌, ap, subst}
 use Rattle.std.specs.List.{AllZip}
 use Rattle.poets_value.specs.declared.value.Name.{Name}
 use Rattle.poets_value.specs.declared.value.Value.{Value}
 use Rattle.poets_expr.specs.Expression.{Expression}
-use Rattle.poets_syntax.specs.declared.term.Term.{Term}
 use Rattle.poets_report.specs.Query.{Query}
-use Rattle.poets_report.specs.Answers.{Finding, IsAnswer}
+use Rattle.poets_report.specs.Answers.{IsAnswer}
 use Rattle.poets_report.specs.declared.report.Answer.{Answer}
-use Rattle.poets_table.specs.TableView.{RowView, number_named}
+use Rattle.poets_table.specs.TableView.{number_named}
 use Rattle.poets_folio.specs.declared.folio.Part.{Part}
 use Rattle.poets_folio.specs.Rows.{IsRow}
 use Rattle.poets_call.specs.declared.rules.Rules.{Rules}

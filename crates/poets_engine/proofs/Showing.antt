@@ -1,5 +1,5 @@
 -- A look is made.
-use Rattle.std.proofs.Common.{◌≡◌, ℕ, ◌+◌, ◌-◌, Bool, List, [], Some, None, length, slice_get, refl, ◌∙◌, ap, ap₂}
+use Rattle.std.proofs.Common.{◌≡◌, ℕ, ◌+◌, ◌-◌, Bool, [], Some, None, length, slice_get, refl, ◌∙◌, ap, ap₂}
 use Rattle.std.specs.Prelude.{IsTrue, ◌↔◌}
 use Rattle.poets_value.specs.declared.value.Name.{Name}
 use Rattle.poets_syntax.specs.Contract.{Contract, contract_of}

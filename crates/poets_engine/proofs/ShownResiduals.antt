@@ -1,18 +1,16 @@
 -- What is shown in legal histories of typed commands.
-use Rattle.std.proofs.Common.{◌≡◌, ℕ, suc, Bool, true, false, nat_eq, List, [], ◌∷◌, ◌++◌, Option, Some, None, map, filter, fold, refl, sym, ap, subst, ◌⊎◌, inl, inr}
+use Rattle.std.proofs.Common.{◌≡◌, ℕ, suc, Bool, true, false, nat_eq, List, [], ◌∷◌, ◌++◌, Option, Some, filter, fold, sym, ap, subst, ◌⊎◌, inl, inr}
 use Rattle.std.specs.Prelude.{◌↔◌, if◌then◌else◌}
 use Rattle.std.specs.List.{All}
 use Rattle.std.proofs.lemmas.List.Elements.{All-nil, All-cons, All-head, All-tail, All-append, All-map, All-filter}
 use Rattle.poets_value.specs.declared.value.Name.{Name}
-use Rattle.poets_value.specs.declared.event.Event.{Event}
 use Rattle.poets_expr.specs.Env.{same_name}
 use Rattle.poets_syntax.specs.Applied.{CountsFit}
 use Rattle.poets_syntax.specs.Book.{Definitions}
 use Rattle.poets_syntax.specs.Contract.{Contract}
-use Rattle.poets_syntax.specs.declared.studied.Mark.{Mark}
 use Rattle.poets_syntax.specs.Perf.{Perf}
 use Rattle.poets_syntax.specs.Residual.{residual_after}
-use Rattle.poets_syntax.specs.Studied.{IsStudiedBook, marks_in}
+use Rattle.poets_syntax.specs.Studied.{marks_in}
 use Rattle.poets_syntax.specs.WellFormed.{IsWellFormed, IsDeclaredEvent}
 use Rattle.poets_syntax.proofs.StudiedMarks.{AreRight-studied}
 use Rattle.poets_residue.proofs.Studies.{IsStudied-book}
@@ -20,7 +18,7 @@ use Rattle.poets_residue.proofs.Traces.{trace_performed}
 use Rattle.poets_report.specs.Query.{Query}
 use Rattle.poets_call.specs.Calls.{Request, Response, HistoryEntry}
 use Rattle.poets_call.specs.Frame.{Frame}
-use Rattle.poets_call.specs.Histories.{IsLegal, ShowsCompletions, shown}
+use Rattle.poets_call.specs.Histories.{shown}
 use Rattle.poets_call.specs.Ledger.{Ledger, ledger_of, empty_ledger, with_entry, contract_from, contract_named, trace}
 use Rattle.poets_call.specs.Replies.{Legal, Replies}
 use Rattle.poets_call.specs.TypedSentences.{IsTypedRequest}

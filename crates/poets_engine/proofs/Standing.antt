@@ -1,5 +1,5 @@
 -- The contract with a name, in the rows and in the ledger; and commands that leave or change what is kept.
-use Rattle.std.proofs.Common.{◌≡◌, ℕ, ◌+◌, Bool, true, false, ◌-◌, List, [], Option, Some, None, slice_get, option_map, refl, sym, ◌∙◌, ap, subst, arith}
+use Rattle.std.proofs.Common.{◌≡◌, ℕ, ◌+◌, Bool, true, ◌-◌, List, [], Option, Some, None, slice_get, option_map, refl, sym, ◌∙◌, ap, subst, arith}
 use Rattle.std.specs.Prelude.{IsTrue, ◌↔◌}
 use Rattle.std.specs.List.{position}
 use Rattle.poets_value.specs.declared.value.Name.{Name}

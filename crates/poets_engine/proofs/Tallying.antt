@@ -6,23 +6,22 @@ use Rattle.std.proofs.Common.{inl, inr}
 use Rattle.std.proofs.lemmas.Option.{slice_get_cases}
 use Rattle.poets_value.specs.declared.value.Name.{Name}
 use Rattle.poets_value.specs.declared.value.Value.{Value}
-use Rattle.poets_value.specs.declared.event.Event.{Event}
 use Rattle.poets_expr.specs.Expression.{Expression}
 use Rattle.poets_expr.specs.Val.{val}
 use Rattle.poets_report.specs.declared.report.Report.{Report}
 use Rattle.poets_report.specs.Query.{Query, query_of}
 use Rattle.poets_report.specs.Answers.{Finding, IsAnswer}
-use Rattle.poets_live.specs.Watching.{WatchView, Begins, Follows}
+use Rattle.poets_live.specs.Watching.{WatchView, Follows}
 use Rattle.poets_call.specs.declared.rules.Rules.{Rules}
 use Rattle.poets_call.specs.Rules.{book_of, reports_of}
 use Rattle.poets_call.specs.Calls.{Request, Response}
 use Rattle.poets_call.specs.Ledger.{Ledger, events, watch_at}
-use Rattle.poets_call.specs.Replies.{report_in, Reads}
+use Rattle.poets_call.specs.Replies.{report_in}
 use Rattle.poets_engine.specs.Store.{StoreView, AddsWatch}
-use Rattle.poets_engine.specs.Rows.{IsLedger, RowsAre, RowIs, WatchIs}
+use Rattle.poets_engine.specs.Rows.{RowsAre, WatchIs}
 use Rattle.poets_engine.specs.Makes.{Makes}
 use Rattle.poets_engine.proofs.Named.{named}
-use Rattle.poets_engine.proofs.Standing.{frame_by, marks_by, leaves, changes}
+use Rattle.poets_engine.proofs.Standing.{leaves, changes}
 use Rattle.poets_engine.proofs.WatchLedgers.{with_watch, watches_begun, as_many, WatchAt, watch_there}
 
 -- the values of arguments under the declared names of rules

@@ -1,5 +1,6 @@
 //! Registrations.
 ghost use Rattle.std.specs.Prelude.{◌≡◌, ◌+◌, ◌≤◌, IfOk, OnErr};
+ghost use Rattle.std.specs.Arc.{arc_value};
 ghost use Rattle.poets_syntax.specs.Contract.{contract_of};
 ghost use Rattle.poets_syntax.specs.Width.{size};
 ghost use Rattle.poets_call.specs.Calls.{response_of, Request};
@@ -12,24 +13,25 @@ use crate::store::Store;
 use poets_call::{Reply, Rules};
 use poets_expr::Asks;
 use poets_norm::normal;
-use poets_syntax::{Term, copy};
+use poets_syntax::Term;
 use poets_value::{Memory, Name};
 use std::alloc::Global;
+use std::sync::Arc;
 
-/// Registers a contract under a name.
+/// Registers a contract under a name. The table shares it with the command.
 #[tactic(auto, using(crate::proofs::Registering::register_taken))]
 pub(crate) fn register<T>(
     alloc: Global,
     rules: &Rules,
     store: &mut Store,
     name: Name,
-    term: &Term,
+    term: &Arc<Term>,
     asks: &mut Asks<T>,
 ) -> Result<Reply, Memory>
-    requires { IsTaken (book_of rules.now) (reports_of rules.now) (Request.Register name (contract_of term.now)) }
-    ensures ok { IfOk result (λ r. Makes rules.now (Request.Register name (contract_of term.now)) store.old store.new (response_of r)) }
+    requires { IsTaken (book_of rules.now) (reports_of rules.now) (Request.Register name (contract_of (arc_value term.now))) }
+    ensures ok { IfOk result (λ r. Makes rules.now (Request.Register name (contract_of (arc_value term.now))) store.old store.new (response_of r)) }
     ensures err { OnErr result (store.new ≡ store.old) }
-    ensures asks { asks.new ≤ asks.old + size (contract_of term.now) }
+    ensures asks { asks.new ≤ asks.old + size (contract_of (arc_value term.now)) }
     ensures rises { asks.old ≤ asks.new }
 {
     // The counter stands where it stood.
@@ -41,7 +43,7 @@ pub(crate) fn register<T>(
     match judge(&rules.studied, Reply::Hopeless, current) {
         Decision::Refused(reply) => Ok(reply),
         Decision::Kept(current) => {
-            let original = copy(alloc, term)?;
+            let original = Arc::try_clone(term)?;
             let number = store.add(name, original, current)?;
             Ok(Reply::Registered(number))
         }

@@ -1,5 +1,6 @@
 //! What an engine keeps.
 ghost use Rattle.std.specs.Prelude.{◌≡◌, ◌+◌, ◌*◌, ◌-◌, ◌<◌, ◌≤◌, ◌++◌, ◌∷◌, [], length, IfOk, IsOk, OnOk, OnErr, Some, None, slice_get};
+ghost use Rattle.std.specs.Arc.{arc_value};
 ghost use Rattle.poets_expr.specs.Env.{declared_of};
 ghost use Rattle.poets_report.specs.Answers.{finding_of};
 ghost use Rattle.poets_table.specs.TableView.{IsLive, changed_at, finished, new_row, number_named, row_view};
@@ -13,6 +14,7 @@ use poets_table::{Row, Table};
 use poets_value::{Event, List, Memory, Name, Value};
 use std::alloc::Global;
 use std::marker::Model;
+use std::sync::Arc;
 
 /// The contracts with their events, the log of all events, and the watches, which follow the log.
 #[derive(Drop)]
@@ -86,9 +88,14 @@ impl Store {
     }
 
     /// Adds a contract, and answers its number.
-    pub(crate) fn add(&mut self, name: Name, original: Term, current: Term) -> Result<u64, Memory>
+    pub(crate) fn add(
+        &mut self,
+        name: Name,
+        original: Arc<Term>,
+        current: Term,
+    ) -> Result<u64, Memory>
         requires { number_named name self.old.rows ≡ None }
-        ensures ok { OnOk result (AddsRow (new_row name original current) self.old self.new) }
+        ensures ok { OnOk result (AddsRow (new_row name (arc_value original) current) self.old self.new) }
         ensures number { IfOk result (λ n. n ≡ length self.old.rows + 1) }
         ensures err { OnErr result (self.new ≡ self.old) }
     {

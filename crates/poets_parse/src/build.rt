@@ -1,11 +1,16 @@
-//! Expressions made of their parts.
+//! Expressions and commands made of their parts.
 ghost use Rattle.std.specs.Prelude.{◌≡◌, IfOk};
 ghost use Rattle.poets_expr.specs.Expression.{expression_of, Make, Binary, If};
+ghost use Rattle.poets_syntax.specs.Contract.{contract_of};
+ghost use Rattle.poets_call.specs.Calls.{request_of, Request};
 
+use poets_call::Command;
 use poets_expr::build::boxed;
 use poets_expr::{Expr, Op};
-use poets_value::Memory;
+use poets_syntax::Term;
+use poets_value::{Memory, Name};
 use std::alloc::Global;
+use std::sync::Arc;
 
 // Two operands under an operator.
 pub(crate) fn binary(alloc: Global, op: Op, left: Expr, right: Expr) -> Result<Expr, Memory>
@@ -38,4 +43,12 @@ pub(crate) fn conditional(
     let yes = boxed(alloc, yes)?;
     let no = boxed(alloc, no)?;
     Ok(Expr::If(condition, yes, no))
+}
+
+// The registration of a contract under a name.
+pub(crate) fn registration(alloc: Global, name: Name, term: Term) -> Result<Command, Memory>
+    ensures { IfOk result (λ c. request_of c ≡ Request.Register name (contract_of term)) }
+{
+    let term = Arc::new(alloc, term)?;
+    Ok(Command::Register { name, term })
 }

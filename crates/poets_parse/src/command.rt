@@ -7,6 +7,7 @@ ghost use Rattle.poets_grammar.specs.StatementReading as reading;
 ghost use Rattle.poets_parse.specs.Gives.{Gives};
 
 use crate::SyntaxFault;
+use crate::build::registration;
 use crate::contract::whole_contract;
 use crate::list::{arguments, names};
 use crate::step::{first, last_day, last_name, name, natural, number, sign, whole, word};
@@ -42,7 +43,7 @@ fn register(alloc: Global, tokens: &[Token]) -> Result<Command, SyntaxFault>
     let (name, rest) = name(tokens)?;
     let rest = sign(Sign::Equal, rest)?;
     let term = whole_contract(alloc, rest)?;
-    Ok(Command::Register { name, term })
+    Ok(registration(alloc, name, term)?)
 }
 
 // "transmit" NAME NAME NAME NUMBER NAME DAY: the contract, the sender, the receiver, the amount, the kind and the day

@@ -1,11 +1,9 @@
 -- The laws of printed texts, as statements: they read back.
-use Rattle.std.specs.Prelude.{◌≢◌, ◌<◌, ◌^◌, List, [], ◌∷◌, length, All, pos, ◌≤ℤ◌}
+use Rattle.std.specs.Prelude.{◌≢◌, ◌<◌, List, [], ◌∷◌, length, All, pos, ◌≤ℤ◌}
 use Rattle.poets_value.specs.declared.value.Name.{Name}
 use Rattle.poets_value.specs.declared.value.Value.{Value}
 use Rattle.poets_value.specs.declared.value.Value.TheVariants as V
-use Rattle.poets_value.specs.Whole.{IsWholeEvent}
 use Rattle.poets_expr.specs.Expression.{Expression, Literal, Undefined, Named, Unary, Make, Binary, If}
-use Rattle.poets_expr.specs.Whole.{IsWholeExpression}
 use Rattle.poets_syntax.specs.Contract.{Contract, Success, Failure, Transmit, Plus, Par, Seq, App}
 use Rattle.poets_syntax.specs.Whole.{IsWholeContract}
 use Rattle.poets_call.specs.Calls.{Request}

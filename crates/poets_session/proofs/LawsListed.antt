@@ -12,7 +12,6 @@ use Rattle.poets_syntax.specs.Contract.{Contract}
 use Rattle.poets_syntax.specs.Guarded.{Exposes, UnguardedEdge, IsPath, IsCycle}
 use Rattle.poets_call.specs.Sentences.{Sentence, Template}
 use Rattle.poets_call.specs.Declarations.{book_of}
-use Rattle.poets_call.specs.TypedSentences.{first_fault}
 use Rattle.poets_print.specs.Laws.{IsListed, CanWriteContract}
 use Rattle.poets_session.specs.declared.form.Form.{Form}
 use Rattle.poets_session.specs.declared.fault.SessionCause.{SessionCause}

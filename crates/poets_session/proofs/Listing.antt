@@ -16,7 +16,7 @@ use Rattle.poets_expr.specs.Expression.{UnaryOp, Minus, Not, AmountOf, KindOf, E
 use Rattle.poets_syntax.specs.declared.term.Param.{Param}
 use Rattle.poets_syntax.specs.Book.{Definition, Definitions, template_in}
 use Rattle.poets_syntax.specs.Contract.{Contract, Success, Failure, Transmit, Plus, Par, Seq, App}
-use Rattle.poets_syntax.specs.TypeOf.{Fault, Twice, WrongCount, WrongType, Verdict, Passes, Fails, ◌>>=◌, Scope, type_in, same_type, must_be, must_be_number_or_day, unary_type, sum_type, difference_type, equal_type, order_type, binary_type, make_type, if_type, name_type, resource_type, literal_type, type_of}
+use Rattle.poets_syntax.specs.TypeOf.{Twice, WrongCount, WrongType, Verdict, Passes, Fails, ◌>>=◌, Scope, type_in, same_type, must_be, must_be_number_or_day, unary_type, sum_type, difference_type, equal_type, order_type, binary_type, make_type, if_type, name_type, resource_type, literal_type, type_of}
 use Rattle.poets_syntax.specs.Typed.{is_among, in_use, check_new, names_bound, types_bound, scope_of, check_type, check_args, check_arguments, check_application, check_contract}
 use Rattle.poets_report.specs.Query.{Query}
 use Rattle.poets_call.specs.Calls.{Request}
@@ -25,7 +25,7 @@ use Rattle.poets_call.specs.Sentences.{Sentence, Agents, Kinds, Template, Report
 use Rattle.poets_call.specs.Declarations.{names_declared, book_of, reports_of}
 use Rattle.poets_call.specs.TypedSentences.{NumberedFault, report_names, check_template, check_key, check_fold, check_report, check_declared, check_event, check_report_arguments, check_request, check_sentence, or_else, twice_from, mistyped_from, first_of, first_fault}
 use Rattle.poets_print.specs.Laws.{IsListed, CanWrite, CanWriteContract, CanWriteRequest}
-use Rattle.poets_session.specs.Written.{AreListedParameters, AreListedBinders, IsWrittenExpression, IsWrittenTemplate, IsWrittenReport, IsWritten, IsListedFault}
+use Rattle.poets_session.specs.Written.{AreListedParameters, IsWrittenExpression, IsWrittenTemplate, IsWrittenReport, IsWritten, IsListedFault}
 
 -- where the check fails, the name of its fault stands in the table
 abbrev Tells : {A : Type 0} → Table → Verdict A → Type 0

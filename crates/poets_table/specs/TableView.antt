@@ -1,6 +1,7 @@
 -- A table as plain data: its rows and its log.
 use Rattle.std.specs.Prelude.{ℕ, zero, suc, ◌+◌, ◌<◌, ◌≤◌, Bool, true, false, List, [], ◌∷◌, ◌++◌, Option, length, nat_eq, option_map}
 use Rattle.std.specs.List.{position}
+use Rattle.std.specs.Arc.{arc_value}
 use Rattle.poets_value.specs.declared.value.Name.{Name}
 use Rattle.poets_value.specs.declared.event.Event.{Event}
 use Rattle.poets_table.specs.declared.table.Row.{Row}
@@ -14,7 +15,7 @@ pub record RowView (T : Type 0) : Type 0 where
   pub ended : Bool
 
 abbrev pub row_view : {T : Type 0} → Row T → RowView T
-row_view r = record { name = r.name; original = r.original; current = r.current; events = r.events.items; ended = r.ended }
+row_view r = record { name = r.name; original = arc_value r.original; current = r.current; events = r.events.items; ended = r.ended }
 
 pub record TableView (T : Type 0) : Type 0 where
   pub rows : List (RowView T)

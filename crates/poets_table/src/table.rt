@@ -1,18 +1,20 @@
 //! Rows by name, and a log.
 ghost use Rattle.std.specs.Prelude.{◌≡◌, map, ◌+◌, ◌-◌, ◌≤◌, ◌<◌, ◌++◌, ◌∷◌, [], true, false, length, IfOk, OnOk, IsOk, OnErr, Some, None, slice_get};
+ghost use Rattle.std.specs.Arc.{arc_value};
 ghost use Rattle.poets_table.specs.TableView.{row_view, IsLive, changed_at, with_event, finished, number_named, new_row};
 
 use indexmap::IndexSet;
 use poets_value::{Event, List, Memory, Name};
 use std::alloc::Global;
 use std::marker::Model;
+use std::sync::Arc;
 
 /// A contract's row.
 #[derive(Drop)]
 pub struct Row<T> {
     pub name: Name,
-    /// The contract as it was registered.
-    pub original: T,
+    /// The contract as it was registered, shared with who registered it.
+    pub original: Arc<T>,
     /// What is still owed.
     pub current: T,
     pub events: List<Event>,
@@ -188,10 +190,10 @@ fn append<T: Drop>(row: &mut Row<T>, event: Event, current: T)
 
 impl<T: Drop> Table<T> {
     /// Adds a row at the end, and answers its number. The room that was made is given up.
-    pub fn add(&mut self, name: Name, original: T, current: T) -> Result<u64, Memory>
+    pub fn add(&mut self, name: Name, original: Arc<T>, current: T) -> Result<u64, Memory>
         requires { number_named name self.old.rows ≡ None }
         ensures ok { IfOk result (λ n. n ≡ length self.old.rows + 1) }
-        ensures rows { OnOk result (self.new.rows ≡ self.old.rows ++ new_row name original current ∷ []) }
+        ensures rows { OnOk result (self.new.rows ≡ self.old.rows ++ new_row name (arc_value original) current ∷ []) }
         ensures log { OnOk result (self.new.log ≡ self.old.log) }
         ensures err { OnErr result ((self.new.rows ≡ self.old.rows) × (self.new.log ≡ self.old.log)) }
         ensures ready { self.new.ready ≡ 0 }

@@ -2,6 +2,8 @@
 
 use crate::Table;
 use poets_value::{Day, Event, Memory, Name, Resource};
+use std::alloc::Global;
+use std::sync::Arc;
 
 const SALE: Name = Name { id: 7 };
 
@@ -24,11 +26,17 @@ fn event(amount: i64) -> Event {
 }
 
 // The number of a new row with that name, or none where one has the name.
-fn added(table: &mut Table<u64>, name: Name, original: u64) -> Result<Option<u64>, Memory> {
+fn added(
+    alloc: Global,
+    table: &mut Table<u64>,
+    name: Name,
+    original: u64,
+) -> Result<Option<u64>, Memory> {
     if table.find(name).is_some() {
         return Ok(None);
     }
-    Ok(Some(table.add(name, original, original)?))
+    let first = Arc::new(alloc, original)?;
+    Ok(Some(table.add(name, first, original)?))
 }
 
 // Whether there is a row with that name, which takes an event of that amount.
@@ -53,7 +61,7 @@ fn ended(table: &mut Table<u64>, name: Name) -> bool {
 // The first contract, the current one and the number of events of the row with that name, and whether it ended.
 fn row(table: &Table<u64>, name: Name) -> Option<(u64, u64, usize, bool)> {
     let row = table.row(table.find(name)?);
-    Some((row.original, row.current, row.events.len(), row.ended))
+    Some((*row.original, row.current, row.events.len(), row.ended))
 }
 
 // The row and the amount of an event of the log.
@@ -65,9 +73,9 @@ fn logged(table: &Table<u64>, place: usize) -> Option<(u64, i64)> {
 #[test]
 fn names_are_numbered_as_they_are_added(rt: HostRuntime) -> Result<(), Memory> {
     let mut table: Table<u64> = Table::new(rt.alloc());
-    assert_eq!(rt; added(&mut table, SALE, 10)?, Some(1));
-    assert_eq!(rt; added(&mut table, LEASE, 20)?, Some(2));
-    assert_eq!(rt; added(&mut table, SALE, 30)?, None);
+    assert_eq!(rt; added(rt.alloc(), &mut table, SALE, 10)?, Some(1));
+    assert_eq!(rt; added(rt.alloc(), &mut table, LEASE, 20)?, Some(2));
+    assert_eq!(rt; added(rt.alloc(), &mut table, SALE, 30)?, None);
     assert_eq!(rt; row(&table, SALE), Some((10, 10, 0, false)));
     Ok(())
 }
@@ -75,8 +83,8 @@ fn names_are_numbered_as_they_are_added(rt: HostRuntime) -> Result<(), Memory> {
 #[test]
 fn events_stand_in_their_rows_and_in_the_log(rt: HostRuntime) -> Result<(), Memory> {
     let mut table: Table<u64> = Table::new(rt.alloc());
-    added(&mut table, SALE, 10)?;
-    added(&mut table, LEASE, 20)?;
+    added(rt.alloc(), &mut table, SALE, 10)?;
+    added(rt.alloc(), &mut table, LEASE, 20)?;
     assert!(rt; entered(&mut table, LEASE, 5, 21)?);
     assert!(rt; entered(&mut table, SALE, 6, 11)?);
     assert!(rt; ended(&mut table, SALE));

@@ -7,6 +7,7 @@ use poets_syntax::build::transmit;
 use poets_syntax::{Binders, Param, Template, Term};
 use poets_value::{Day, Event, List, Memory, Name, Resource, Ty, push};
 use std::alloc::Global;
+use std::sync::Arc;
 use std::test::Fail;
 
 // Two agents, a kind, a template, a report, a parameter, what a report carries, and a name of nothing.
@@ -145,7 +146,7 @@ fn report(alloc: Global, session: Session) -> Result<Statement, Memory> {
 fn register(alloc: Global, deal: Deal) -> Result<Command, Memory> {
     Ok(Command::Register {
         name: ANN,
-        term: contract(alloc, deal)?,
+        term: Arc::new(alloc, contract(alloc, deal)?)?,
     })
 }
 

@@ -1,7 +1,9 @@
-use Rattle.std.proofs.Common.{sym, subst}
+use Rattle.std.proofs.Common.{sym, ◌∙◌, subst, ap}
+use Rattle.std.specs.Arc.{arc_value}
 use Rattle.poets_syntax.specs.Applied.{CountsFit}
 use Rattle.poets_syntax.specs.Contract.{contract_of}
 use Rattle.poets_syntax.specs.Studied.{marks_of}
+use Rattle.poets_syntax.specs.Normal.{normal}
 use Rattle.poets_norm.proofs.Counts.{CountsFit-normal}
 use Rattle.poets_call.specs.Calls.{response_of}
 use Rattle.poets_call.specs.Rules.{book_of, reports_of}
@@ -12,18 +14,23 @@ use Rattle.poets_engine.proofs.registration.register.Goals as goal
 pub judge-requires : goal.judge-requires
 judge-requires g c =
     let rules = c.args.rules.now in
-    let term = contract_of c.args.term.now in
+    let term = contract_of (arc_value c.args.term.now) in
     let fit = (typed_registration (book_of rules) (reports_of rules) c.args.name term c.requires.typed).1 in
-    subst (CountsFit (book_of rules)) (sym c.in_ok-current.ensures.normal) (CountsFit-normal (book_of rules) (marks_of rules.studied) term fit)
+    let form = c.in_ok-current.ensures.normal ∙ ap (λ t. normal (book_of rules) (marks_of rules.studied) (contract_of t)) c.deref.ensures in
+    subst (CountsFit (book_of rules)) (sym form) (CountsFit-normal (book_of rules) (marks_of rules.studied) term fit)
 
 pub returns-in-Refused-clause-ok : goal.returns-in-Refused-clause-ok
 returns-in-Refused-clause-ok g c =
-    register_refused c.args.rules.now c.args.name (contract_of c.args.term.now) c.args.store.now c.requires
-    (sym c.in_default.ensures) (contract_of c.in_ok-current.current) (response_of c.in-Refused.reply) c.in_ok-current.ensures.normal c.in-Refused.ensures.choice
+    let rules = c.args.rules.now in
+    let form = c.in_ok-current.ensures.normal ∙ ap (λ t. normal (book_of rules) (marks_of rules.studied) (contract_of t)) c.deref.ensures in
+    register_refused c.args.rules.now c.args.name (contract_of (arc_value c.args.term.now)) c.args.store.now c.requires
+    (sym c.in_default.ensures) (contract_of c.in_ok-current.current) (response_of c.in-Refused.reply) form c.in-Refused.ensures.choice
 
 pub returns-in_ok-number-in-Kept-clause-ok : goal.returns-in_ok-number-in-Kept-clause-ok
 returns-in_ok-number-in-Kept-clause-ok g c =
-    register_kept c.args.rules.now c.args.name (contract_of c.args.term.now) c.args.store.now c.requires
-    (sym c.in_default.ensures) c.in_ok-original-in-Kept.original c.in-Kept.current c.in_ok-original-in-Kept.ensures c.add.new.self
+    let rules = c.args.rules.now in
+    let form = c.in_ok-current.ensures.normal ∙ ap (λ t. normal (book_of rules) (marks_of rules.studied) (contract_of t)) c.deref.ensures in
+    register_kept c.args.rules.now c.args.name (contract_of (arc_value c.args.term.now)) c.args.store.now c.requires
+    (sym c.in_default.ensures) (arc_value c.in_ok-original-in-Kept.original) c.in-Kept.current (ap contract_of c.in_ok-original-in-Kept.ensures) c.add.new.self
     c.in_ok-number-in-Kept.ensures.ok (contract_of c.in_ok-current.current) c.in_ok-number-in-Kept.number
-    c.in_ok-current.ensures.normal c.in-Kept.ensures.choice c.in_ok-number-in-Kept.ensures.number
+    form c.in-Kept.ensures.choice c.in_ok-number-in-Kept.ensures.number

@@ -1,4 +1,4 @@
-use Rattle.std.proofs.Common.{◌-◌, sym, inl, inr, arith}
+use Rattle.std.proofs.Common.{◌-◌, inl, inr, arith}
 use Rattle.poets_report.specs.Answers.{finding_of}
 use Rattle.poets_engine.proofs.Tallying.{read_absent, read_found, within}
 use Rattle.poets_engine.proofs.watching.read.Goals as goal
