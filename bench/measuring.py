@@ -1,11 +1,14 @@
 """Times the built program on generated texts, a quarter, a half (or three quarters) and the whole of each size.
 
 A family is a function from a share of its size to a case: the words, the text, and the number of units that its cost
-is told in (bytes or commands). For each share `measure` prints seconds (the least of seven runs), peak memory and the
-cost of a unit, and for each family whether it kept its bounds. It ends the script with status 1 where the cost of the
-whole is 1.3 times that of a quarter or more, where peak memory passes its bound, which is 20 times the text plus 16 MB
-unless the case gives another, where the program ends with another status than the case gives, or where it prints
+is told in (bytes or commands). For each share `measure` prints processor seconds (the least of seven runs), peak memory
+and the cost of a unit, and for each family whether it kept its bounds. It ends the script with status 1 where the cost
+of the whole is 1.3 times that of a quarter or more, where peak memory passes its bound, which is 20 times the text plus
+16 MB unless the case gives another, where the program ends with another status than the case gives, or where it prints
 something else than the case gives, if it gives that.
+
+Processor seconds are those of all threads, in the program and in the system for it, so that waiting for a processor
+that another program has does not count.
 
 A family may begin with a set-up, which is the same at every share: it is the family's share 0, and what it costs is
 taken off the seconds of the others before the costs of units are told and compared. A ratio is told as `nan`, and keeps
@@ -19,7 +22,6 @@ import pathlib
 import subprocess
 import sys
 import tempfile
-import time
 from collections import namedtuple
 
 PROGRAM = pathlib.Path(__file__).resolve().parent.parent / "crates/poets/out/poets"
@@ -39,20 +41,18 @@ Case = namedtuple("Case", "words text units status most_memory printed", default
 
 
 def once(program, words, path):
-    """Seconds, peak memory in bytes and status of one run on the file. It is measured in a process of its own,
-    since a child's peak memory is at least what its parent held when it was started."""
+    """Processor seconds, peak memory in bytes and status of one run on the file. It is measured in a process of its
+    own, since a child's peak memory is at least what its parent held when it was started."""
     with open(path, "rb") as source, open(os.devnull, "wb") as sink:
-        begin = time.monotonic()
         child = os.posix_spawn(
             program, [program, words], os.environ,
             file_actions=[(os.POSIX_SPAWN_DUP2, source.fileno(), 0), (os.POSIX_SPAWN_DUP2, sink.fileno(), 1)])
         _, status, usage = os.wait4(child, 0)
-        seconds = time.monotonic() - begin
-    return seconds, usage.ru_maxrss * 1024, os.waitstatus_to_exitcode(status)
+    return usage.ru_utime + usage.ru_stime, usage.ru_maxrss * 1024, os.waitstatus_to_exitcode(status)
 
 
 def told(program, case):
-    """Seconds, peak memory in bytes and status of one run of the case."""
+    """Processor seconds, peak memory in bytes and status of one run of the case."""
     with tempfile.NamedTemporaryFile() as file:
         file.write(case.text)
         file.flush()
