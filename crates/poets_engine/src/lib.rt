@@ -7,6 +7,7 @@ mod judging;
 mod kept;
 pub mod laws;
 mod looks;
+mod machine;
 mod portfolios;
 mod registration;
 mod steps;

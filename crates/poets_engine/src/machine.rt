@@ -1,0 +1,55 @@
+//! The engine as a machine that clerks share.
+ghost use Rattle.poets_call.specs.Calls.{request_of, response_of};
+ghost use Rattle.poets_call.specs.Histories.{AnswersIn};
+ghost use Rattle.poets_call.specs.Rules.{book_of, reports_of};
+ghost use Rattle.poets_call.specs.Taken.{IsTaken};
+ghost use Rattle.poets_engine.specs.State.{Owes, plain_calls};
+
+use crate::engine::Engine;
+use crate::kept::Kept;
+use poets_call::{Command, Reply, Rules};
+use poets_expr::Asks;
+use poets_machine::Machine;
+use poets_value::Memory;
+use std::alloc::Global;
+use std::sync::Arc;
+use std::thread::Threads;
+
+impl Machine for Engine {
+    type Call = Command;
+
+    type Reply = Reply;
+
+    type Kept = Kept;
+    /// The book and its reports.
+    type Frame = Rules;
+
+    ghost history = { λ e. e.calls };
+
+    ghost frame = { λ e. e.rules };
+
+    ghost takes = { λ rules command. IsTaken (book_of rules) (reports_of rules) (request_of command) };
+
+    ghost answers = { λ rules before clerk command reply. AnswersIn (book_of rules) (reports_of rules) (plain_calls before) (request_of command) (response_of reply) };
+
+    ghost owes = { λ rules before clerk command kept. Owes (book_of rules) (reports_of rules) (plain_calls before) (request_of command) kept };
+
+    /// Makes the call, as `Engine::apply` does, with a counter of its own.
+    fn turn<R: Threads + Sync>(
+        &mut self,
+        rt: &R,
+        alloc: Global,
+        clerk: u32,
+        call: &Arc<Command>,
+    ) -> Result<Kept, Memory> {
+        self.apply(rt, alloc, clerk, call, &mut Asks::new(()))
+    }
+
+    fn place(kept: &Kept) -> u64 {
+        kept.place
+    }
+
+    fn finish<R: Threads + Sync>(rt: &R, alloc: Global, kept: Kept) -> Result<Reply, Memory> {
+        Engine::finish(kept)
+    }
+}
