@@ -3,13 +3,16 @@ ghost use Rattle.std.specs.Prelude.{◌≡◌, ⊤};
 
 use atomic_table::{Play, Table, TableRule};
 use std::alloc::{AllocError, Global};
-use std::hint;
 use std::sync::Wait;
+use std::thread;
 
 // As many as there may be clerks, so that no two tickets that wait share a bell.
 const BELLS: u64 = 64;
-// How often a clerk whose ticket is next looks before it sleeps.
-const LOOKS: u8 = 50;
+// How many of the next tickets are near.
+const NEAR: u64 = 8;
+
+// How often a clerk whose ticket is near looks before it sleeps.
+const LOOKS: u8 = 100;
 
 const SILENT: u64 = 0;
 
@@ -59,13 +62,13 @@ impl Bells {
         Ok(Bells { table })
     }
 
-    /// Waits a while before the next look. A clerk whose ticket is next looks some times more. Any other says that it
-    /// sleeps, looks once more, and then sleeps.
+    /// Waits a while before the next look. A clerk whose ticket is near gives up its processor some times. Any other says
+    /// that it sleeps, looks once more, and then sleeps.
     pub(crate) fn wait<R: Wait>(&self, rt: &R, ticket: u64, serving: u64, patience: &mut Patience) {
         let bell = (ticket % BELLS) as usize;
-        if patience.looks > 0 && ticket.wrapping_sub(serving) == 1 {
+        if patience.looks > 0 && ticket.wrapping_sub(serving) <= NEAR {
             patience.looks -= 1;
-            hint::spin_loop();
+            thread::yield_now();
         } else if patience.is_marked {
             self.table.shared.park(rt, bell, ASLEEP as u32);
             patience.is_marked = false;
