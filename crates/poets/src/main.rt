@@ -5,6 +5,7 @@
 ghost use Rattle.std.specs.Prelude.{◌≡◌};
 ghost use Rattle.std.specs.Process.{exit_status};
 
+use poets_clerks::NoGate;
 use poets_io::{StdSink, StdSource};
 use poets_top::{NO_MEMORY, READ_FAULT, USAGE, WRITE_FAULT, run};
 use std::process::ExitCode;
@@ -25,7 +26,14 @@ fn main(rt: HostRuntime) -> ExitCode {
     }
     let mut source = StdSource::new(rt.reader());
     let mut sink = StdSink::new(io::writer(&rt));
-    let outcome = run(&rt, rt.alloc(), words.as_slice(), &mut source, &mut sink);
+    let outcome = run(
+        &rt,
+        rt.alloc(),
+        words.as_slice(),
+        &mut source,
+        &mut sink,
+        &NoGate,
+    );
     end(&rt, outcome.status)
 }
 
@@ -34,7 +42,7 @@ fn end(rt: &HostRuntime, status: u8) -> ExitCode
     ensures { exit_status result ≡ status }
 {
     let _ = match status {
-        USAGE => eprintln!(rt; "usage: poets check | run | replay"),
+        USAGE => eprintln!(rt; "usage: poets check | run | replay | demo N"),
         NO_MEMORY => eprintln!(rt; "poets: out of memory"),
         READ_FAULT => eprintln!(rt; "poets: standard input cannot be read"),
         WRITE_FAULT => eprintln!(rt; "poets: standard output cannot be written"),

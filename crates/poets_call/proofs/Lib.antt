@@ -4,3 +4,4 @@ pub mod OneFrames
 pub mod Examples
 pub mod TypedRequests
 pub mod Reports
+pub mod Crossing

@@ -14,3 +14,4 @@ pub mod Tallying
 pub mod Folios
 pub mod Histories
 pub mod ShownResiduals
+pub mod Crossing

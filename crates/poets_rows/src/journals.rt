@@ -9,6 +9,9 @@ const SECOND_FIRST: &str =
 const FIRST_FIRST: &str =
     "agents ann, bob;; kinds Oil, USD;; journal;; 01: register z = Success;; 2: register z = Success;;";
 
+const PRINTED: &str =
+    "agents ann, bob;; kinds Oil, USD;; journal;; 1: register z = Success;; 2: register z = Success;;";
+
 const DELIVERY: &str = "agents ann, bob;; kinds Oil, USD;; journal;;
 64: register c = transmit(a, b, r, t | r = [7 Oil]). Success;; 3: end c;;
 3: transmit c ann bob 7 Oil @2006-05-03;; 64: end c;; 1: show c;;";
@@ -17,7 +20,7 @@ const REPORTED: &str = "journal;;
 1: register c = any();; 2: transmit c ann bob 5 Oil @2006-01-01;; 3: tally moved();;
 1: watch sum();; 2: transmit c ann bob 2 USD @2006-01-01;; 2: portfolio sum() over c;; 64: read 1;;";
 
-pub(crate) const REPLAYED: [Line; 18] = [
+pub(crate) const REPLAYED: [Line; 21] = [
     Row("calls are made in the order of the journal, the second clerk first"),
     Text(SECOND_FIRST),
     Entries(
@@ -27,6 +30,13 @@ pub(crate) const REPLAYED: [Line; 18] = [
     ),
     Row("calls are made in the order of the journal, the first clerk first"),
     Text(FIRST_FIRST),
+    Entries(
+        "1 1: register z = Success => registered 1
+2 2: register z = Success => name taken by 1
+",
+    ),
+    Row("calls are made in the order of the journal, with clerks as they are printed"),
+    Text(PRINTED),
     Entries(
         "1 1: register z = Success => registered 1
 2 2: register z = Success => name taken by 1

@@ -6,6 +6,8 @@ mod books;
 #[cfg(test)]
 mod ends;
 #[cfg(test)]
+mod gate;
+#[cfg(test)]
 mod journals;
 #[cfg(test)]
 mod limits;
@@ -33,5 +35,7 @@ mod tallies;
 mod templates;
 #[cfg(test)]
 mod texts;
+#[cfg(test)]
+mod unread;
 #[cfg(test)]
 mod watches;

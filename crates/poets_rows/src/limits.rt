@@ -4,6 +4,7 @@ use crate::books::HEAD;
 use crate::program::{answered, joined, numbered, repeated};
 use std::alloc::Global;
 use std::process::Abort;
+use std::sync::Wait;
 use std::test::Fail;
 use std::thread::Threads;
 
@@ -31,7 +32,7 @@ const DECLARATIONS: [Copies; 7] = [
     ),
 ];
 
-fn copies_answered<R: Abort + Threads + Sync>(
+fn copies_answered<R: Abort + Threads + Wait + Sync>(
     rt: &R,
     alloc: Global,
     rows: &[Copies],
@@ -67,7 +68,7 @@ fn there_are_at_most_65536_commands(rt: HostRuntime) -> Result<(), Fail> {
 }
 
 // A registration of `Success` in so many brackets has this answer.
-fn brackets_answered<R: Abort + Threads + Sync>(
+fn brackets_answered<R: Abort + Threads + Wait + Sync>(
     rt: &R,
     alloc: Global,
     count: usize,
@@ -94,7 +95,7 @@ fn session(alloc: Global, command: &str) -> Result<String, Fail> {
 }
 
 // The command has this reply.
-fn replied<R: Abort + Threads + Sync>(
+fn replied<R: Abort + Threads + Wait + Sync>(
     rt: &R,
     alloc: Global,
     command: &str,

@@ -1,25 +1,30 @@
 //! The program, as the tests ask it.
 
-use poets_io::{TextSink, TextSource};
+use crate::gate::{Hold, HoldingGate};
+use poets_io::{ReadFault, TextSink, TextSource, read_up_to};
 use poets_top::run;
 use poets_value::{List, Memory};
 use std::alloc::Global;
 use std::process::Abort;
+use std::sync::Wait;
 use std::test::Fail;
 use std::thread::Threads;
 
-/// How the source and the sink behave: the bytes of a read, and the calls that fail.
+/// How the source, the sink and the gate behave: the bytes of a read, the reads and writes that fail, and the clerks'
+/// calls that are held.
 #[derive(Clone, Copy)]
 pub(crate) struct Edges<'a> {
     pub step: usize,
     pub reads: &'a [u64],
     pub writes: &'a [u64],
+    pub held: &'a [Hold],
 }
 
 pub(crate) const SOUND: Edges = Edges {
     step: 65_536,
     reads: &[],
     writes: &[],
+    held: &[],
 };
 
 /// A list of these items.
@@ -71,39 +76,67 @@ pub(crate) fn numbered(
     Ok(text)
 }
 
-/// Whether the program, called with the words, answers the text with the status, so many entries and these lines.
-pub(crate) fn answers<R: Threads + Sync>(
+/// What the program answered, and what it left.
+#[derive(Drop)]
+pub(crate) struct Answer {
+    status: u8,
+    entries: usize,
+    source: TextSource,
+    sink: TextSink,
+    gate: HoldingGate,
+}
+
+impl Answer {
+    /// Whether this is the status, there are so many entries, these lines are written, and no call was held in vain.
+    pub(crate) fn is(&self, (status, entries, lines): (u8, usize, &str)) -> bool {
+        self.status == status
+            && self.entries == entries
+            && self.sink.bytes() == lines.as_bytes()
+            && !self.gate.has_given_up()
+    }
+
+    /// Whether the source, whose first read fails, was not read: it still fails then, and goes on with the whole text.
+    pub(crate) fn is_unread(&mut self, alloc: Global, text: &str) -> bool {
+        let first = read_up_to(alloc, &mut self.source, text.len());
+        let second = read_up_to(alloc, &mut self.source, text.len());
+        matches!(first, Err(ReadFault::Failed))
+            && matches!(second, Ok(bytes) if bytes.as_slice() == text.as_bytes())
+    }
+}
+
+/// What the program, called with the words, answers to the text.
+pub(crate) fn ask<R: Threads + Wait + Sync>(
     rt: &R,
     alloc: Global,
     words: &[&str],
     text: &str,
     edges: &Edges,
-    (status, entries, lines): (u8, usize, &str),
-) -> Result<bool, Fail> {
+) -> Result<Answer, Fail> {
     let words = all_words(alloc, words)?;
     let bytes = list(alloc, text.as_bytes())?;
     let reads = list(alloc, edges.reads)?;
     let writes = list(alloc, edges.writes)?;
     let mut source = TextSource::new(alloc, bytes, edges.step.max(1), reads);
     let mut sink = TextSink::new(alloc, writes)?;
-    let outcome = run(rt, alloc, words.as_slice(), &mut source, &mut sink);
-    Ok(
-        outcome.status == status
-            && outcome.history.len() == entries
-            && sink.bytes() == lines.as_bytes(),
-    )
+    let gate = HoldingGate::new(alloc, edges.held)?;
+    let outcome = run(rt, alloc, words.as_slice(), &mut source, &mut sink, &gate);
+    Ok(Answer {
+        status: outcome.status,
+        entries: outcome.history.len(),
+        source,
+        sink,
+        gate,
+    })
 }
 
 /// `run` answers the text with the status, so many entries and these lines.
-pub(crate) fn answered<R: Abort + Threads + Sync>(
+pub(crate) fn answered<R: Abort + Threads + Wait + Sync>(
     rt: &R,
     alloc: Global,
     (about, text): (&str, &str),
-    answer: (u8, usize, &str),
+    wanted: (u8, usize, &str),
 ) -> Result<(), Fail> {
-    assert!(rt;
-        answers(rt, alloc, &["run"], text, &SOUND, answer)?,
-        "{about}"
-    );
+    let answer = ask(rt, alloc, &["run"], text, &SOUND)?;
+    assert!(rt; answer.is(wanted), "{about}");
     Ok(())
 }

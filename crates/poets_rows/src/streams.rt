@@ -1,15 +1,17 @@
-//! Reads and writes that are short, fail or cannot fail, and words that are no command form.
+//! Reads and writes that are short, fail or cannot fail.
 
-use crate::program::{Edges, SOUND, all_words, answers, joined, list};
+use crate::program::{Edges, SOUND, all_words, ask, joined, list};
+use poets_clerks::NoGate;
 use poets_io::{SureSink, SureSource};
 use poets_top::run;
 use std::alloc::Global;
 use std::process::Abort;
+use std::sync::Wait;
 use std::test::Fail;
 use std::thread::Threads;
 
-// A contract that is ended at once, and then once more.
-const ENDED: &str = "agents ann, bob;; kinds Oil, USD;; clerk;;
+/// A contract that is ended at once, and then once more.
+pub(crate) const ENDED: &str = "agents ann, bob;; kinds Oil, USD;; clerk;;
 register a = Success;; show a;; end a;; end a;;";
 
 const LINES: [&str; 4] = [
@@ -23,7 +25,7 @@ const REFUSED: &str = "agents ann, ann;;";
 
 // The program, called with the words, answers the text so over such a source and sink: the status, the number of entries,
 // and how many of the lines are written.
-fn answered<R: Abort + Threads + Sync>(
+fn answered<R: Abort + Threads + Wait + Sync>(
     rt: &R,
     alloc: Global,
     (words, text): (&[&str], &str),
@@ -34,14 +36,14 @@ fn answered<R: Abort + Threads + Sync>(
     for line in LINES.iter().take(written) {
         lines.push_str(line)?;
     }
-    let answer = (status, entries, lines.as_str());
-    let holds = answers(rt, alloc, words, text, edges, answer)?;
+    let answer = ask(rt, alloc, words, text, edges)?;
+    let holds = answer.is((status, entries, lines.as_str()));
     assert!(rt; holds, "{words:?}, {text}, {written}");
     Ok(())
 }
 
 // Short reads change nothing.
-fn reads_are_short<R: Abort + Threads + Sync>(rt: &R, alloc: Global) -> Result<(), Fail> {
+fn reads_are_short<R: Abort + Threads + Wait + Sync>(rt: &R, alloc: Global) -> Result<(), Fail> {
     for step in [1, 2, 7, 250] {
         let edges = Edges { step, ..SOUND };
         answered(rt, alloc, (&["run"], ENDED), &edges, (0, 4, 4))?;
@@ -58,12 +60,12 @@ const UNREAD: [(&str, u64); 5] = [
 ];
 
 // A failing read writes nothing.
-fn reads_fail<R: Abort + Threads + Sync>(rt: &R, alloc: Global) -> Result<(), Fail> {
+fn reads_fail<R: Abort + Threads + Wait + Sync>(rt: &R, alloc: Global) -> Result<(), Fail> {
     for (word, at) in UNREAD {
         let edges = Edges {
             step: 50,
             reads: &[at],
-            writes: &[],
+            ..SOUND
         };
         answered(rt, alloc, (&[word], ENDED), &edges, (4, 0, 0))?;
     }
@@ -71,7 +73,7 @@ fn reads_fail<R: Abort + Threads + Sync>(rt: &R, alloc: Global) -> Result<(), Fa
 }
 
 // A failing write leaves whole lines of the history, which is made whole.
-fn writes_fail<R: Abort + Threads + Sync>(rt: &R, alloc: Global) -> Result<(), Fail> {
+fn writes_fail<R: Abort + Threads + Wait + Sync>(rt: &R, alloc: Global) -> Result<(), Fail> {
     for (at, written) in [(1, 0), (2, 1), (3, 2), (4, 3)] {
         let edges = Edges {
             writes: &[at],
@@ -90,7 +92,7 @@ const UNWRITTEN: [(&str, &str); 4] = [
 ];
 
 // A failing write leaves no line of a book, nor of a text that is refused.
-fn only_writes_fail<R: Abort + Threads + Sync>(rt: &R, alloc: Global) -> Result<(), Fail> {
+fn only_writes_fail<R: Abort + Threads + Wait + Sync>(rt: &R, alloc: Global) -> Result<(), Fail> {
     let edges = Edges {
         writes: &[1],
         ..SOUND
@@ -109,37 +111,22 @@ fn reads_and_writes_are_short_or_fail(rt: HostRuntime) -> Result<(), Fail> {
     only_writes_fail(&rt, rt.alloc())
 }
 
-// The words are no command form; each first call would fail.
-fn no_form<R: Abort + Threads + Sync>(rt: &R, alloc: Global, words: &[&str]) -> Result<(), Fail> {
-    let edges = Edges {
-        step: 100,
-        reads: &[1],
-        writes: &[1],
-    };
-    answered(rt, alloc, (words, ENDED), &edges, (2, 0, 0))
-}
-
-#[test]
-fn other_words_read_and_write_nothing(rt: HostRuntime) -> Result<(), Fail> {
-    let alloc = rt.alloc();
-    no_form(&rt, alloc, &[])?;
-    for word in ["-h", "runs", "Check", "replays", "explain", ""] {
-        no_form(&rt, alloc, &[word])?;
-    }
-    for word in ["run", "check", "replay", "demo"] {
-        no_form(&rt, alloc, &[word, "run"])?;
-    }
-    Ok(())
-}
-
 #[test]
 fn a_sure_source_and_a_sure_sink_never_fail(rt: HostRuntime) -> Result<(), Fail> {
     let alloc = rt.alloc();
     let words = all_words(alloc, &["run"])?;
     let mut source = SureSource::new(alloc, list(alloc, ENDED.as_bytes())?);
     let mut sink = SureSink::new();
-    let outcome = run(&rt, alloc, words.as_slice(), &mut source, &mut sink);
+    let outcome = run(
+        &rt,
+        alloc,
+        words.as_slice(),
+        &mut source,
+        &mut sink,
+        &NoGate,
+    );
     assert_eq!(rt; outcome.status, 0);
+    assert_eq!(rt; outcome.history.len(), 4);
     let lines = joined(alloc, &LINES)?;
     assert_eq!(rt; sink.taken(), lines.len() as u64);
     Ok(())

@@ -1,8 +1,10 @@
 //! Tables of rows: what the program reads in each, and what it answers.
 
-use crate::program::{SOUND, answers};
+use crate::gate::{ClerkCall, Hold};
+use crate::program::{Answer, Edges, SOUND, ask};
 use std::alloc::Global;
 use std::process::Abort;
+use std::sync::Wait;
 use std::test::Fail;
 use std::thread::Threads;
 
@@ -16,8 +18,12 @@ pub(crate) enum Line<'a> {
     Text(&'a str),
     /// It goes on with these commands, which clerk 1 makes: each stands on a line, before its reply.
     Steps(&'a str),
+    /// The first of these calls is held until the second is answered.
+    Held(ClerkCall, ClerkCall),
     /// These lines are written, one of each command.
     Entries(&'a str),
+    /// Or these lines, as many.
+    Or(&'a str),
     /// This is written, and not of a command.
     Written(&'a str),
 }
@@ -30,12 +36,14 @@ pub(crate) struct Call<'a> {
     pub status: u8,
 }
 
-// A row, as far as it is read: what it shows, its text, and what is written of it.
+// A row, as far as it is read: what it shows, its text, the calls that are held, and what is written of it.
 #[derive(Drop)]
 struct Row<'a> {
     about: &'a str,
     text: String,
+    held: Vec<Hold>,
     lines: String,
+    other_lines: Option<&'a str>,
     entries: usize,
 }
 
@@ -43,7 +51,9 @@ fn begun<'a>(alloc: Global, about: &'a str, head: &str) -> Result<Row<'a>, Fail>
     Ok(Row {
         about,
         text: String::from_str(alloc, head)?,
+        held: Vec::new(alloc),
         lines: String::new(alloc),
+        other_lines: None,
         entries: 0,
     })
 }
@@ -86,23 +96,37 @@ impl Row<'_> {
         }
         Ok(())
     }
+
+    // Whether this is an answer to the row.
+    fn has_answer(&self, status: u8, answer: &Answer) -> bool {
+        let is_first = answer.is((status, self.entries, self.lines.as_str()));
+        let is_other = match self.other_lines {
+            Some(lines) => answer.is((status, self.entries, lines)),
+            None => false,
+        };
+        is_first || is_other
+    }
 }
 
 // The program answers the row so.
-fn ask<R: Abort + Threads + Sync>(
+fn one_row<R: Abort + Threads + Wait + Sync>(
     rt: &R,
     alloc: Global,
     call: &Call,
     row: &Row,
 ) -> Result<(), Fail> {
-    let answer = (call.status, row.entries, row.lines.as_str());
-    let holds = answers(rt, alloc, &[call.word], row.text.as_str(), &SOUND, answer)?;
+    let edges = Edges {
+        held: row.held.as_slice(),
+        ..SOUND
+    };
+    let answer = ask(rt, alloc, &[call.word], row.text.as_str(), &edges)?;
+    let holds = row.has_answer(call.status, &answer);
     assert!(rt; holds, "{}: {}: {}", row.about, call.word, row.text);
     Ok(())
 }
 
 /// The program answers as each row of the table says.
-pub(crate) fn each_row<R: Abort + Threads + Sync>(
+pub(crate) fn each_row<R: Abort + Threads + Wait + Sync>(
     rt: &R,
     alloc: Global,
     call: &Call,
@@ -114,16 +138,18 @@ pub(crate) fn each_row<R: Abort + Threads + Sync>(
         match *line {
             Line::Row(about) => {
                 if is_begun {
-                    ask(rt, alloc, call, &row)?;
+                    one_row(rt, alloc, call, &row)?;
                 }
                 is_begun = true;
                 row = begun(alloc, about, call.head)?;
             }
             Line::Text(text) => row.text.push_str(text)?,
             Line::Steps(steps) => row.add_steps(alloc, steps)?,
+            Line::Held(call, other) => row.held.push((call, other))?,
             Line::Entries(lines) => row.add_entries(lines)?,
+            Line::Or(lines) => row.other_lines = Some(lines),
             Line::Written(line) => row.lines.push_str(line)?,
         }
     }
-    ask(rt, alloc, call, &row)
+    one_row(rt, alloc, call, &row)
 }

@@ -1,6 +1,7 @@
 //! Whole sessions, as they are written, and the histories that are written of them.
 
-use crate::table::Line::{self, Entries, Row, Text};
+use crate::books::HEAD;
+use crate::table::Line::{self, Entries, Held, Or, Row, Text};
 
 // A sale with other white space than it is printed with, and brackets that its tree does not ask for.
 const SALE: &str = "agents ann, bob;; kinds Oil, USD;; clerk;;
@@ -13,6 +14,21 @@ transmit sale bob ann 500 USD @2006-06-02;;";
 
 const TWICE: &str =
     "agents ann, bob;; kinds Oil, USD;; clerk;; register z = Success;; clerk;; register z = Success;;";
+
+// The first clerk registers the name.
+const BY_FIRST: &str = "1 1: register z = Success => registered 1
+2 2: register z = Success => name taken by 1
+";
+
+// The second clerk registers it.
+const BY_SECOND: &str = "1 2: register z = Success => registered 1
+2 1: register z = Success => name taken by 1
+";
+
+// Four clerks with the same script.
+const FOUR_TIMES: &str = "
+clerk;; register z = Success;; clerk;; register z = Success;;
+clerk;; register z = Success;; clerk;; register z = Success;;";
 
 const ORDER: &str = "agents ann, bob;; kinds Oil, USD;;
 clerk;; register c = (transmit(a, b, r, t | r = [7 Oil]). Success || transmit(a, b, r, t | r = [3 Oil]). Success) ; transmit(c, d, p, w | p = [500 USD]). Success;;
@@ -42,7 +58,7 @@ transmit flat renter owner 1 Key @2006-02-01;;
 clerk;; transmit flat renter owner 700 USD @2006-03-03;; transmit flat renter owner 700 USD @2006-03-02;;
 transmit flat renter owner 700 USD @2006-03-02;; transmit flat renter owner 1 Key @2006-03-31;;";
 
-pub(crate) const RUN: [Line; 21] = [
+pub(crate) const RUN: [Line; 44] = [
     Row("an empty text is a session"),
     Text(""),
     Row("a session may have a book and no command"),
@@ -60,15 +76,43 @@ pub(crate) const RUN: [Line; 21] = [
 6 1: transmit sale bob ann 500 USD @2006-06-02 => recorded 2, may end yes
 ",
     ),
-    Row("scripts are made one after the other"),
+    Row("two clerks register one name"),
     Text(TWICE),
+    Entries(BY_FIRST),
+    Or(BY_SECOND),
+    Row("the second clerk comes first"),
+    Text(TWICE),
+    Held((1, 1), (2, 1)),
+    Entries(BY_SECOND),
+    Row("the first clerk comes first"),
+    Text(TWICE),
+    Held((2, 1), (1, 1)),
+    Entries(BY_FIRST),
+    Row("eight clerks come in turn from the last"),
+    Text(HEAD),
+    Text(FOUR_TIMES),
+    Text(FOUR_TIMES),
+    Held((1, 1), (2, 1)),
+    Held((2, 1), (3, 1)),
+    Held((3, 1), (4, 1)),
+    Held((4, 1), (5, 1)),
+    Held((5, 1), (6, 1)),
+    Held((6, 1), (7, 1)),
+    Held((7, 1), (8, 1)),
     Entries(
-        "1 1: register z = Success => registered 1
-2 2: register z = Success => name taken by 1
+        "1 8: register z = Success => registered 1
+2 7: register z = Success => name taken by 1
+3 6: register z = Success => name taken by 1
+4 5: register z = Success => name taken by 1
+5 4: register z = Success => name taken by 1
+6 3: register z = Success => name taken by 1
+7 2: register z = Success => name taken by 1
+8 1: register z = Success => name taken by 1
 ",
     ),
     Row("two clerks share an order"),
     Text(ORDER),
+    Held((2, 1), (1, 3)),
     Entries(
         "1 1: register c = (transmit(a, b, r, t | r = [7 Oil]). Success || transmit(a, b, r, t | r = [3 Oil]). Success) ; transmit(c, d, p, w | p = [500 USD]). Success => registered 1
 2 1: transmit c ann bob 3 Oil @2006-05-03 => recorded 1, may end no
@@ -88,6 +132,7 @@ pub(crate) const RUN: [Line; 21] = [
     ),
     Row("a lease is paid month by month"),
     Text(LEASE),
+    Held((2, 1), (1, 4)),
     Entries(
         "1 1: register flat = lease(700, 2, @2006-01-01) => registered 1
 2 1: transmit flat owner renter 1 Key @2006-01-01 => recorded 1, may end no

@@ -1,5 +1,10 @@
 -- What contracts see of a shared engine.
-use Rattle.poets_call.specs.Calls.{Request}
+use Rattle.std.specs.Prelude.{List, All}
+use Rattle.std.specs.declared.alloc.Global.{Global}
+use Rattle.std.specs.declared.sync.Arc.{Arc}
+use Rattle.std.specs.Arc.{arc_value}
+use Rattle.poets_call.specs.declared.call.Command.{Command}
+use Rattle.poets_call.specs.Calls.{Request, request_of}
 use Rattle.poets_call.specs.Rules.{book_of, reports_of}
 use Rattle.poets_call.specs.Taken.{IsTaken}
 use Rattle.poets_call.specs.declared.rules.Rules.{Rules}
@@ -12,3 +17,7 @@ rules_of engine = engine.rules
 -- an engine takes the command, whatever its book is
 abbrev pub IsTakenByAll : Request → Type 0
 IsTakenByAll request = (rules : Rules) → IsTaken (book_of rules) (reports_of rules) request
+
+-- an engine takes each command of the script, whatever its book is
+abbrev pub IsScriptTakenByAll : List (Arc Command Global) → Type 0
+IsScriptTakenByAll script = All (λ c. IsTakenByAll (request_of (arc_value c))) script

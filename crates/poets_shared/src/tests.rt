@@ -1,11 +1,12 @@
 //! Clerks at a turnstile over an engine.
 ghost use Rattle.std.specs.Prelude.{◌≡◌, ◌<◌, ◌≤◌, [], length, All, IfOk};
-ghost use Rattle.poets_syntax.specs.Contract.{Success};
-ghost use Rattle.poets_call.specs.Calls.{request_of, Request};
+ghost use Rattle.std.specs.Arc.{arc_value};
+ghost use Rattle.poets_call.specs.Calls.{request_of};
 ghost use Rattle.poets_turn.specs.Clerks.{AreNumbered, IsClerkOf, clerk_count, number};
-ghost use Rattle.poets_shared.specs.Sharing.{IsTakenByAll, rules_of};
+ghost use Rattle.poets_shared.specs.Sharing.{IsScriptTakenByAll, IsTakenByAll, rules_of};
 
 use poets_call::{Command, Reply, Rules};
+use poets_clerks::{Done, NoGate, WorkedOf, work};
 use poets_engine::Engine;
 use poets_expr::Decls;
 use poets_guard::study;
@@ -57,12 +58,13 @@ fn closed(turn: Turn<Engine>, clerks: List<Clerk<Engine>>) -> Engine
 }
 
 // A command that registers `Success` under a name.
-fn registration(alloc: Global, id: u32) -> Result<Command, Memory>
-    ensures { IfOk result (λ c. request_of c ≡ Request.Register (record { id = id }) Success) }
+fn registration(alloc: Global, id: u32) -> Result<Arc<Command>, Memory>
+    ensures { IfOk result (λ c. IsTakenByAll (request_of (arc_value c))) }
 {
     let term = Arc::new(alloc, Term::Success)?;
     let name = Name { id };
-    Ok(Command::Register { name, term })
+    let command = Arc::new(alloc, Command::Register { name, term })?;
+    Ok(command)
 }
 
 // The clerk makes the call. Its place, and the reply.
@@ -71,15 +73,14 @@ fn make<R: Threads + Wait + Sync>(
     alloc: Global,
     turn: &Turn<Engine>,
     clerk: &mut Clerk<Engine>,
-    command: Command,
+    call: &Arc<Command>,
 ) -> Result<(u64, Reply), Memory>
     requires of { IsClerkOf rules_of turn.now clerk.old }
-    requires taken { IsTakenByAll (request_of command) }
+    requires taken { IsTakenByAll (request_of (arc_value call.now)) }
     ensures of { IsClerkOf rules_of turn.now clerk.new }
     ensures number { number clerk.new ≡ number clerk.old }
 {
-    let call = Arc::new(alloc, command)?;
-    let kept = turn.call(rt, alloc, clerk, &call)?;
+    let kept = turn.call(rt, alloc, clerk, call)?;
     let place = Engine::place(&kept);
     let reply = <Engine as Machine>::finish(rt, alloc, kept)?;
     Ok((place, reply))
@@ -97,8 +98,8 @@ fn register<R: Threads + Wait + Sync>(
     ensures of { IsClerkOf rules_of turn.now clerk.new }
     ensures number { number clerk.new ≡ number clerk.old }
 {
-    let command = registration(alloc, id)?;
-    let (place, reply) = make(rt, alloc, turn, clerk, command)?;
+    let call = registration(alloc, id)?;
+    let (place, reply) = make(rt, alloc, turn, clerk, &call)?;
     match reply {
         Reply::Registered(number) => Ok((place, number)),
         _ => Ok((place, 0)),
@@ -172,5 +173,75 @@ fn a_clerk_hears_of_another_clerks_calls(rt: HostRuntime) -> Result<(), Fail> {
     assert_eq!(rt; register(&rt, alloc, &turn, &mut two, 13)?, (3, 3));
     let engine = closed_pair(turn, list, one, two);
     assert_eq!(rt; engine.history().len(), 4);
+    Ok(())
+}
+
+// Three registrations, under names of the clerk's own.
+fn script(alloc: Global, clerk: u32) -> Result<List<Arc<Command>>, Memory>
+    requires { clerk < 8 }
+    ensures { IfOk result (λ s. IsScriptTakenByAll s.items) }
+{
+    let mut script = List::new(alloc);
+    for nth in 0..3u32 {
+        push(&mut script, registration(alloc, clerk * 10 + nth)?)?;
+    }
+    Ok(script)
+}
+
+// Such a script for each of eight clerks.
+fn scripts(alloc: Global) -> Result<List<List<Arc<Command>>>, Memory>
+    ensures { IfOk result (λ l. (length l.items ≡ 8) × All (λ s. IsScriptTakenByAll s.items) l.items) }
+{
+    let mut scripts = List::new(alloc);
+    for clerk in 0..8u32 {
+        push(&mut scripts, script(alloc, clerk)?)?;
+    }
+    Ok(scripts)
+}
+
+// How many entries each clerk has, if each is its clerk's next registration, which the clerk's next answer tells the
+// place of, and the next contract's number. No clerk has the number 0.
+fn entries_of_each(
+    history: &[(u32, Arc<Command>)],
+    answers: &List<List<Done<Engine>>>,
+) -> Option<[usize; 8]> {
+    let mut entries = [0; 8];
+    for (place, (number, command)) in history.iter().enumerate() {
+        let clerk = number.checked_sub(1)? as usize;
+        let nth = entries.get_mut(clerk)?;
+        let Command::Register { name, .. } = &**command else {
+            return None;
+        };
+        let done = answers.get(clerk)?.get(*nth)?;
+        let Reply::Registered(contract) = &done.reply else {
+            return None;
+        };
+        let place = place as u64;
+        if name.id as usize != (clerk * 10).wrapping_add(*nth)
+            || done.place == place
+            || *contract != place + 1
+        {
+            return None;
+        }
+        *nth = nth.wrapping_add(1);
+    }
+    Some(entries)
+}
+
+#[test]
+fn eight_clerks_share_an_engine(rt: HostRuntime) -> Result<(), Fail> {
+    let alloc = rt.alloc();
+    let scripts = scripts(alloc)?;
+    let (turn, clerks) = opened(alloc, 8)?;
+    let WorkedOf {
+        clerks,
+        answers,
+        memory,
+    } = work(&rt, alloc, &turn, clerks, &scripts, &NoGate);
+    let engine = turn.close(clerks);
+    assert!(rt; !memory);
+    assert_eq!(rt; engine.history().len(), 24);
+    let entries = entries_of_each(engine.history().as_slice(), &answers);
+    assert_eq!(rt; entries, Some([3; 8]));
     Ok(())
 }

@@ -1,6 +1,6 @@
 -- How runs end.
 use Rattle.std.proofs.Common.{◌≡◌, ◌≢◌, ℕ, ◌+◌, ◌<◌, ◌≤◌, List, [], length, Option, Some, None, refl, sym, ◌∙◌, ap, subst, ◌⊎◌, inl, inr, arith}
-use Rattle.std.specs.Prelude.{option_map}
+use Rattle.std.specs.Prelude.{option_map, IfSome}
 use Rattle.std.specs.Io.KnownBytes.{Appends}
 use Rattle.poets_io.specs.Causes.{Rose}
 use Rattle.poets_io.specs.Streams.{AppendsPart, GivesAll, LosesFront}
@@ -15,26 +15,38 @@ use Rattle.poets_session.specs.declared.session.Session.{Session}
 use Rattle.poets_session.specs.Texts.{refusal_text}
 use Rattle.poets_session.specs.declared.fault.SessionFault.{SessionFault}
 use Rattle.poets_session.proofs.LawsRefused.{session_unrefused}
+use Rattle.poets_print.specs.Lines.{history_text}
+use Rattle.poets_words.specs.Words.{Asks}
+use Rattle.poets_words.specs.declared.mode.Mode.{Mode}
+use Rattle.poets_words.specs.declared.mode.Mode.TheVariants as M
+use Rattle.poets_words.proofs.Forms.{asked_once}
+use Rattle.poets_top.specs.Demonstrating.{IsDemonstration, HasDemonstrated}
 use Rattle.poets_top.specs.Replaying.{HasReplayed}
 use Rattle.poets_top.specs.Running.{HasRun}
-use Rattle.poets_top.specs.Runs.{IsMade, IsAnswerTo, IsResult, IsEnding, Deserves, IsStatusOrMemory, longest, block}
+use Rattle.poets_top.specs.Runs.{IsMade, IsAnswerTo, IsResult, IsEnding, Ends, Deserves, DeservesRun, IsStatusOrMemory, NoFaultRose, longest, block}
 use Rattle.poets_top.specs.Sessions.{IsSessionOf}
-use Rattle.poets_top.specs.Words.{Asks, form_of}
+use Rattle.poets_top.specs.Tasks.{form_of}
 use Rattle.poets_top.specs.Writing.{Stream, HasFailed, IsWritten}
-use Rattle.poets_top.specs.declared.words.Task.{Task}
-use Rattle.poets_top.specs.declared.words.Task.TheVariants as T
+use Rattle.poets_words.specs.declared.mode.Task.{Task}
+use Rattle.poets_words.specs.declared.mode.Task.TheVariants as T
 
 -- ---- what is written
 
 module _ (Is : ℕ → List HistoryEntry → List ℕ → Type 0) (sink sink' : Stream) where
-  -- a line was written, or a front of it up to a fault
+  -- the line of an outcome was written, or a front of it up to a fault
+  pub IsWritten-outcome : (wanted status : ℕ) (h g : List HistoryEntry) (line : List ℕ) → h ≡ g → Is wanted g line →
+      ((status ≡ wanted) × Appends sink.bytes sink'.bytes line × (sink'.faults ≡ sink.faults)) ⊎ ((status ≡ 5) × AppendsPart sink.bytes sink'.bytes line × HasFailed sink sink') →
+      IsWritten Is sink sink' status h
+  IsWritten-outcome wanted status h g line same a (inl w) =
+      subst (λ s. IsWritten Is sink sink' s h) (sym w.0) (subst (IsWritten Is sink sink' wanted) (sym same) (IsWritten.Whole a w.1 w.2))
+  IsWritten-outcome wanted status h g line same a (inr w) =
+      subst (λ s. IsWritten Is sink sink' s h) (sym w.0) (subst (IsWritten Is sink sink' 5) (sym same) (IsWritten.Failed a w.1 w.2))
+
+  -- so was a line that is none of a history
   pub IsWritten-line : (wanted status : ℕ) (h : List HistoryEntry) (line : List ℕ) → h ≡ [] → Is wanted [] line →
       ((status ≡ wanted) × Appends sink.bytes sink'.bytes line × (sink'.faults ≡ sink.faults)) ⊎ ((status ≡ 5) × AppendsPart sink.bytes sink'.bytes line × HasFailed sink sink') →
       IsWritten Is sink sink' status h
-  IsWritten-line wanted status h line empty a (inl w) =
-      subst (λ s. IsWritten Is sink sink' s h) (sym w.0) (subst (IsWritten Is sink sink' wanted) (sym empty) (IsWritten.Whole a w.1 w.2))
-  IsWritten-line wanted status h line empty a (inr w) =
-      subst (λ s. IsWritten Is sink sink' s h) (sym w.0) (subst (IsWritten Is sink sink' 5) (sym empty) (IsWritten.Failed a w.1 w.2))
+  IsWritten-line wanted status h line empty a w = IsWritten-outcome wanted status h [] line empty a w
 
   -- nothing was written for want of memory
   pub IsWritten-nothing : (status : ℕ) (h : List HistoryEntry) → sink' ≡ sink → status ≡ 3 → h ≡ [] → IsWritten Is sink sink' status h
@@ -46,7 +58,7 @@ pub IsWritten-weaker : (A B : ℕ → List HistoryEntry → List ℕ → Type 0)
     ((s : ℕ) (g : List HistoryEntry) (text : List ℕ) → A s g text → B s g text) → IsWritten A sink sink' status h → IsWritten B sink sink' status h
 IsWritten-weaker A B sink sink' f (IsWritten.Whole {status = s} {h = g} {text = t} a w k) = IsWritten.Whole (f s g t a) w k
 IsWritten-weaker A B sink sink' f (IsWritten.Failed {status = s} {h = g} {text = t} a w r) = IsWritten.Failed (f s g t a) w r
-IsWritten-weaker A B sink sink' f (IsWritten.MemoryBetween {h = g} {text = t} a some w k) = IsWritten.MemoryBetween (f 0 g t a) some w k
+IsWritten-weaker A B sink sink' f (IsWritten.MemoryBetween {h = g} names a some w k) = IsWritten.MemoryBetween names (f 0 g (history_text names g) a) some w k
 IsWritten-weaker A B sink sink' f (IsWritten.MemoryBefore e) = IsWritten.MemoryBefore e
 
 -- the source failed
@@ -84,43 +96,26 @@ module _ (task : Task) (source source' sink sink' : Stream) where
   written_not_two : {status : ℕ} {h : List HistoryEntry} → IsWritten (IsResult task source source') sink sink' status h → status ≢ 2
   written_not_two (IsWritten.Whole {status = s} a w k) = no_two s (result_status a)
   written_not_two (IsWritten.Failed a w r) = λ e. omega (arith, e)
-  written_not_two (IsWritten.MemoryBetween a some w k) = λ e. omega (arith, e)
+  written_not_two (IsWritten.MemoryBetween names a some w k) = λ e. omega (arith, e)
   written_not_two (IsWritten.MemoryBefore e) = λ e. omega (arith, e)
 
   -- words that ask for a task do not end with the status of words that ask for none
-  pub IsEnding-not_two : {status : ℕ} {h : List HistoryEntry} → IsEnding task source source' sink sink' status h → status ≢ 2
+  IsEnding-not_two : {status : ℕ} {h : List HistoryEntry} → IsEnding task source source' sink sink' status h → status ≢ 2
   IsEnding-not_two (IsEnding.Answered k w) = written_not_two w
   IsEnding-not_two (IsEnding.ReadFailed r l k) = λ e. omega (arith, e)
 
   written_later : {status : ℕ} {h : List HistoryEntry} → IsWritten (IsResult task source source') sink sink' status h → sink.faults ≤ sink'.faults
   written_later (IsWritten.Whole a w k) = omega (arith, k)
   written_later (IsWritten.Failed a w r) = r.later
-  written_later (IsWritten.MemoryBetween a some w k) = omega (arith, k)
+  written_later (IsWritten.MemoryBetween names a some w k) = omega (arith, k)
   written_later (IsWritten.MemoryBefore e) = let k = ap (λ s. s.faults) e in omega (arith, k)
 
   -- the counts of faults do not fall
-  pub IsEnding-later : {status : ℕ} {h : List HistoryEntry} → IsEnding task source source' sink sink' status h → (source.faults ≤ source'.faults) × (sink.faults ≤ sink'.faults)
+  IsEnding-later : {status : ℕ} {h : List HistoryEntry} → IsEnding task source source' sink sink' status h → (source.faults ≤ source'.faults) × (sink.faults ≤ sink'.faults)
   IsEnding-later (IsEnding.Answered k w) = (omega (arith, k), written_later w)
   IsEnding-later (IsEnding.ReadFailed r l k) = let e = ap (λ s. s.faults) k in (r.later, omega (arith, e))
 
 -- ---- a text that the source told
-
--- words ask for one task
-pub asked_once : (words : List (List ℕ)) (a b : Task) → Asks words a → Asks words b → a ≡ b
-asked_once words T.Check T.Check h k = refl
-asked_once words T.Check T.Run h k = absurd cc
-asked_once words T.Check T.Replay h k = absurd cc
-asked_once words T.Run T.Check h k = absurd cc
-asked_once words T.Run T.Run h k = refl
-asked_once words T.Run T.Replay h k = absurd cc
-asked_once words T.Replay T.Check h k = absurd cc
-asked_once words T.Replay T.Run h k = absurd cc
-asked_once words T.Replay T.Replay h k = refl
-
--- a run for one task is one for the task that was asked for
-pub ended_for : (task asked : Task) (source source' sink sink' : Stream) (status : ℕ) (h : List HistoryEntry) → task ≡ asked →
-    IsEnding task source source' sink sink' status h → IsEnding asked source source' sink sink' status h
-ended_for task asked source source' sink sink' status h same e = subst (λ t. IsEnding t source source' sink sink' status h) same e
 
 -- a session that was read is one of the task's form
 pub IsSessionOf-read : (task asked : Task) (text : Text) (form : Form) (statements : List Sentence) (session : Session) → asked ≡ task → form ≡ form_of asked →
@@ -175,11 +170,11 @@ module _ (text : Text) (task : Task) (source source' : Stream) (told : source.by
       IsWritten (IsResult task source source') sink sink' status h → IsStatusOrMemory wanted status
   written_status sink sink' wanted d n (IsWritten.Whole a w k) = inl (told_status d a)
   written_status sink sink' wanted d n (IsWritten.Failed a w r) = absurd (n r.rose)
-  written_status sink sink' wanted d n (IsWritten.MemoryBetween a some w k) = inr refl
+  written_status sink sink' wanted d n (IsWritten.MemoryBetween names a some w k) = inr refl
   written_status sink sink' wanted d n (IsWritten.MemoryBefore e) = inr refl
 
   -- where neither the source nor the sink failed
-  pub IsEnding-status : (sink sink' : Stream) (wanted : ℕ) → Deserves task text wanted → (Rose source.faults source'.faults → ⊥) → (Rose sink.faults sink'.faults → ⊥) →
+  IsEnding-status : (sink sink' : Stream) (wanted : ℕ) → Deserves task text wanted → (Rose source.faults source'.faults → ⊥) → (Rose sink.faults sink'.faults → ⊥) →
       {status : ℕ} {h : List HistoryEntry} → IsEnding task source source' sink sink' status h → IsStatusOrMemory wanted status
   IsEnding-status sink sink' wanted d m n (IsEnding.Answered k w) = written_status sink sink' wanted d n w
   IsEnding-status sink sink' wanted d m n (IsEnding.ReadFailed r l k) = absurd (m r.rose)
@@ -219,16 +214,76 @@ module _ (task : Task) (source source' sink sink' : Stream) where
   written_done : {s : ℕ} {h : List HistoryEntry} → s ≡ 0 → IsWritten (IsResult task source source') sink sink' s h → IsDone task source source' sink sink' h
   written_done z (IsWritten.Whole r a k) = done_with z r a
   written_done z (IsWritten.Failed r a k) = absurd (omega (arith, z))
-  written_done z (IsWritten.MemoryBetween r some a k) = absurd (omega (arith, z))
+  written_done z (IsWritten.MemoryBetween names r some a k) = absurd (omega (arith, z))
   written_done z (IsWritten.MemoryBefore e) = absurd (omega (arith, z))
 
   ending_done : {s : ℕ} {h : List HistoryEntry} → s ≡ 0 → IsEnding task source source' sink sink' s h → IsDone task source source' sink sink' h
   ending_done z (IsEnding.Answered k w) = written_done z w
   ending_done z (IsEnding.ReadFailed r l k) = absurd (omega (arith, z))
 
-module _ (source source' sink sink' : Stream) (status : ℕ) (h : List HistoryEntry) (zero : status ≡ 0) where
-  pub run_done : IsEnding T.Run source source' sink sink' status h → HasRun source.bytes source'.bytes sink.bytes sink'.bytes h
-  run_done e =
+-- ---- demonstrations
+
+demo_status : {sales s : ℕ} {h : List HistoryEntry} {w : List ℕ} → IsDemonstration sales s h w → s ≡ 0
+demo_status (IsDemonstration.Demonstrated d) = refl
+
+shown_by : {sales s : ℕ} {h : List HistoryEntry} {w : List ℕ} {held held' : Option (List ℕ)} → IsDemonstration sales s h w → Appends held held' w → HasDemonstrated sales held held' h
+shown_by {held = held} {held' = held'} (IsDemonstration.Demonstrated d) a = record {
+  demonstrated = record { names = d.names; statements = d.statements; session = d.session; history = d.history; line_is = refl };
+  written = subst (Appends held held') d.line_is a;
+}
+
+module _ (sales : ℕ) (sink sink' : Stream) where
+  demo_not_two : {status : ℕ} {h : List HistoryEntry} → IsWritten (IsDemonstration sales) sink sink' status h → status ≢ 2
+  demo_not_two (IsWritten.Whole a w k) = let z = demo_status a in λ e. omega arith
+  demo_not_two (IsWritten.Failed a w r) = λ e. omega (arith, e)
+  demo_not_two (IsWritten.MemoryBetween names a some w k) = λ e. omega (arith, e)
+  demo_not_two (IsWritten.MemoryBefore e) = λ e. omega (arith, e)
+
+  demo_later : {status : ℕ} {h : List HistoryEntry} → IsWritten (IsDemonstration sales) sink sink' status h → sink.faults ≤ sink'.faults
+  demo_later (IsWritten.Whole a w k) = omega (arith, k)
+  demo_later (IsWritten.Failed a w r) = r.later
+  demo_later (IsWritten.MemoryBetween names a some w k) = omega (arith, k)
+  demo_later (IsWritten.MemoryBefore e) = let k = ap (λ s. s.faults) e in omega (arith, k)
+
+  demo_ended : {status : ℕ} {h : List HistoryEntry} → (Rose sink.faults sink'.faults → ⊥) → IsWritten (IsDemonstration sales) sink sink' status h → IsStatusOrMemory 0 status
+  demo_ended n (IsWritten.Whole a w k) = inl (demo_status a)
+  demo_ended n (IsWritten.Failed a w r) = absurd (n r.rose)
+  demo_ended n (IsWritten.MemoryBetween names a some w k) = inr refl
+  demo_ended n (IsWritten.MemoryBefore e) = inr refl
+
+  demo_shown : {status : ℕ} {h : List HistoryEntry} → status ≡ 0 → IsWritten (IsDemonstration sales) sink sink' status h → HasDemonstrated sales sink.bytes sink'.bytes h
+  demo_shown z (IsWritten.Whole a w k) = shown_by a w
+  demo_shown z (IsWritten.Failed a w r) = absurd (omega (arith, z))
+  demo_shown z (IsWritten.MemoryBetween names a some w k) = absurd (omega (arith, z))
+  demo_shown z (IsWritten.MemoryBefore e) = absurd (omega (arith, z))
+
+-- ---- runs
+
+module _ (source source' sink sink' : Stream) (status : ℕ) (h : List HistoryEntry) where
+  -- a run for one thing is one for the thing that was asked for
+  pub Ends-asked : (words : List (List ℕ)) (mode asked : Mode) → Asks words mode → Asks words asked → Ends source source' sink sink' status h mode → Ends source source' sink sink' status h asked
+  Ends-asked words mode asked here there e = subst (Ends source source' sink sink' status h) (asked_once words mode asked here there) e
+
+  -- words that ask for something do not end with the status of words that ask for nothing
+  pub Ends-not_two : {mode : Mode} → Ends source source' sink sink' status h mode → status ≢ 2
+  Ends-not_two (Ends.OfTask {task = task} e) = IsEnding-not_two task source source' sink sink' e
+  Ends-not_two (Ends.OfDemo {sales = sales} same w) = demo_not_two sales sink sink' w
+
+  -- the counts of faults do not fall
+  pub Ends-later : {mode : Mode} → Ends source source' sink sink' status h mode → (source.faults ≤ source'.faults) × (sink.faults ≤ sink'.faults)
+  Ends-later (Ends.OfTask {task = task} e) = IsEnding-later task source source' sink sink' e
+  Ends-later (Ends.OfDemo {sales = sales} same w) = let k = ap (λ s. s.faults) same in (omega (arith, k), demo_later sales sink sink' w)
+
+  -- where neither the source nor the sink failed
+  pub Ends-status : {mode : Mode} (wanted : ℕ) → DeservesRun source.bytes mode wanted → NoFaultRose source.faults source'.faults sink.faults sink'.faults → Ends source source' sink sink' status h mode → IsStatusOrMemory wanted status
+  Ends-status wanted (DeservesRun.OfTask {task = task} {text = text} told d) faultless (Ends.OfTask e) = IsEnding-status text task source source' told sink sink' wanted d faultless.source faultless.sink e
+  Ends-status wanted (DeservesRun.OfDemo) faultless (Ends.OfDemo {sales = sales} same w) = demo_ended sales sink sink' faultless.sink w
+
+  pub Ends-shown : {sales : ℕ} → status ≡ 0 → Ends source source' sink sink' status h (M.Demo sales) → HasDemonstrated sales sink.bytes sink'.bytes h
+  Ends-shown {sales} zero (Ends.OfDemo same w) = demo_shown sales sink sink' zero w
+
+  pub Ends-run : status ≡ 0 → Ends source source' sink sink' status h (M.Read T.Run) → HasRun source.bytes source'.bytes sink.bytes sink'.bytes h
+  Ends-run zero (Ends.OfTask e) =
       let d = ending_done T.Run source source' sink sink' zero e in
       record {
         text = d.text;
@@ -240,8 +295,8 @@ module _ (source source' sink sink' : Stream) (status : ℕ) (h : List HistoryEn
         written = subst (Appends sink.bytes sink'.bytes) d.made.lines d.written;
       }
 
-  pub replay_done : IsEnding T.Replay source source' sink sink' status h → HasReplayed source.bytes source'.bytes sink.bytes sink'.bytes h
-  replay_done e =
+  pub Ends-replayed : status ≡ 0 → Ends source source' sink sink' status h (M.Read T.Replay) → HasReplayed source.bytes source'.bytes sink.bytes sink'.bytes h
+  Ends-replayed zero (Ends.OfTask e) =
       let d = ending_done T.Replay source source' sink sink' zero e in
       record {
         text = d.text;
@@ -252,3 +307,13 @@ module _ (source source' sink sink' : Stream) (status : ℕ) (h : List HistoryEn
         history = d.made.history;
         written = subst (Appends sink.bytes sink'.bytes) d.made.lines d.written;
       }
+
+  -- for want of memory ahead of all
+  pub Ends-nothing : (mode : Mode) → source' ≡ source → sink' ≡ sink → status ≡ 3 → h ≡ [] → Ends source source' sink sink' status h mode
+  Ends-nothing (M.Read task) unread unwritten three empty =
+      Ends.OfTask (IsEnding.Answered (ap (λ s. s.faults) unread) (IsWritten-nothing (IsResult task source source') sink sink' status h unwritten three empty))
+  Ends-nothing (M.Demo sales) unread unwritten three empty = Ends.OfDemo unread (IsWritten-nothing (IsDemonstration sales) sink sink' status h unwritten three empty)
+
+-- what was found in words that ask for it
+pub asked_of : (words : List (List ℕ)) (found : Option Mode) (m mode : Mode) → found ≡ Some m → m ≡ mode → IfSome found (Asks words) → Asks words mode
+asked_of words found m mode is same asks = subst (Asks words) same (subst (λ (f : Option Mode). IfSome f (Asks words)) is asks)

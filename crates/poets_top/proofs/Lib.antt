@@ -5,3 +5,4 @@ pub mod Fewness
 pub mod Making
 pub mod Owning
 pub mod Endings
+mod Entries

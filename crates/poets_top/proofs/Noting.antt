@@ -18,7 +18,7 @@ use Rattle.poets_engine.specs.State.{State, plain_calls, OwesNext, response_in}
 use Rattle.poets_top.specs.Scripts.{AreNoted}
 
 -- a legal history with one more entry, whose reply answers after its calls
-IsLegal-more : (book : Definitions) (reports : List Query) (h : List HistoryEntry) (entry : HistoryEntry) → IsLegal book reports h →
+pub IsLegal-more : (book : Definitions) (reports : List Query) (h : List HistoryEntry) (entry : HistoryEntry) → IsLegal book reports h →
     AnswersIn book reports (calls_of h) entry.request entry.response → IsLegal book reports (h ++ entry ∷ [])
 IsLegal-more book reports h entry legal answers =
     let f = answers.frame in

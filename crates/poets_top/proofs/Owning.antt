@@ -19,56 +19,36 @@ use Rattle.poets_call.specs.Histories.{IsLegal, IsRightHistory}
 use Rattle.poets_call.specs.Rules as R
 use Rattle.poets_call.specs.Sentences.{Sentence}
 use Rattle.poets_call.proofs.Histories.{own_calls_append}
-use Rattle.poets_session.specs.Sessions.{scripts_of, journal_of, calls_in}
-use Rattle.poets_top.specs.Scripts.{AreTaken, under_clerk, calls_of_scripts}
+use Rattle.poets_session.specs.Sessions.{Holds, scripts_of, requests_of, journal_of, calls_in}
+use Rattle.poets_session.specs.declared.session.Session.{Session}
+use Rattle.poets_machine.specs.Histories.{own_calls as machine_calls}
+use Rattle.poets_clerks.specs.Histories.{HasScripts}
+use mathlib.Core.Logic.{dite}
+use native.Mathlib.Decide.{ℕ_discrete}
+use Rattle.poets_top.specs.Scripts.{AreTaken, under_clerk}
 use Rattle.poets_top.specs.Running.{IsHistoryOf}
 use Rattle.poets_top.specs.Replaying.{IsReplayOf}
 use Rattle.poets_top.proofs.Taking.{All-of_map}
 
 -- ---- the commands of each clerk
 
-own_calls-own : (clerk : ℕ) (script : List Request) → own_calls clerk (under_clerk clerk script) ≡ script
-own_calls-own clerk [] = refl
-own_calls-own clerk (r ∷ script) = rw (eq-eqb clerk clerk refl) (ap (λ rs. r ∷ rs) (own_calls-own clerk script))
-
-own_calls-other : (clerk other : ℕ) (script : List Request) → nat_eq other clerk ≡ false → own_calls clerk (under_clerk other script) ≡ []
-own_calls-other clerk other [] e = refl
-own_calls-other clerk other (r ∷ script) e = rw e (own_calls-other clerk other script e)
-
-own_calls-later : (clerk first : ℕ) (scripts : List (List Request)) → clerk < first → own_calls clerk (calls_of_scripts first scripts) ≡ []
-own_calls-later clerk first [] lt = refl
-own_calls-later clerk first (script ∷ scripts) lt =
-    own_calls_append clerk (under_clerk first script) (calls_of_scripts (first + 1) scripts)
-    ∙ ap₂ (λ a b. a ++ b) (own_calls-other clerk first script (ne_eqb first clerk (λ e. omega (arith, e, lt)))) (own_calls-later clerk (first + 1) scripts (omega (arith, lt)))
-
-own_calls-at : (clerk first place : ℕ) (scripts : List (List Request)) (script : List Request) → clerk ≡ first + place → slice_get scripts place ≡ Some script →
-    own_calls clerk (calls_of_scripts first scripts) ≡ script
-own_calls-at clerk first place [] script e h = absurd cc
-own_calls-at clerk first zero (s ∷ scripts) script e h =
-    let here : s ≡ script = cc in
-    let same : first ≡ clerk = omega (arith, e) in
-    own_calls_append clerk (under_clerk first s) (calls_of_scripts (first + 1) scripts)
-    ∙ ap₂ (λ a b. a ++ b) (ap (λ k. own_calls clerk (under_clerk k s)) same ∙ own_calls-own clerk s ∙ here) (own_calls-later clerk (first + 1) scripts (omega (arith, e)))
-    ∙ append-nil script
-own_calls-at clerk first (suc place) (s ∷ scripts) script e h =
-    own_calls_append clerk (under_clerk first s) (calls_of_scripts (first + 1) scripts)
-    ∙ ap₂ (λ a b. a ++ b) (own_calls-other clerk first s (ne_eqb first clerk (λ k. omega (arith, e, k)))) (own_calls-at clerk (first + 1) place scripts script (omega (arith, e)) h)
-
--- ---- their numbers
-
-abbrev Between : (first past : ℕ) → Call → Type 0
-Between first past call = (first ≤ call.0) × (call.0 < past)
-
-clerks_between : (first : ℕ) (scripts : List (List Request)) → All (Between first (first + length scripts)) (calls_of_scripts first scripts)
-clerks_between first [] = All-nil (Between first (first + 0))
-clerks_between first (script ∷ scripts) =
-    let past = first + suc (length scripts) in
-    All-append (Between first past) (under_clerk first script) (calls_of_scripts (first + 1) scripts)
-    (All-map (Between first past) (λ r. (first, r)) script (λ k r lt. (omega arith, omega arith)))
-    (All-weaker (Between (first + 1) (first + 1 + length scripts)) (Between first past) (λ call here. (omega (arith, here.0), omega (arith, here.1))) (calls_of_scripts (first + 1) scripts)
-    (clerks_between (first + 1) scripts))
+-- a clerk's calls in a history, as it is told of machines
+own_same : (clerk : ℕ) (calls : List Call) → own_calls clerk calls ≡ machine_calls clerk calls
+own_same clerk [] = refl
+own_same clerk (c ∷ calls) = dite (ℕ_discrete c.0 clerk)
+    (λ same. rw (eq-eqb c.0 clerk same) (ap (λ rs. c.1 ∷ rs) (own_same clerk calls)))
+    (λ ne. rw (ne_eqb c.0 clerk ne) (own_same clerk calls))
 
 -- ---- histories
+
+-- a legal history of typed calls is right
+pub right_history : (rules : Rules) (h : List HistoryEntry) → IsStudiedBook (R.book_of rules) rules.studied.marks → IsLegal (R.book_of rules) (R.reports_of rules) h →
+    All (λ (call : Call). IsTypedRequest (R.book_of rules) (R.reports_of rules) call.1) (calls_of h) → IsRightHistory (R.book_of rules) (R.reports_of rules) h
+right_history rules h studied legal typed = record {
+  legal = legal;
+  shows = legal_histories_show (R.book_of rules) rules.studied.marks (R.reports_of rules) h studied legal
+      (All-of_map (λ (call : Call). IsTypedRequest (R.book_of rules) (R.reports_of rules) call.1) (λ (e : HistoryEntry). (e.clerk, e.request)) h typed);
+}
 
 -- a legal history of calls that are taken is right
 pub right_made : (rules found : Rules) (h : List HistoryEntry) (calls : List (ℕ × Arc CodeCommand Global)) (n : ℕ) → found ≡ rules →
@@ -76,12 +56,10 @@ pub right_made : (rules found : Rules) (h : List HistoryEntry) (calls : List (�
     calls_of h ≡ calls_in (take n calls) → IsRightHistory (R.book_of rules) (R.reports_of rules) h
 right_made rules found h calls n same studied legal taken made =
     let front = All-take (λ (p : ℕ × Arc CodeCommand Global). IsTaken (R.book_of rules) (R.reports_of rules) (request_of (arc_value p.1))) n calls taken in
-    let here = subst (λ r. IsLegal (R.book_of r) (R.reports_of r) h) same legal in
-    let typed = All-of_map (λ (call : Call). IsTypedRequest (R.book_of rules) (R.reports_of rules) call.1) (λ (e : HistoryEntry). (e.clerk, e.request)) h
+    right_history rules h studied (subst (λ r. IsLegal (R.book_of r) (R.reports_of r) h) same legal)
     (subst (All (λ call. IsTypedRequest (R.book_of rules) (R.reports_of rules) call.1)) (sym made)
     (All-map (λ (call : Call). IsTypedRequest (R.book_of rules) (R.reports_of rules) call.1) (λ (p : ℕ × Arc CodeCommand Global). (p.0, request_of (arc_value p.1))) (take n calls)
-    (λ k d lt. (front k d lt).typed))) in
-    record { legal = here; shows = legal_histories_show (R.book_of rules) rules.studied.marks (R.reports_of rules) h studied here typed }
+    (λ k d lt. (front k d lt).typed)))
 
 -- a right history for rules is one for what they say
 right_for : (rules : Rules) (statements : List Sentence) (h : List HistoryEntry) → R.book_of rules ≡ book_of statements → R.reports_of rules ≡ reports_of statements →
@@ -96,15 +74,20 @@ module _ (rules : Rules) (statements : List Sentence) (h : List HistoryEntry) (b
   IsReplayOf-made calls = record { right = right_for rules statements h book reports right; calls = calls }
 
   -- a right history of the scripts is one of the session
-  pub IsHistoryOf-made : calls_of h ≡ calls_of_scripts 1 (scripts_of statements) → IsHistoryOf statements h
-  IsHistoryOf-made calls = record {
-    right = right_for rules statements h book reports right;
-    own = λ place script at. ap (own_calls (suc place)) calls ∙ own_calls-at (suc place) 1 place (scripts_of statements) script (omega arith) at;
-    clerks =
-        let between = All-of_map (Between 1 (1 + length (scripts_of statements))) (λ (e : HistoryEntry). (e.clerk, e.request)) h
-        (subst (All (Between 1 (1 + length (scripts_of statements)))) (sym calls) (clerks_between 1 (scripts_of statements))) in
-        All-weaker (λ (e : HistoryEntry). Between 1 (1 + length (scripts_of statements)) (e.clerk, e.request)) (λ e. (1 ≤ e.clerk) × (e.clerk ≤ length (scripts_of statements))) (λ e here. (here.0, omega (arith, here.1))) h between;
-  }
+  pub IsHistoryOf-made : HasScripts (scripts_of statements) (calls_of h) → IsHistoryOf statements h
+  IsHistoryOf-made made =
+      let n = length (scripts_of statements) in
+      record {
+        right = right_for rules statements h book reports right;
+        own = λ place script at. own_same (suc place) (calls_of h) ∙ (ap (λ k. machine_calls k (calls_of h)) (omega arith) ∙ made.own place script at);
+        clerks = All-of_map (λ (call : Call). (1 ≤ call.0) × (call.0 ≤ n)) (λ (e : HistoryEntry). (e.clerk, e.request)) h made.clerks;
+      }
+
+-- the same of a session that holds what the statements say
+pub IsHistoryOf-read : (statements : List Sentence) (session : Session) (h : List HistoryEntry) → Holds statements session → IsRightHistory (R.book_of session.rules) (R.reports_of session.rules) h →
+    HasScripts (requests_of session.scripts.items) (calls_of h) → IsHistoryOf statements h
+IsHistoryOf-read statements session h holds right made =
+    IsHistoryOf-made session.rules statements h holds.book holds.reports right (subst (λ ss. HasScripts ss (calls_of h)) holds.scripts made)
 
 -- ---- one clerk
 

@@ -19,9 +19,13 @@ use Rattle.poets_call.specs.Taken.{IsTaken}
 use Rattle.poets_call.specs.TypedSentences.{NumberedFault, IsTypedRequest, check_request, check_sentence, first_of, twice_from, mistyped_from, first_fault}
 use Rattle.poets_lex.specs.Table.{Table}
 use Rattle.poets_types.proofs.CheckedBooks.{or_else-none}
-use Rattle.poets_session.specs.Sessions.{calls_in, commands_ahead, scripts_of, journal_of}
+use Rattle.poets_value.specs.Listed.{Listed}
+use Rattle.poets_session.specs.Sessions.{Holds, IsSession, Text, calls_in, commands_ahead, requests_of, scripts_of, journal_of}
+use Rattle.poets_session.specs.declared.form.Form.TheVariants as F
+use Rattle.poets_session.specs.declared.session.Session.{Session}
+use Rattle.poets_session.proofs.LawsFitting.{read_written, scripts_written}
 use Rattle.poets_session.specs.Written.{IsWritten, IsWrittenRequest}
-use Rattle.poets_top.specs.Scripts.{AreTaken, under_clerk, calls_of_scripts}
+use Rattle.poets_top.specs.Scripts.{AreTaken, AreScriptsTaken}
 
 -- ---- typed commands
 
@@ -65,23 +69,12 @@ Takes statements r = IsTaken (book_of statements) (reports_of statements) r
 mistyped_none : (statements : List Sentence) → first_fault statements ≡ None → mistyped_from 1 (book_of statements) (reports_of statements) statements ≡ None
 mistyped_none statements typed = no_later_fault (twice_from 1 [] statements) (mistyped_from 1 (book_of statements) (reports_of statements) statements) typed
 
-under_taken : (statements : List Sentence) (clerk : ℕ) (script : List Request) → All (Takes statements) script → All (λ call. Takes statements call.1) (under_clerk clerk script)
-under_taken statements clerk script h = All-map (λ (call : Call). Takes statements call.1) (λ r. (clerk, r)) script h
-
-all_under : (statements : List Sentence) (clerk : ℕ) (scripts : List (List Request)) → All (All (Takes statements)) scripts →
-    All (λ call. Takes statements call.1) (calls_of_scripts clerk scripts)
-all_under statements clerk [] h = All-nil (λ call. Takes statements call.1)
-all_under statements clerk (script ∷ scripts) h =
-    All-append (λ call. Takes statements call.1) (under_clerk clerk script) (calls_of_scripts (clerk + 1) scripts)
-    (under_taken statements clerk script (All-head (All (Takes statements)) script scripts h))
-    (all_under statements (clerk + 1) scripts (All-tail (All (Takes statements)) script scripts h))
-
--- the calls of scripts
+-- the commands of scripts
 pub scripts_taken : (names : Table) (statements : List Sentence) → first_fault statements ≡ None → All (All (IsWrittenRequest names)) (scripts_of statements) →
-    All (λ call. Takes statements call.1) (calls_of_scripts 1 (scripts_of statements))
+    All (All (Takes statements)) (scripts_of statements)
 scripts_taken names statements typed written =
     let passed = typed_scripts (book_of statements) (reports_of statements) 1 statements (mistyped_none statements typed) in
-    all_under statements 1 (scripts_of statements) (λ k d lt i e under. record { typed = passed k d lt i e under; whole = (written k d lt i e under).1 })
+    λ k d lt i e under. record { typed = passed k d lt i e under; whole = (written k d lt i e under).1 }
 
 -- the calls of a journal
 pub journal_taken : (names : Table) (statements : List Sentence) → first_fault statements ≡ None → All (λ call. IsWrittenRequest names call.1) (journal_of statements) →
@@ -105,6 +98,16 @@ AreTaken-code rules statements calls plain book reports same taken =
     All-of_map (λ (call : Call). IsTaken (R.book_of rules) (R.reports_of rules) call.1) (λ (p : ℕ × Arc CodeCommand Global). (p.0, request_of (arc_value p.1))) calls
     (subst (All (λ call. IsTaken (R.book_of rules) (R.reports_of rules) call.1)) (sym same) here)
 
+pub AreScriptsTaken-code : (rules : Rules) (statements : List Sentence) (scripts : List (Listed (Arc CodeCommand Global))) →
+    R.book_of rules ≡ book_of statements → R.reports_of rules ≡ reports_of statements → requests_of scripts ≡ scripts_of statements →
+    All (All (Takes statements)) (scripts_of statements) → AreScriptsTaken rules scripts
+AreScriptsTaken-code rules statements scripts book reports same taken =
+    let there = subst (λ b. All (All (λ r. IsTaken b (reports_of statements) r)) (scripts_of statements)) (sym book) taken in
+    let here = subst (λ q. All (All (λ r. IsTaken (R.book_of rules) q r)) (scripts_of statements)) (sym reports) there in
+    let plain = All-of_map (All (λ r. IsTaken (R.book_of rules) (R.reports_of rules) r)) (λ (s : Listed (Arc CodeCommand Global)). map (λ c. request_of (arc_value c)) s.items) scripts
+    (subst (All (All (λ r. IsTaken (R.book_of rules) (R.reports_of rules) r))) (sym same) here) in
+    λ k d lt. All-of_map (λ r. IsTaken (R.book_of rules) (R.reports_of rules) r) (λ (c : Arc CodeCommand Global). request_of (arc_value c)) (get_or scripts k d).items (plain k d lt)
+
 -- one of the calls
 pub taken_at : (rules found : Rules) (calls : List (ℕ × Arc CodeCommand Global)) (i : ℕ) (p : ℕ × Arc CodeCommand Global) → AreTaken rules calls → i < length calls →
     p ≡ get_or calls i p → found ≡ rules → IsTaken (R.book_of found) (R.reports_of found) (request_of (arc_value p.1))
@@ -124,3 +127,15 @@ whole_templates names (s ∷ statements) h = whole_templates names statements (A
 pub whole_rules : (rules : Rules) (names : Table) (statements : List Sentence) → R.book_of rules ≡ book_of statements → All (IsWritten names) statements →
     AreWholeDefinitions (R.book_of rules)
 whole_rules rules names statements book written = subst AreWholeDefinitions (sym book) (whole_templates names statements written)
+
+-- ---- a session of clerks
+
+-- its book is whole
+pub session_whole : (text : Text) (statements : List Sentence) (session : Session) → IsSession text F.Clerks session.names statements → Holds statements session → AreWholeDefinitions (R.book_of session.rules)
+session_whole text statements session is holds = whole_rules session.rules session.names statements holds.book (read_written text session.names statements is.read)
+
+-- an engine takes its scripts
+pub session_taken : (text : Text) (statements : List Sentence) (session : Session) → IsSession text F.Clerks session.names statements → Holds statements session → AreScriptsTaken session.rules session.scripts.items
+session_taken text statements session is holds =
+    AreScriptsTaken-code session.rules statements session.scripts.items holds.book holds.reports holds.scripts
+    (scripts_taken session.names statements is.valid.typed (scripts_written session.names statements (read_written text session.names statements is.read)))

@@ -1,7 +1,8 @@
-pub mod Words
+pub mod Tasks
 pub mod Checking
 pub mod Running
 pub mod Replaying
+pub mod Demonstrating
 pub mod Writing
 pub mod Runs
 pub mod Sessions

@@ -1,5 +1,5 @@
 -- What a run answers, and how it ends.
-use Rattle.std.specs.Prelude.{◌≡◌, ℕ, ◌+◌, ◌≤◌, ◌<◌, ◌⊎◌, List, [], ◌∷◌, ◌++◌, codes, length}
+use Rattle.std.specs.Prelude.{◌≡◌, ℕ, ◌+◌, ◌≤◌, ◌<◌, ◌⊎◌, List, [], ◌∷◌, ◌++◌, codes, length, Option, Some}
 use Rattle.poets_io.specs.Causes.{Rose}
 use Rattle.poets_io.specs.Streams.{GivesAll, LosesFront}
 use Rattle.poets_lex.specs.Table.{Table}
@@ -8,13 +8,16 @@ use Rattle.poets_call.specs.Sentences.{Sentence}
 use Rattle.poets_session.specs.Sessions.{Text, IsSession, IsNoSession}
 use Rattle.poets_session.specs.Refusals.{Refusal, IsRefused}
 use Rattle.poets_session.specs.Texts.{refusal_text}
+use Rattle.poets_words.specs.declared.mode.Mode.{Mode}
+use Rattle.poets_words.specs.declared.mode.Mode.TheVariants as M
 use Rattle.poets_top.specs.Checking.{ChecksBook}
+use Rattle.poets_top.specs.Demonstrating.{IsDemonstration}
 use Rattle.poets_top.specs.Running.{RunsScripts}
 use Rattle.poets_top.specs.Replaying.{ReplaysJournal}
 use Rattle.poets_top.specs.Writing.{Stream, HasFailed, IsWritten}
-use Rattle.poets_top.specs.Words.{form_of}
-use Rattle.poets_top.specs.declared.words.Task.{Task}
-use Rattle.poets_top.specs.declared.words.Task.TheVariants as T
+use Rattle.poets_top.specs.Tasks.{form_of}
+use Rattle.poets_words.specs.declared.mode.Task.{Task}
+use Rattle.poets_words.specs.declared.mode.Task.TheVariants as T
 
 -- the most bytes of a session
 abbrev pub longest : ℕ
@@ -61,11 +64,22 @@ pub data IsEnding (task : Task) (source source' sink sink' : Stream) : (status :
   ReadFailed :
       HasFailed source source' → LosesFront 0 longest source.bytes source'.bytes → sink' ≡ sink → IsEnding task source source' sink sink' 4 []
 
+-- how a run ends that was asked for this
+pub data Ends (source source' sink sink' : Stream) (status : ℕ) (h : List HistoryEntry) : Mode → Type 0 where
+  OfTask : {task : Task} → IsEnding task source source' sink sink' status h → Ends source source' sink sink' status h (M.Read task)
+  -- a demonstration reads nothing
+  OfDemo : {sales : ℕ} → source' ≡ source → IsWritten (IsDemonstration sales) sink sink' status h → Ends source source' sink sink' status h (M.Demo sales)
+
 -- the status that a text deserves
 pub data Deserves (task : Task) (text : Text) : (status : ℕ) → Type 0 where
   OfSession : {names : Table} {statements : List Sentence} → length text ≤ longest → IsSession text (form_of task) names statements → Deserves task text 0
   OfNoSession : length text ≤ longest → IsNoSession text (form_of task) → Deserves task text 1
   OfTooLong : longest < length text → Deserves task text 6
+
+-- the status that a run deserves, where the source had this left and told it
+pub data DeservesRun (left : Option Text) : Mode → (status : ℕ) → Type 0 where
+  OfTask : {task : Task} {text : Text} {status : ℕ} → left ≡ Some text → Deserves task text status → DeservesRun left (M.Read task) status
+  OfDemo : {sales : ℕ} → DeservesRun left (M.Demo sales) 0
 
 -- the status, or that of want of memory
 abbrev pub IsStatusOrMemory : (wanted status : ℕ) → Type 0

@@ -3,9 +3,12 @@ use Rattle.std.specs.Prelude.{◌≡◌, ℕ, ◌+◌, List, [], ◌∷◌, ◌+
 use Rattle.std.specs.declared.alloc.Global.{Global}
 use Rattle.std.specs.declared.sync.Arc.{Arc}
 use Rattle.std.specs.Arc.{arc_value}
+use Rattle.std.specs.List.{zip}
+use Rattle.poets_value.specs.Listed.{Listed}
 use Rattle.poets_call.specs.declared.call.Command.{Command}
+use Rattle.poets_call.specs.declared.call.Reply.{Reply}
 use Rattle.poets_call.specs.declared.rules.Rules.{Rules}
-use Rattle.poets_call.specs.Calls.{Request, Call, HistoryEntry, calls_of, request_of}
+use Rattle.poets_call.specs.Calls.{Request, Call, HistoryEntry, calls_of, request_of, response_of}
 use Rattle.poets_call.specs.Histories.{IsLegal}
 use Rattle.poets_call.specs.Rules.{book_of, reports_of}
 use Rattle.poets_call.specs.Taken.{IsTaken}
@@ -13,11 +16,6 @@ use Rattle.poets_engine.specs.State.{State, plain_calls}
 
 abbrev pub under_clerk : ℕ → List Request → List Call
 under_clerk clerk requests = map (λ request. (clerk, request)) requests
-
--- one script after the other, under clerks numbered from this number on
-abbrev pub calls_of_scripts : ℕ → List (List Request) → List Call
-calls_of_scripts clerk [] = []
-calls_of_scripts clerk (script ∷ scripts) = under_clerk clerk script ++ calls_of_scripts (clerk + 1) scripts
 
 -- an engine with these rules takes each of the calls
 abbrev pub AreTaken : Rules → List (ℕ × Arc Command Global) → Type 0
@@ -27,3 +25,15 @@ AreTaken rules calls = All (λ call. IsTaken (book_of rules) (reports_of rules) 
 pub record AreNoted (engine : State) (h : List HistoryEntry) : Type 0 where
   pub legal : IsLegal (book_of engine.rules) (reports_of engine.rules) h
   pub calls : calls_of h ≡ plain_calls engine.calls
+
+-- an engine with these rules takes each of the calls of the scripts
+abbrev pub AreScriptsTaken : Rules → List (Listed (Arc Command Global)) → Type 0
+AreScriptsTaken rules scripts = All (λ script. All (λ command. IsTaken (book_of rules) (reports_of rules) (request_of (arc_value command))) script.items) scripts
+
+-- a call with its reply, as an entry
+abbrev pub entry_with : (ℕ × Command) × Reply → HistoryEntry
+entry_with p = record { clerk = p.0.0; request = request_of p.0.1; response = response_of p.1 }
+
+-- calls with their replies, as entries
+abbrev pub entries_of : List (ℕ × Command) → List Reply → List HistoryEntry
+entries_of calls replies = map entry_with (zip calls replies)

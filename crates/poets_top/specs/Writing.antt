@@ -3,7 +3,9 @@ use Rattle.std.specs.Prelude.{◌≡◌, ◌≢◌, ℕ, ◌≤◌, List, [], Op
 use Rattle.std.specs.Io.KnownBytes.{Appends}
 use Rattle.poets_io.specs.Causes.{Rose}
 use Rattle.poets_io.specs.Streams.{AppendsPart}
+use Rattle.poets_lex.specs.Table.{Table}
 use Rattle.poets_call.specs.Calls.{HistoryEntry}
+use Rattle.poets_print.specs.Lines.{history_text}
 
 -- a source or a sink: the bytes that it has left or holds, where it tells them, and its count of faults
 pub record Stream : Type 0 where
@@ -30,7 +32,7 @@ pub data IsWritten (Is : (status : ℕ) → List HistoryEntry → (text : List �
       Is status h text → AppendsPart sink.bytes sink'.bytes text → HasFailed sink sink' → IsWritten Is sink sink' 5 h
   -- want of memory while the lines of a history are written: a front of them was written, and not all, without a fault
   MemoryBetween :
-      {h : List HistoryEntry} {text : List ℕ} →
-      Is 0 h text → h ≢ [] → AppendsPart sink.bytes sink'.bytes text → sink'.faults ≡ sink.faults → IsWritten Is sink sink' 3 h
+      {h : List HistoryEntry} (names : Table) →
+      Is 0 h (history_text names h) → h ≢ [] → AppendsPart sink.bytes sink'.bytes (history_text names h) → sink'.faults ≡ sink.faults → IsWritten Is sink sink' 3 h
   -- want of memory ahead of all writing: nothing was written, and no history is handed out
   MemoryBefore : sink' ≡ sink → IsWritten Is sink sink' 3 []

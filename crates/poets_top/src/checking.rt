@@ -8,7 +8,7 @@ ghost use Rattle.poets_top.specs.Checking.{book_line as book_line_lem, book_text
 ghost use Rattle.poets_top.specs.Runs.{IsAnswerTo};
 ghost use Rattle.poets_top.specs.Sessions.{IsSessionOf};
 ghost use Rattle.poets_top.specs.Writing.{IsWritten, stream};
-ghost use Rattle.poets_top.specs.declared.words.Task.TheVariants as T;
+ghost use Rattle.poets_words.specs.declared.mode.Task.TheVariants as T;
 
 use crate::outcome::{DONE, NO_MEMORY, Outcome, without_history};
 use crate::writing::write_line;

@@ -2,12 +2,14 @@
 #![tactic(auto)]
 
 mod checking;
+mod demonstrating;
 pub mod laws;
 mod outcome;
 mod program;
 mod replaying;
 mod running;
-mod words;
+mod sharing;
+mod tasks;
 mod work;
 mod writing;
 

@@ -5,25 +5,33 @@ ghost use Rattle.poets_io.specs.Streams.{LosesFront};
 ghost use Rattle.poets_call.specs.Calls.{history_of};
 ghost use Rattle.poets_session.specs.Causes.{IsFirstFault};
 ghost use Rattle.poets_session.specs.Sessions.{Text};
+ghost use Rattle.poets_top.specs.Demonstrating.{HasDemonstrated};
 ghost use Rattle.poets_top.specs.Replaying.{HasReplayed};
 ghost use Rattle.poets_top.specs.Running.{HasRun};
-ghost use Rattle.poets_top.specs.Runs.{Deserves, IsAnswerTo, IsEnding, IsStatusOrMemory, NoFaultRose, longest};
-ghost use Rattle.poets_top.specs.Words.{Asks, IsCommandForm, form_of as form_of_lem};
+ghost use Rattle.poets_top.specs.Runs.{DeservesRun, Ends, IsAnswerTo, IsEnding, IsStatusOrMemory, NoFaultRose, longest};
+ghost use Rattle.poets_top.specs.Tasks.{form_of as form_of_lem};
+ghost use Rattle.poets_words.specs.Words.{Asks, IsCommandForm};
 ghost use Rattle.poets_top.specs.Writing.{IsWritten, stream};
-ghost use Rattle.poets_top.specs.declared.words.Task.{Task as STask};
-ghost use Rattle.poets_top.specs.declared.words.Task.TheVariants as T;
+ghost use Rattle.poets_words.specs.declared.mode.Mode.{Mode as SMode};
+ghost use Rattle.poets_words.specs.declared.mode.Mode.TheVariants as M;
+ghost use Rattle.poets_words.specs.declared.mode.Task.{Task as STask};
+ghost use Rattle.poets_words.specs.declared.mode.Task.TheVariants as T;
 
 use crate::checking::check;
+use crate::demonstrating::demonstrate;
 use crate::outcome::{
     NO_MEMORY, NO_SESSION, Outcome, READ_FAULT, TOO_LONG, USAGE, without_history,
 };
 use crate::replaying::replay;
 use crate::running::run_scripts;
-use crate::words::{Task, form_of, task_of};
+use crate::tasks::form_of;
 use crate::writing::write_line;
+use poets_clerks::Gate;
 use poets_io::{ReadFault, Sink, Source, read_up_to};
 use poets_session::{SessionFault, fault_text, read};
+use poets_words::{Mode, Task, mode_of};
 use std::alloc::Global;
+use std::sync::Wait;
 use std::thread::Threads;
 
 /// The most bytes of a session.
@@ -35,47 +43,57 @@ const LONGEST: usize = 16_777_216;
 /// The words and the statuses are those of `docs/LANGUAGE.md`, "Words and statuses". A source that does not tell
 /// its bytes, as standard input does not, may have given any: the clauses then say only that there are some bytes for
 /// which the run is right.
-pub fn run<S: Source, K: Sink, R: Threads + Sync>(
+pub fn run<S: Source, K: Sink, G: Gate + Sync, R: Threads + Wait + Sync>(
     rt: &R,
     alloc: Global,
     words: &[String],
     source: &mut S,
     sink: &mut K,
+    gate: &G,
 ) -> Outcome
-    ensures usage { (result.status ≡ 2) ↔ ¬ (IsCommandForm (map string_bytes words.now)) }
-    ensures untouched { result.status ≡ 2 → (source.new ≡ source.old) × (sink.new ≡ sink.old) × (result.history.items ≡ []) }
-    ensures ends { (task : STask) → Asks (map string_bytes words.now) task →
-        IsEnding task (stream (S.left source.old) (S.faults source.old)) (stream (S.left source.new) (S.faults source.new))
-        (stream (K.held sink.old) (K.faults sink.old)) (stream (K.held sink.new) (K.faults sink.new)) result.status (history_of result.history.items) }
-    ensures has_run { Asks (map string_bytes words.now) T.Run → result.status ≡ 0 →
+    ensures usage { result.status ≡ 2 → ¬ (IsCommandForm (map string_bytes words.now)) }
+    ensures no_form { ¬ (IsCommandForm (map string_bytes words.now)) → IsStatusOrMemory 2 result.status
+        × (source.new ≡ source.old) × (sink.new ≡ sink.old) × (result.history.items ≡ []) }
+    ensures ends { (mode : SMode) → Asks (map string_bytes words.now) mode →
+        Ends (stream (S.left source.old) (S.faults source.old)) (stream (S.left source.new) (S.faults source.new))
+        (stream (K.held sink.old) (K.faults sink.old)) (stream (K.held sink.new) (K.faults sink.new)) result.status (history_of result.history.items) mode }
+    ensures has_run { Asks (map string_bytes words.now) (M.Read T.Run) → result.status ≡ 0 →
         HasRun (S.left source.old) (S.left source.new) (K.held sink.old) (K.held sink.new) (history_of result.history.items) }
-    ensures has_replayed { Asks (map string_bytes words.now) T.Replay → result.status ≡ 0 →
+    ensures has_replayed { Asks (map string_bytes words.now) (M.Read T.Replay) → result.status ≡ 0 →
         HasReplayed (S.left source.old) (S.left source.new) (K.held sink.old) (K.held sink.new) (history_of result.history.items) }
-    ensures status { (task : STask) (text : Text) (wanted : ℕ) →
-        Asks (map string_bytes words.now) task → S.left source.old ≡ Some text → Deserves task text wanted →
+    ensures has_demonstrated { (sales : ℕ) → Asks (map string_bytes words.now) (M.Demo sales) →
+        (source.new ≡ source.old) × (result.status ≡ 0 → HasDemonstrated sales (K.held sink.old) (K.held sink.new) (history_of result.history.items)) }
+    ensures status { (mode : SMode) (wanted : ℕ) → Asks (map string_bytes words.now) mode → DeservesRun (S.left source.old) mode wanted →
         NoFaultRose (S.faults source.old) (S.faults source.new) (K.faults sink.old) (K.faults sink.new) → IsStatusOrMemory wanted result.status }
     ensures later { (S.faults source.old ≤ S.faults source.new) × (K.faults sink.old ≤ K.faults sink.new) }
 {
-    match task_of(words) {
-        Some(task) => read_and_answer(rt, alloc, task, source, sink),
-        None => without_history(alloc, USAGE),
+    let Ok(found) = mode_of(alloc, words) else {
+        return without_history(alloc, NO_MEMORY);
+    };
+    let Some(mode) = found else {
+        return without_history(alloc, USAGE);
+    };
+    match mode {
+        Mode::Read(task) => read_and_answer(rt, alloc, task, source, sink, gate),
+        Mode::Demo(sales) => demonstrate(rt, alloc, sink, sales, gate),
     }
 }
 
 // Reads the source, and answers what it gave.
-fn read_and_answer<S: Source, K: Sink, R: Threads + Sync>(
+fn read_and_answer<S: Source, K: Sink, G: Gate + Sync, R: Threads + Wait + Sync>(
     rt: &R,
     alloc: Global,
     task: Task,
     source: &mut S,
     sink: &mut K,
+    gate: &G,
 ) -> Outcome
     ensures status { result.status ≢ 2 }
     ensures ends { IsEnding task (stream (S.left source.old) (S.faults source.old)) (stream (S.left source.new) (S.faults source.new))
         (stream (K.held sink.old) (K.faults sink.old)) (stream (K.held sink.new) (K.faults sink.new)) result.status (history_of result.history.items) }
 {
     match read_up_to(alloc, source, LONGEST) {
-        Ok(text) => answer(rt, alloc, task, text.as_slice(), sink),
+        Ok(text) => answer(rt, alloc, task, text.as_slice(), sink, gate),
         Err(ReadFault::TooLong) => write_line(
             alloc,
             sink,
@@ -88,12 +106,13 @@ fn read_and_answer<S: Source, K: Sink, R: Threads + Sync>(
 }
 
 // Answers a text that was read whole.
-fn answer<K: Sink, R: Threads + Sync>(
+fn answer<K: Sink, G: Gate + Sync, R: Threads + Wait + Sync>(
     rt: &R,
     alloc: Global,
     task: Task,
     text: &[u8],
     sink: &mut K,
+    gate: &G,
 ) -> Outcome
     requires { length text.now ≤ longest }
     ensures { IsWritten (IsAnswerTo text.now task) (stream (K.held sink.old) (K.faults sink.old)) (stream (K.held sink.new) (K.faults sink.new))
@@ -105,7 +124,7 @@ fn answer<K: Sink, R: Threads + Sync>(
     };
     match task {
         Task::Check => check(alloc, sink, &session),
-        Task::Run => run_scripts(rt, alloc, sink, session),
+        Task::Run => run_scripts(rt, alloc, sink, session, gate),
         Task::Replay => replay(rt, alloc, sink, session),
     }
 }

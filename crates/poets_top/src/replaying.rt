@@ -7,7 +7,7 @@ ghost use Rattle.poets_session.specs.Sessions.{Text};
 ghost use Rattle.poets_top.specs.Runs.{IsAnswerTo};
 ghost use Rattle.poets_top.specs.Sessions.{IsSessionOf};
 ghost use Rattle.poets_top.specs.Writing.{IsWritten, stream};
-ghost use Rattle.poets_top.specs.declared.words.Task.TheVariants as T;
+ghost use Rattle.poets_words.specs.declared.mode.Task.TheVariants as T;
 
 use crate::outcome::{NO_MEMORY, Outcome, without_history};
 use crate::work::make_calls;

@@ -8,7 +8,7 @@ ghost use Rattle.poets_print.specs.Lines.{history_text};
 ghost use Rattle.poets_session.specs.Sessions.{Text};
 ghost use Rattle.poets_top.specs.Runs.{IsAnswerTo};
 ghost use Rattle.poets_top.specs.Writing.{HasFailed, IsWritten, stream};
-ghost use Rattle.poets_top.specs.declared.words.Task.{Task};
+ghost use Rattle.poets_words.specs.declared.mode.Task.{Task};
 
 use crate::outcome::{DONE, NO_MEMORY, Outcome, WRITE_FAULT, without_history};
 use poets_call::Entry;
@@ -93,15 +93,28 @@ pub(crate) fn write<K: Sink>(
     }
 }
 
-/// Writes a line that is none of a history.
+/// Writes a line that is none of a history, and answers the status.
 pub(crate) fn write_line<K: Sink>(alloc: Global, sink: &mut K, status: u8, line: &str) -> Outcome
     ensures history { result.history.items ≡ [] }
     ensures line { ((result.status ≡ status) × Appends (K.held sink.old) (K.held sink.new) line.now × (K.faults sink.new ≡ K.faults sink.old))
         ⊎ ((result.status ≡ 5) × AppendsPart (K.held sink.old) (K.held sink.new) line.now
         × HasFailed (stream (K.held sink.old) (K.faults sink.old)) (stream (K.held sink.new) (K.faults sink.new))) }
 {
+    write_outcome(sink, without_history(alloc, status), line)
+}
+
+/// Writes the line of an outcome, and hands the outcome out.
+pub(crate) fn write_outcome<K: Sink>(sink: &mut K, outcome: Outcome, line: &str) -> Outcome
+    ensures history { result.history ≡ outcome.history }
+    ensures line { ((result.status ≡ outcome.status) × Appends (K.held sink.old) (K.held sink.new) line.now × (K.faults sink.new ≡ K.faults sink.old))
+        ⊎ ((result.status ≡ 5) × AppendsPart (K.held sink.old) (K.held sink.new) line.now
+        × HasFailed (stream (K.held sink.old) (K.faults sink.old)) (stream (K.held sink.new) (K.faults sink.new))) }
+{
     match write_all(sink, line.as_bytes()) {
-        Ok(()) => without_history(alloc, status),
-        Err(_) => without_history(alloc, WRITE_FAULT),
+        Ok(()) => outcome,
+        Err(_) => Outcome {
+            status: WRITE_FAULT,
+            history: outcome.history,
+        },
     }
 }

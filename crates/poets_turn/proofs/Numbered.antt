@@ -1,5 +1,5 @@
 -- Clerks that are numbered are all.
-use Rattle.std.proofs.Common.{◌≡◌, ℕ, zero, suc, ◌+◌, ◌<◌, ◌≤◌, List, [], ◌∷◌, length, map, ◌∙◌, arith}
+use Rattle.std.proofs.Common.{◌≡◌, ℕ, zero, suc, ◌+◌, ◌<◌, ◌≤◌, List, [], ◌∷◌, ◌++◌, length, map, ap, sym, ◌∙◌, subst, arith}
 use Rattle.std.specs.Prelude.{Contains, slice_index_or}
 use Rattle.std.proofs.lemmas.List.{length-map, get_or-map, get_or_default}
 use Rattle.poets_turn.specs.declared.types.ClerkOf.{ClerkOf}
@@ -14,3 +14,15 @@ all_from f (x ∷ xs) n long numbered (suc k) low high =
 
 pub numbered_are_all : {M C F : Type 0} (count : ℕ) (clerks : List (ClerkOf M C F)) → length clerks ≡ count → AreNumbered clerks → AreAll count clerks
 numbered_are_all count clerks = all_from (λ c. number c) clerks count
+
+-- one that is numbered 1 and then one that is numbered 2, in a list that was empty
+pub two_numbered : {A : Type 0} (f : A → ℕ) (xs ys zs : List A) (a b : A) → xs ≡ [] → ys ≡ xs ++ a ∷ [] → zs ≡ ys ++ b ∷ [] → f a ≡ 1 → f b ≡ 2 → (n : ℕ) → n ≡ 2
+    → (length zs ≡ n) × ((k : ℕ) (d : A) → k < length zs → f (slice_index_or zs k d) ≡ k + 1)
+two_numbered {A} f xs ys zs a b none first second one other n two =
+    let all : zs ≡ a ∷ b ∷ [] = second ∙ (ap (λ l. l ++ b ∷ []) first ∙ ap (λ l. (l ++ a ∷ []) ++ b ∷ []) none) in
+    subst (λ l. (length l ≡ n) × ((k : ℕ) (d : A) → k < length l → f (slice_index_or l k d) ≡ k + 1)) (sym all) (sym two, at)
+  where
+    at : (k : ℕ) (d : A) → k < 2 → f (slice_index_or (a ∷ b ∷ []) k d) ≡ k + 1
+    at zero d l = one
+    at (suc zero) d l = other
+    at (suc (suc k)) d l = absurd (omega arith)

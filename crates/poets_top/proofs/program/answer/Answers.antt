@@ -2,7 +2,7 @@ use Rattle.std.proofs.Common.{sym, subst}
 use Rattle.poets_call.specs.Calls.{history_of}
 use Rattle.poets_top.specs.Runs.{IsAnswerTo}
 use Rattle.poets_top.specs.Writing.{IsWritten, stream}
-use Rattle.poets_top.specs.declared.words.Task.TheVariants as T
+use Rattle.poets_words.specs.declared.mode.Task.TheVariants as T
 use Rattle.poets_top.proofs.Endings.{IsSessionOf-read}
 use Rattle.poets_top.proofs.program.answer.Goals as goal
 

@@ -22,5 +22,5 @@ pub returns-in-Err-Memory : goal.returns-in-Err-Memory
 returns-in-Err-Memory g c = λ text task made.
     let part : AppendsPart (g.K.Sink.held c.args.sink.now) (g.K.Sink.held c.write_history.new.sink) (history_text c.args.names.now (history_of c.args.history.items)) =
     subst (λ es. AppendsPart (g.K.Sink.held c.args.sink.now) (g.K.Sink.held c.write_history.new.sink) (history_text c.args.names.now (history_of es))) c.as_slice.ensures c.in-Err-Memory.ensures.stopped in
-    IsWritten.MemoryBetween made (AppendsPart-some c.args.names.now (history_of c.args.history.items) _ _ part) part
+    IsWritten.MemoryBetween c.args.names.now made (AppendsPart-some c.args.names.now (history_of c.args.history.items) _ _ part) part
     (c.in-Err-Memory.ensures.kept (λ e. absurd (let z = c.in-Err-Memory.field-0-is in cc)))

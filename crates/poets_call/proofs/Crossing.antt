@@ -1,0 +1,31 @@
+-- Rules, commands and replies may be handed to another thread.
+use denote.Param.Send.{IsSend, IsSync, sendable}
+use Rattle.std.proofs.Crossing.{crosses}
+use Rattle.std.proofs.MapsCrossing as maps
+use Rattle.poets_expr.proofs.expr.Expr.TheLaws.TheKnot as expressions
+use Rattle.poets_expr.proofs.expr.Op.TheSendSync as op
+use Rattle.poets_syntax.proofs.term.Term.TheLaws.TheKnot as contracts
+use Rattle.poets_report.proofs.report.Answer.TheSendSync as answer
+use Rattle.poets_call.proofs.call.Folio.TheSendSync as folio
+use Rattle.poets_call.specs.contracts.call.Command as Command
+use Rattle.poets_call.specs.contracts.call.Reply as Reply
+use Rattle.poets_call.specs.contracts.rules.Rules as Rules
+
+-- what types with expressions and contracts in them are made of
+pub ruleset parts = (op.the_field_send, op.the_field_sync, expressions.crosses, contracts.crosses, crosses, sendable)
+
+-- a book with its reports may be sent
+pub rules_send : IsSend (Rules.the_field).row
+rules_send = search (maps.crosses, parts) depth 60 fits 20000
+
+-- a command may be sent
+pub command_send : IsSend Command.the_row
+command_send = search parts depth 60 fits 20000
+
+-- and shared
+pub command_sync : IsSync Command.the_row
+command_sync = search parts depth 60 fits 20000
+
+-- a reply may be sent, by itself and as a part
+pub reply_send : IsSend (Reply.the_field).row
+reply_send = search (answer.the_field_send, folio.the_field_send, parts) depth 60 fits 20000

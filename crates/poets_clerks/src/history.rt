@@ -1,0 +1,104 @@
+//! The history that all scripts make, with the reply to each of its calls.
+ghost use Rattle.std.specs.Prelude.{◌≡◌, ◌<◌, ◌≤◌, [], length, map, None, All, IfOk};
+ghost use Rattle.std.specs.Arc.{arc_value};
+ghost use Rattle.std.specs.List.{flat_map};
+ghost use Rattle.poets_clerks.specs.Histories.{AreInOrder, AreReplies, FillPlaces, HasScripts, HoldReplies};
+ghost use Rattle.poets_clerks.specs.Scripts.{answers_of, calls_of, pairs_of};
+
+use crate::answers::{DoneOf, WorkedOf};
+use crate::gate::Gate;
+use crate::scripts::work;
+use poets_machine::Machine;
+use poets_turn::Turn;
+use poets_value::{List, Memory, push};
+use std::alloc::Global;
+use std::sync::{Arc, Wait};
+use std::thread::Threads;
+
+/// Has clerks make the calls of scripts on a machine that took no call yet, all at once: a clerk for each script, in a
+/// thread of its own. The machine comes back, and the reply to each call of its history, in the history's order.
+///
+/// In which order the calls of different clerks come depends on how their threads run.
+pub fn make_history<M: Machine + Send, G: Gate + Sync, R: Threads + Wait + Sync>(
+    rt: &R,
+    alloc: Global,
+    machine: M,
+    scripts: &List<List<Arc<M::Call>>>,
+    gate: &G,
+) -> Result<(M, List<M::Reply>), Memory>
+where
+    M::Call: Send + Sync,
+    M::Reply: Send,
+    M::Kept: Send,
+    requires scripts { (0 < length scripts.now.items) × (length scripts.now.items ≤ 64) }
+    requires new { M.history machine ≡ [] }
+    requires takes { All (λ s. All (λ c. M.takes (M.frame machine) (arc_value c)) s.items) scripts.now.items }
+    ensures frame { IfOk result (λ r. M.frame r.0 ≡ M.frame machine) }
+    ensures history { IfOk result (λ r. HasScripts (map calls_of scripts.now.items) (M.history r.0)) }
+    ensures replies { IfOk result (λ r. AreReplies (M.answers (M.frame machine)) (M.history r.0) r.1.items) }
+{
+    let Ok((turn, clerks)) = Turn::start(alloc, machine, scripts.len() as u32) else {
+        return Err(Memory);
+    };
+    let WorkedOf {
+        clerks,
+        answers,
+        memory,
+    } = work(rt, alloc, &turn, clerks, scripts, gate);
+    let machine = turn.close(clerks);
+    if memory {
+        return Err(Memory);
+    }
+    let answers = joined(alloc, answers)?;
+    let replies = in_order(alloc, answers)?;
+    Ok((machine, replies))
+}
+
+// All answers, those of the first clerk first.
+fn joined<R: Drop>(alloc: Global, answers: List<List<DoneOf<R>>>) -> Result<Vec<DoneOf<R>>, Memory>
+    ensures { IfOk result (λ all. pairs_of all.items ≡ flat_map (λ done. done) (map answers_of answers.items)) }
+{
+    let mut all = Vec::new(alloc);
+    for done in answers.into_vec() {
+        all.append(&mut done.into_vec())?;
+    }
+    Ok(all)
+}
+
+// The replies of answers in the order of their places.
+fn in_order<R: Drop>(alloc: Global, answers: Vec<DoneOf<R>>) -> Result<List<R>, Memory>
+    requires { FillPlaces (pairs_of answers.items) }
+    ensures { IfOk result (λ replies. AreInOrder (pairs_of answers.items) replies.items) }
+{
+    let slots = filled_slots(alloc, answers)?;
+    let mut replies = List::new(alloc);
+    for slot in slots.into_vec() {
+        let Some(reply) = slot else { unreachable!() };
+        push(&mut replies, reply)?;
+    }
+    Ok(replies)
+}
+
+// Slots with the replies of answers, each at its place.
+fn filled_slots<R: Drop>(alloc: Global, answers: Vec<DoneOf<R>>) -> Result<List<Option<R>>, Memory>
+    requires { FillPlaces (pairs_of answers.items) }
+    ensures { IfOk result (λ slots. HoldReplies (length answers.items) (pairs_of answers.items) slots.items) }
+{
+    let mut slots = empty_slots(alloc, answers.len())?;
+    for DoneOf { place, reply } in answers {
+        slots.put(place as usize, Some(reply));
+    }
+    Ok(slots)
+}
+
+// So many slots for replies.
+fn empty_slots<R: Drop>(alloc: Global, count: usize) -> Result<List<Option<R>>, Memory>
+    ensures count { IfOk result (λ slots. length slots.items ≡ count) }
+    ensures empty { IfOk result (λ slots. All (λ slot. slot ≡ None) slots.items) }
+{
+    let mut slots = List::new(alloc);
+    for made in 0..count {
+        push(&mut slots, None)?;
+    }
+    Ok(slots)
+}

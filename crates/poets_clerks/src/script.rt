@@ -1,0 +1,76 @@
+//! The script of one clerk.
+ghost use Rattle.std.specs.Prelude.{◌≡◌, ℕ, ◌+◌, ◌<◌, ◌≤◌, List as AnttList, [], ◌∷◌, ◌++◌, ◌⊎◌, false, length, map, take, All, MatchResult};
+ghost use mathlib.Core.List.{IsPrefix};
+ghost use Rattle.std.specs.Arc.{arc_value};
+ghost use Rattle.poets_turn.specs.Clerks.{front, calls, number, turn_frame, IsClerkOf};
+ghost use Rattle.poets_clerks.specs.Scripts.{IsAnswered, IsUnanswered, AreAnswers};
+
+use crate::answers::{Done, DoneOf};
+use crate::gate::Gate;
+use poets_machine::Machine;
+use poets_turn::{Clerk, Turn};
+use poets_value::{List, Memory};
+use std::alloc::Global;
+use std::sync::{Arc, Wait};
+use std::thread::Threads;
+
+// Makes one call, which is the nth of its clerk.
+fn answer<M: Machine, G: Gate, R: Threads + Wait + Sync>(
+    rt: &R,
+    alloc: Global,
+    turn: &Turn<M>,
+    clerk: &mut Clerk<M>,
+    call: &Arc<M::Call>,
+    gate: &G,
+    nth: u64,
+) -> Result<Done<M>, Memory>
+    requires of { IsClerkOf M.frame turn.now clerk.old }
+    requires takes { M.takes (turn_frame M.frame turn.now) (arc_value call.now) }
+    ensures of { IsClerkOf M.frame turn.now clerk.new }
+    ensures number { number clerk.new ≡ number clerk.old }
+    ensures made { MatchResult result
+        (λ d. IsAnswered (M.answers (turn_frame M.frame turn.now)) (number clerk.old) (front clerk.old) (front clerk.new) (calls clerk.old) (calls clerk.new) (arc_value call.now) (d.place, d.reply))
+        (λ _. IsUnanswered (front clerk.old) (front clerk.new) (calls clerk.old) (calls clerk.new) (arc_value call.now)) }
+{
+    let who = clerk.number();
+    gate.before(who, nth);
+    let kept = turn.call(rt, alloc, clerk, call)?;
+    gate.outside(who, nth);
+    let place = M::place(&kept);
+    let reply = M::finish(rt, alloc, kept)?;
+    gate.after(who, nth);
+    Ok(DoneOf { place, reply })
+}
+
+// Makes the calls of a script in order, up to the first want of memory, which the second part of the result tells.
+pub(crate) fn make_script<M: Machine, G: Gate, R: Threads + Wait + Sync>(
+    rt: &R,
+    alloc: Global,
+    turn: &Turn<M>,
+    clerk: &mut Clerk<M>,
+    script: &[Arc<M::Call>],
+    gate: &G,
+) -> (List<Done<M>>, bool)
+    requires of { IsClerkOf M.frame turn.now clerk.old }
+    requires takes { All (λ c. M.takes (turn_frame M.frame turn.now) (arc_value c)) script.now }
+    ensures of { IsClerkOf M.frame turn.now clerk.new }
+    ensures number { number clerk.new ≡ number clerk.old }
+    ensures longer { IsPrefix (front clerk.old) (front clerk.new) }
+    ensures answered { AreAnswers (M.answers (turn_frame M.frame turn.now)) (front clerk.new) (number clerk.old) (length (front clerk.old)) (map arc_value script.now) (map (λ d. (d.place, d.reply)) result.0.items) }
+    ensures whole { result.1 ≡ false → (length result.0.items ≡ length script.now) × (calls clerk.new ≡ calls clerk.old ++ map arc_value script.now) }
+    ensures part { (calls clerk.new ≡ calls clerk.old ++ map arc_value (take (length result.0.items) script.now)) ⊎ (calls clerk.new ≡ calls clerk.old ++ map arc_value (take (length result.0.items + 1) script.now)) }
+{
+    let mut done = List::new(alloc);
+    if done.reserve(script.len()).is_err() {
+        return (done, true);
+    }
+    for i in 0..script.len() {
+        match answer(rt, alloc, turn, clerk, &script[i], gate, i as u64 + 1) {
+            Ok(d) => {
+                let Ok(()) = done.push(d) else { unreachable!() };
+            }
+            Err(_) => return (done, true),
+        }
+    }
+    (done, false)
+}

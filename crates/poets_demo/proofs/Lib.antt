@@ -1,0 +1,4 @@
+pub mod Putting
+pub mod Shortness
+pub mod Histories
+pub mod Lines

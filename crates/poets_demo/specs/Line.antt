@@ -1,0 +1,57 @@
+-- The line of a demonstration.
+use Rattle.std.specs.Prelude.{ℕ, ℤ, pos, ◌+ℤ◌, Bool, true, false, List, [], ◌∷◌, ◌++◌, Option, Some, map, fold, length, codes}
+use Rattle.std.specs.Fmt.{decimal, signed_decimal}
+use Rattle.std.specs.List.{count_by}
+use Rattle.poets_value.specs.declared.value.Value.{Value}
+use Rattle.poets_value.specs.declared.value.Value.TheVariants as V
+use Rattle.poets_call.specs.Calls.{Response, HistoryEntry}
+
+-- a contract is registered
+abbrev pub is_registered : Response → Bool
+is_registered (Response.Registered n) = true
+is_registered _ = false
+
+-- an event is recorded
+abbrev pub is_recorded : Response → Bool
+is_recorded (Response.Recorded n may_end) = true
+is_recorded _ = false
+
+-- a contract is ended
+abbrev pub is_ended : Response → Bool
+is_ended Response.EndedNow = true
+is_ended _ = false
+
+-- an event is refused, for the contract does not go on with it
+abbrev pub is_refused : Response → Bool
+is_refused Response.Unmatched = true
+is_refused _ = false
+
+-- what a total counts for: a whole number counts as itself, and a missing or undefined total, and any other value, as 0
+abbrev pub amount_of : (total : Option (Option Value)) → ℤ
+amount_of (Some (Some (V.Int n))) = n
+amount_of _ = pos 0
+
+-- what a reply tells as paid: the total of a portfolio
+abbrev pub paid_in : Response → ℤ
+paid_in (Response.Folio rows total) = amount_of total
+paid_in _ = pos 0
+
+-- how many replies in a history are such
+abbrev pub count_replies : (such : Response → Bool) → List HistoryEntry → ℕ
+count_replies such h = count_by (λ e. such e.response) h
+
+-- what the replies of a history tell as paid, all together
+abbrev pub paid : List HistoryEntry → ℤ
+paid h = fold ◌+ℤ◌ (pos 0) (map (λ e. paid_in e.response) h)
+
+-- `demo 1: entries 6, registered 1, recorded 2, ended 1, refused 1, paid 3`, and LF (10)
+abbrev pub demo_line : (sales : ℕ) → List HistoryEntry → List ℕ
+demo_line sales h =
+    codes "demo " ++ decimal sales
+    ++ codes ": entries " ++ decimal (length h)
+    ++ codes ", registered " ++ decimal (count_replies is_registered h)
+    ++ codes ", recorded " ++ decimal (count_replies is_recorded h)
+    ++ codes ", ended " ++ decimal (count_replies is_ended h)
+    ++ codes ", refused " ++ decimal (count_replies is_refused h)
+    ++ codes ", paid " ++ signed_decimal (paid h)
+    ++ 10 ∷ []

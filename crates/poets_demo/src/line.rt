@@ -1,0 +1,101 @@
+//! The line that sums up the history of a demonstration.
+ghost use Rattle.std.specs.Prelude.{◌≡◌, ◌+◌, ◌<◌, ◌^◌, ◌+ℤ◌, ◌-ℤ◌, ◌≤ℤ◌, neg_ℤ, pos, if◌then◌else◌, IfOk, string_bytes};
+ghost use Rattle.poets_call.specs.Calls.{history_of, response_of};
+ghost use Rattle.poets_demo.specs.Line.{amount_of, count_replies, demo_line as demo_line_lem, is_ended, is_recorded, is_refused, is_registered, paid as paid_lem, paid_in};
+
+use poets_call::{Entry, Folio, Reply};
+use poets_value::{Memory, Value};
+use std::alloc::Global;
+
+// What the replies of a history come to.
+struct Sums {
+    registered: usize,
+    recorded: usize,
+    ended: usize,
+    refused: usize,
+    paid: i128,
+}
+
+impl Sums {
+    // Takes in one reply more.
+    fn add(&mut self, reply: &Reply)
+        requires registered { self.old.registered < 2 ^ 63 }
+        requires recorded { self.old.recorded < 2 ^ 63 }
+        requires ended { self.old.ended < 2 ^ 63 }
+        requires refused { self.old.refused < 2 ^ 63 }
+        requires paid { (neg_ℤ (pos (2 ^ 126)) ≤ℤ self.old.paid) × (self.old.paid ≤ℤ pos (2 ^ 126)) }
+        ensures registered { self.new.registered
+            ≡ self.old.registered + (if is_registered (response_of reply.now) then 1 else 0) }
+        ensures recorded { self.new.recorded
+            ≡ self.old.recorded + (if is_recorded (response_of reply.now) then 1 else 0) }
+        ensures ended { self.new.ended
+            ≡ self.old.ended + (if is_ended (response_of reply.now) then 1 else 0) }
+        ensures refused { self.new.refused
+            ≡ self.old.refused + (if is_refused (response_of reply.now) then 1 else 0) }
+        ensures paid { self.new.paid ≡ self.old.paid +ℤ paid_in (response_of reply.now) }
+        ensures least { (self.old.paid -ℤ pos (2 ^ 63)) ≤ℤ self.new.paid }
+        ensures greatest { self.new.paid ≤ℤ (self.old.paid +ℤ pos (2 ^ 63)) }
+    {
+        match reply {
+            Reply::Registered(_) => self.registered += 1,
+            Reply::Recorded { .. } => self.recorded += 1,
+            Reply::EndedNow => self.ended += 1,
+            Reply::Unmatched => self.refused += 1,
+            Reply::Folio(folio) => self.paid += amount(folio) as i128,
+            _ => {}
+        }
+    }
+}
+
+// What a portfolio's total counts for.
+fn amount(folio: &Folio) -> i64
+    ensures value { result ≡ amount_of folio.now.total }
+    ensures range { (neg_ℤ (pos (2 ^ 63)) ≤ℤ result) × (result ≤ℤ pos (2 ^ 63)) }
+{
+    match folio.total {
+        Some(Some(Value::Int(number))) => number,
+        _ => 0,
+    }
+}
+
+// The sums of a history.
+fn sums_of(entries: &[Entry]) -> Sums
+    ensures registered { result.registered ≡ count_replies is_registered (history_of entries.now) }
+    ensures recorded { result.recorded ≡ count_replies is_recorded (history_of entries.now) }
+    ensures ended { result.ended ≡ count_replies is_ended (history_of entries.now) }
+    ensures refused { result.refused ≡ count_replies is_refused (history_of entries.now) }
+    ensures paid { result.paid ≡ paid_lem (history_of entries.now) }
+{
+    let mut sums = Sums {
+        registered: 0,
+        recorded: 0,
+        ended: 0,
+        refused: 0,
+        paid: 0,
+    };
+    for entry in entries {
+        sums.add(&entry.reply);
+    }
+    sums
+}
+
+/// The line that sums up the history of a demonstration with so many sales a clerk, with its line feed.
+///
+/// It tells how many entries there are, how many contracts were registered, events recorded,
+/// contracts ended and events refused, and what the portfolios tell as paid, all together.
+pub fn demo_line(alloc: Global, sales: u32, entries: &[Entry]) -> Result<String, Memory>
+    ensures { IfOk result (λ line. string_bytes line ≡ demo_line_lem sales (history_of entries.now)) }
+{
+    let count = entries.len();
+    let Sums {
+        registered,
+        recorded,
+        ended,
+        refused,
+        paid,
+    } = sums_of(entries);
+    Ok(format!(in alloc;
+        "demo {sales}: entries {count}, registered {registered}, \
+        recorded {recorded}, ended {ended}, refused {refused}, paid {paid}\n"
+    )?)
+}

@@ -1,0 +1,79 @@
+//! Words with which the program reads nothing: those that are no command form, and those of a demonstration.
+
+use crate::program::{Edges, SOUND, ask};
+use crate::streams::ENDED;
+use std::alloc::Global;
+use std::process::Abort;
+use std::sync::Wait;
+use std::test::Fail;
+use std::thread::Threads;
+
+// The program, called with the words, answers so over a sink that fails at these calls, and reads nothing.
+fn unread<R: Abort + Threads + Wait + Sync>(
+    rt: &R,
+    alloc: Global,
+    words: &[&str],
+    writes: &[u64],
+    wanted: (u8, usize, &str),
+) -> Result<(), Fail> {
+    let edges = Edges {
+        reads: &[1],
+        writes,
+        ..SOUND
+    };
+    let mut answer = ask(rt, alloc, words, ENDED, &edges)?;
+    assert!(rt; answer.is(wanted), "{words:?}");
+    assert!(rt; answer.is_unread(alloc, ENDED), "{words:?}");
+    Ok(())
+}
+
+// The words are no command form. The first write would fail.
+fn no_form<R: Abort + Threads + Wait + Sync>(
+    rt: &R,
+    alloc: Global,
+    words: &[&str],
+) -> Result<(), Fail> {
+    unread(rt, alloc, words, &[1], (2, 0, ""))
+}
+
+#[test]
+fn other_words_read_and_write_nothing(rt: HostRuntime) -> Result<(), Fail> {
+    let alloc = rt.alloc();
+    no_form(&rt, alloc, &[])?;
+    for word in ["-h", "runs", "Check", "replays", "demo", "explain", ""] {
+        no_form(&rt, alloc, &[word])?;
+    }
+    for word in ["run", "check", "replay", "demo"] {
+        no_form(&rt, alloc, &[word, "run"])?;
+    }
+    for number in ["0", "1001", "01", "+5"] {
+        no_form(&rt, alloc, &["demo", number])?;
+    }
+    Ok(())
+}
+
+// The number, how many entries there are, and what is written.
+const DEMONSTRATIONS: [(&str, usize, &str); 2] = [
+    (
+        "2",
+        88,
+        "demo 2: entries 88, registered 16, recorded 32, ended 16, refused 16, paid 72\n",
+    ),
+    (
+        "1000",
+        40_008,
+        "demo 1000: entries 40008, registered 8000, recorded 16000, ended 8000, refused 8000, paid 12012000\n",
+    ),
+];
+
+#[test]
+fn a_demonstration_reads_nothing(rt: HostRuntime) -> Result<(), Fail> {
+    let alloc = rt.alloc();
+    for (number, entries, line) in DEMONSTRATIONS {
+        // Its clerks may come in another order each time, and the line is the same.
+        for _ in 0..2 {
+            unread(&rt, alloc, &["demo", number], &[], (0, entries, line))?;
+        }
+    }
+    unread(&rt, alloc, &["demo", "2"], &[1], (5, 88, ""))
+}

@@ -1,0 +1,63 @@
+//! The clerks' scripts, made all at once on one engine.
+ghost use Rattle.std.specs.Prelude.{◌≡◌, ◌≤◌, length, All, IfOk};
+ghost use Rattle.std.specs.Arc.{arc_value};
+ghost use Rattle.poets_clerks.specs.Histories.{HasScripts};
+ghost use Rattle.poets_call.specs.Calls.{calls_of, history_of, response_of};
+ghost use Rattle.poets_call.specs.Histories.{IsRightHistory};
+ghost use Rattle.poets_call.specs.Rules.{book_of, reports_of};
+ghost use Rattle.poets_engine.specs.State.{commands_of};
+ghost use Rattle.poets_session.specs.Sessions.{requests_of};
+ghost use Rattle.poets_syntax.specs.Whole.{AreWholeDefinitions};
+ghost use Rattle.poets_top.specs.Scripts.{AreScriptsTaken, entries_of as entries_of_lem};
+
+use poets_call::{Command, Entry, Reply, Rules};
+use poets_clerks::{Gate, make_history};
+use poets_engine::Engine;
+use poets_value::{List, Memory, push};
+use std::alloc::Global;
+use std::sync::{Arc, Wait};
+use std::thread::Threads;
+
+/// The entries of the history that clerks make with their scripts, each in a thread of its own.
+pub(crate) fn make_scripts<G: Gate + Sync, R: Threads + Wait + Sync>(
+    rt: &R,
+    alloc: Global,
+    rules: Rules,
+    scripts: &List<List<Arc<Command>>>,
+    gate: &G,
+) -> Result<List<Entry>, Memory>
+    requires whole { AreWholeDefinitions (book_of rules) }
+    requires taken { AreScriptsTaken rules scripts.now.items }
+    requires few { length scripts.now.items ≤ 64 }
+    ensures right { IfOk result (λ entries. IsRightHistory (book_of rules) (reports_of rules) (history_of entries.items)) }
+    ensures scripts { IfOk result (λ entries. HasScripts (requests_of scripts.now.items) (calls_of (history_of entries.items))) }
+{
+    // The book is checked and guarded, and the marks are right.
+    let _book = rules.studied.book();
+    let engine = Engine::new(alloc, rules);
+    if scripts.is_empty() {
+        return Ok(List::new(alloc));
+    }
+    let (engine, replies) = make_history(rt, alloc, engine, scripts, gate)?;
+    entries_of(alloc, engine.history().as_slice(), replies)
+}
+
+// The entries of calls, each with its reply.
+fn entries_of(
+    alloc: Global,
+    calls: &[(u32, Arc<Command>)],
+    replies: List<Reply>,
+) -> Result<List<Entry>, Memory>
+    ensures { IfOk result (λ entries. history_of entries.items ≡ entries_of_lem (commands_of calls.now) replies.items) }
+{
+    let mut entries = List::new(alloc);
+    for ((clerk, command), reply) in calls.iter().zip(replies.into_vec()) {
+        let entry = Entry {
+            clerk: *clerk,
+            command: Arc::try_clone(command)?,
+            reply,
+        };
+        push(&mut entries, entry)?;
+    }
+    Ok(entries)
+}

@@ -1,0 +1,17 @@
+//! The sessions that tasks take.
+ghost use Rattle.std.specs.Prelude.{◌≡◌};
+ghost use Rattle.poets_top.specs.Tasks.{form_of as form_of_lem};
+
+use poets_session::Form;
+use poets_words::Task;
+
+/// The form of the sessions that a task takes.
+pub(crate) fn form_of(task: Task) -> Form
+    ensures { result ≡ form_of_lem task }
+{
+    match task {
+        Task::Check => Form::Book,
+        Task::Run => Form::Clerks,
+        Task::Replay => Form::Journal,
+    }
+}

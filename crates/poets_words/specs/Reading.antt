@@ -1,0 +1,23 @@
+-- How the words are read.
+use Rattle.std.specs.Prelude.{◌≡◌, ℕ, ◌≤◌, true, false, List, [], ◌∷◌, length, Option, Some, None, codes}
+use Rattle.std.specs.List.{list_any}
+use Rattle.std.specs.Str.Parse.{starts_with_minus}
+use Rattle.clap.specs.Words.{App, first_of, is_simple, matches_of, takes}
+
+-- one or two words, none of which begins with `-`
+abbrev pub IsPlain : List (List ℕ) → Type 0
+IsPlain words = (1 ≤ length words) × (length words ≤ 2) × (list_any starts_with_minus words ≡ false)
+
+-- a first word and one after it, as far as they were found
+abbrev pub words_found : Option (List ℕ) → Option (List ℕ) → List (List ℕ)
+words_found None _ = []
+words_found (Some task) None = task ∷ []
+words_found (Some task) (Some number) = task ∷ number ∷ []
+
+-- the command takes plain words, and finds each of them
+pub record FindsPlainWords (app : App) : Type 0 where
+  pub simple : is_simple app ≡ true
+  pub taken : (words : List (List ℕ)) → IsPlain words → takes app words ≡ true
+  pub found : (words : List (List ℕ)) → IsPlain words →
+      let found = matches_of app words in
+      words_found (first_of (codes "task") found) (first_of (codes "number") found) ≡ words

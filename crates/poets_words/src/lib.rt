@@ -1,0 +1,8 @@
+//! What the words of the command line ask for.
+#![tactic(auto)]
+
+mod mode;
+mod reading;
+mod sales;
+
+pub use mode::{Mode, Task, mode_of};

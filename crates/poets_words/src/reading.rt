@@ -1,0 +1,28 @@
+//! How `clap` is to read the words.
+ghost use Rattle.std.specs.Prelude.{◌↔◌, IfOk, IsTrue, map, string_bytes};
+ghost use Rattle.clap.specs.Words.{app_of};
+ghost use Rattle.poets_words.specs.Reading.{IsPlain, FindsPlainWords};
+
+use clap::{Arg, ArgAction, Command};
+use std::alloc::{AllocError, Global};
+
+/// One or two words, none of which begins with `-`.
+pub(crate) fn is_plain(words: &[String]) -> bool
+    ensures { IsTrue result ↔ IsPlain (map string_bytes words.now) }
+{
+    (1..=2).contains(&words.len()) && !words.iter().any(|word| word.starts_with('-'))
+}
+
+/// A word for the task, and a number that may stay away.
+pub(crate) fn command<'a>(alloc: Global) -> Result<Command<'a>, AllocError>
+    ensures { IfOk result (λ command. FindsPlainWords (app_of command)) }
+{
+    let task = Arg::new(alloc, "task")
+        .required(true)
+        .action(ArgAction::Set);
+    let number = Arg::new(alloc, "number").action(ArgAction::Set);
+    Command::new(alloc, "poets")
+        .no_binary_name(true)
+        .arg(task)?
+        .arg(number)
+}
