@@ -22,6 +22,7 @@ import pathlib
 import subprocess
 import sys
 import tempfile
+import time
 from collections import namedtuple
 
 PROGRAM = pathlib.Path(__file__).resolve().parent.parent / "crates/poets/out/poets"
@@ -41,18 +42,20 @@ Case = namedtuple("Case", "words text units status most_memory printed", default
 
 
 def once(program, words, path):
-    """Processor seconds, peak memory in bytes and status of one run on the file. It is measured in a process of its
-    own, since a child's peak memory is at least what its parent held when it was started."""
+    """Processor seconds, peak memory in bytes, status and seconds of one run on the file. It is measured in a process
+    of its own, since a child's peak memory is at least what its parent held when it was started."""
     with open(path, "rb") as source, open(os.devnull, "wb") as sink:
+        begun = time.perf_counter()
         child = os.posix_spawn(
-            program, [program, words], os.environ,
+            program, [program, *words.split()], os.environ,
             file_actions=[(os.POSIX_SPAWN_DUP2, source.fileno(), 0), (os.POSIX_SPAWN_DUP2, sink.fileno(), 1)])
         _, status, usage = os.wait4(child, 0)
-    return usage.ru_utime + usage.ru_stime, usage.ru_maxrss * 1024, os.waitstatus_to_exitcode(status)
+        seconds = time.perf_counter() - begun
+    return usage.ru_utime + usage.ru_stime, usage.ru_maxrss * 1024, os.waitstatus_to_exitcode(status), seconds
 
 
 def told(program, case):
-    """Processor seconds, peak memory in bytes and status of one run of the case."""
+    """Processor seconds, peak memory in bytes, status and seconds of one run of the case."""
     with tempfile.NamedTemporaryFile() as file:
         file.write(case.text)
         file.flush()

@@ -1,5 +1,5 @@
-//! `poets check` reads a book, `poets run` a session and `poets replay` a journal from standard input; all write to
-//! standard output.
+//! `poets check` reads a book, `poets run` a session and `poets replay` a journal from standard input, and `poets demo N`
+//! reads nothing; all write to standard output.
 #![tactic(auto)]
 
 ghost use Rattle.std.specs.Prelude.{◌≡◌};

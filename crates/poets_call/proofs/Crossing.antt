@@ -6,8 +6,8 @@ use Rattle.poets_expr.proofs.expr.Expr.TheLaws.TheKnot as expressions
 use Rattle.poets_expr.proofs.expr.Op.TheSendSync as op
 use Rattle.poets_syntax.proofs.term.Term.TheLaws.TheKnot as contracts
 use Rattle.poets_report.proofs.report.Answer.TheSendSync as answer
-use Rattle.poets_call.proofs.call.Folio.TheSendSync as folio
 use Rattle.poets_call.specs.contracts.call.Command as Command
+use Rattle.poets_call.specs.contracts.call.Folio as Folio
 use Rattle.poets_call.specs.contracts.call.Reply as Reply
 use Rattle.poets_call.specs.contracts.rules.Rules as Rules
 
@@ -26,6 +26,10 @@ command_send = search parts depth 60 fits 20000
 pub command_sync : IsSync Command.the_row
 command_sync = search parts depth 60 fits 20000
 
+-- the answers to a report over several contracts
+folio_send : IsSend (Folio.the_field).row
+folio_send = search (answer.the_send, parts) depth 60 fits 20000
+
 -- a reply may be sent, by itself and as a part
 pub reply_send : IsSend (Reply.the_field).row
-reply_send = search (answer.the_field_send, folio.the_field_send, parts) depth 60 fits 20000
+reply_send = search (answer.the_field_send, folio_send, parts) depth 60 fits 20000

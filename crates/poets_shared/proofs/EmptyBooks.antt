@@ -1,7 +1,7 @@
 -- A book that declares nothing.
 use Rattle.std.proofs.Common.{◌≡◌, ◌⊎◌, List, [], Option, Some, None, map, ap, sym, subst}
 use Rattle.std.specs.BTreeMap.{BTreeMap}
-use Rattle.std.specs.List.{All, IsDistinct}
+use Rattle.std.specs.List.{IsDistinct}
 use Rattle.std.specs.Map.{lookup}
 use Rattle.std.specs.Ordering.{is_eq}
 use Rattle.std.proofs.lemmas.List.Elements.{All-nil}

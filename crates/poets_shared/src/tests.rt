@@ -176,7 +176,7 @@ fn a_clerk_hears_of_another_clerks_calls(rt: HostRuntime) -> Result<(), Fail> {
     Ok(())
 }
 
-// Three registrations, under names of the clerk's own.
+// Three registrations, under names of the clerk's own. Clerks count from 0 here.
 fn script(alloc: Global, clerk: u32) -> Result<List<Arc<Command>>, Memory>
     requires { clerk < 8 }
     ensures { IfOk result (λ s. IsScriptTakenByAll s.items) }
@@ -199,8 +199,8 @@ fn scripts(alloc: Global) -> Result<List<List<Arc<Command>>>, Memory>
     Ok(scripts)
 }
 
-// How many entries each clerk has, if each is its clerk's next registration, which the clerk's next answer tells the
-// place of, and the next contract's number. No clerk has the number 0.
+// How many entries each clerk has, if each entry is its clerk's next registration, and the clerk's next answer has the
+// entry's place and the next contract's number. No clerk has the number 0.
 fn entries_of_each(
     history: &[(u32, Arc<Command>)],
     answers: &List<List<Done<Engine>>>,
@@ -218,7 +218,7 @@ fn entries_of_each(
         };
         let place = place as u64;
         if name.id as usize != (clerk * 10).wrapping_add(*nth)
-            || done.place == place
+            || done.place != place
             || *contract != place + 1
         {
             return None;
