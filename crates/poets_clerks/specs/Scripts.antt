@@ -56,7 +56,7 @@ module _ {M C R K F : Type 0} (frame : M → F) (answers : F → List (ℕ × C)
     pub longer : IsPrefix (front v) (front w)
     -- its first calls have these answers, which stand in what it saw, behind all that it had seen
     pub answered : AreAnswers (answers (turn_frame frame turn)) (front w) (number v) (length (front v)) script done
-    -- with memory it made the whole script
+    -- where memory did not want it made the whole script
     pub whole : memory ≡ false → (length done ≡ length script) × (calls w ≡ calls v ++ script)
     -- else it made the calls that are answered, or these and the next one
     pub part : (calls w ≡ calls v ++ take (length done) script) ⊎ (calls w ≡ calls v ++ take (length done + 1) script)

@@ -16,7 +16,8 @@ use std::sync::{Arc, Wait};
 use std::thread::Threads;
 
 /// Has clerks make the calls of scripts on a machine that took no call yet, all at once: a clerk for each script, in a
-/// thread of its own. The machine comes back, and the reply to each call of its history, in the history's order.
+/// thread of its own where one can be started. The machine comes back, and the reply to each call of its history, in
+/// the history's order.
 ///
 /// In which order the calls of different clerks come depends on how their threads run.
 pub fn make_history<M: Machine + Send, G: Gate + Sync, R: Threads + Wait + Sync>(

@@ -44,7 +44,7 @@ count_replies such h = count_by (λ e. such e.response) h
 abbrev pub paid : List HistoryEntry → ℤ
 paid h = fold ◌+ℤ◌ (pos 0) (map (λ e. paid_in e.response) h)
 
--- `demo 1: entries 6, registered 1, recorded 2, ended 1, refused 1, paid 3`, and LF (10)
+-- `demo 1: entries 48, registered 8, recorded 16, ended 8, refused 8, paid 24`, and LF (10)
 abbrev pub demo_line : (sales : ℕ) → List HistoryEntry → List ℕ
 demo_line sales h =
     codes "demo " ++ decimal sales

@@ -11,7 +11,7 @@ use Rattle.poets_print.specs.Lines.{history_text}
 use Rattle.poets_session.specs.declared.form.Form.TheVariants as F
 use Rattle.poets_session.specs.Sessions.{Text, IsSession, scripts_of}
 
--- a right history in which the commands of each clerk are his script, in order, and no other clerk's stand
+-- a right history in which the commands of each clerk are his script, in order, and no other clerk's stand there
 pub record IsHistoryOf (statements : List Sentence) (h : List HistoryEntry) : Type 0 where
   pub right : IsRightHistory (book_of statements) (reports_of statements) h
   pub own : (place : ℕ) (script : List Request) → slice_get (scripts_of statements) place ≡ Some script → own (suc place) h ≡ script

@@ -56,7 +56,7 @@ pub data IsResult (task : Task) (source source' : Stream) : (status : ℕ) → L
 
 -- how a run ends, by its source and its sink before and after
 pub data IsEnding (task : Task) (source source' sink sink' : Stream) : (status : ℕ) → List HistoryEntry → Type 0 where
-  -- the source had no fault, and its result was written, or as much of it as there was memory for
+  -- the source had no fault, and its result was written, or as much of it as the sink or memory allowed
   Answered :
       {status : ℕ} {h : List HistoryEntry} →
       source'.faults ≡ source.faults → IsWritten (IsResult task source source') sink sink' status h → IsEnding task source source' sink sink' status h

@@ -27,8 +27,8 @@ pub const WRITE_FAULT: u8 = 5;
 pub const TOO_LONG: u8 = 6;
 
 /// The status that the program ends with, and a history. The history of a session of clerks, of a journal or of a
-/// demonstration is that of the whole session where the status is `DONE`, and where it is `WRITE_FAULT` after the calls;
-/// it is that or none where the status is `NO_MEMORY`. Else, and for a book, there is none.
+/// demonstration is that of the whole session where the status is `DONE`, and where it is `WRITE_FAULT` after the
+/// calls; it is that or none where the status is `NO_MEMORY`. Else, and for a book, there is none.
 #[derive(Drop)]
 pub struct Outcome {
     pub status: u8,

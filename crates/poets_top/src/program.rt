@@ -39,8 +39,8 @@ const LONGEST: usize = 16_777_216;
 
 /// Does all that the program does: reads a session, makes its calls, and writes the history, one line by each call of
 /// `write` where the sink takes whole pieces; or reads a book, and writes what it declares; or reads nothing, and shows
-/// a demonstration. The clerks of a session or a demonstration work at once, each in a thread of its own. The gate is
-/// told of the stages of their calls, and may hold them back.
+/// a demonstration. The clerks of a session or a demonstration work at once, each in a thread of its own where one
+/// can be started. The gate is told of the stages of their calls, and may hold them back.
 ///
 /// The words and the statuses are those of `docs/LANGUAGE.md`, "Words and statuses". A source that does not tell
 /// its bytes, as standard input does not, may have given any: the clauses then say only that there are some bytes for

@@ -18,7 +18,7 @@ use std::alloc::Global;
 use std::sync::{Arc, Wait};
 use std::thread::Threads;
 
-/// The entries of the history that clerks make with their scripts, each in a thread of its own.
+/// The entries of the history that clerks make with their scripts, all at once.
 pub(crate) fn make_scripts<G: Gate + Sync, R: Threads + Wait + Sync>(
     rt: &R,
     alloc: Global,
