@@ -1,0 +1,33 @@
+" Session texts of poets. Copy `syntax` and `ftdetect` into ~/.vim or ~/.config/nvim.
+if exists("b:current_syntax")
+  finish
+endif
+
+syntax keyword poetsStatement agents kinds template report clerk journal
+syntax keyword poetsCommand register transmit end show tally portfolio over watch read
+syntax keyword poetsReserved void total
+syntax keyword poetsFold fold with in by if then else
+syntax keyword poetsContract Success Failure
+syntax keyword poetsOperator and or not amount kind res
+syntax keyword poetsConstant true false undefined
+syntax keyword poetsType Int Bool Agent Kind Resource Day
+syntax match poetsNumber "\<\d\+"
+syntax match poetsDay "@\d\{4}-\d\d-\d\d"
+syntax match poetsEnd ";;"
+syntax match poetsComment "#.*$"
+
+highlight default link poetsStatement Keyword
+highlight default link poetsCommand Statement
+highlight default link poetsReserved Error
+highlight default link poetsFold Conditional
+highlight default link poetsContract Special
+highlight default link poetsOperator Operator
+highlight default link poetsConstant Constant
+highlight default link poetsType Type
+highlight default link poetsNumber Number
+highlight default link poetsDay Number
+highlight default link poetsEnd Delimiter
+highlight default link poetsComment Comment
+
+setlocal commentstring=#\ %s
+let b:current_syntax = "poets"
