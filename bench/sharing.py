@@ -1,0 +1,103 @@
+#!/usr/bin/env python3
+"""Times the built program beside an older one, on contracts with many like parts and on contracts with few.
+
+Usage: bench/sharing.py OLDER [PROGRAM]      (PROGRAM: crates/poets/out/poets, made by `rt run` in crates/poets)
+
+Both programs must print the same. Of each family the processor seconds of both are told, the least of seven runs that
+take turns, and the one to the other. It fails where a family takes more than 1.1 times those of the older program.
+"""
+import subprocess
+import sys
+
+from measuring import ANY, COMMANDS, HEAD, PROGRAM, ROUNDS, Case, told
+
+MOST_RATIO = 1.1
+BARREL = "transmit(a, b, r, t | r = [1 Oil]). Success"
+TRANSMIT = "transmit {} ann bob 1 Oil @2006-01-01;;\n"
+CONTRACTS = 400
+LOOKS = 5_000
+
+
+def like_parts(parts):
+    """Contracts of so many like deliveries side by side, of which ten are taken one by one."""
+    count = CONTRACTS * 10 // parts
+    contract = "\n|| ".join([BARREL] * parts)
+    lines = "".join(f"register c{i} = {contract};;\n" + 10 * TRANSMIT.format(f"c{i}") for i in range(count))
+    return Case("run", (HEAD + "clerk;;\n" + lines).encode(), 11 * count)
+
+
+def doubling():
+    """Contracts whose alternatives double with each of five transmissions; all of them are alike but for a number."""
+    book = HEAD + (
+        "template f(n: Int) = transmit(a, b, r, t | true). f(2 * n) + transmit(a, b, r, t | true). f(2 * n + 1);;\n")
+    book = book.replace(" = transmit", " = Success + transmit", 1)
+    lines = "".join(f"register c{i} = f(1);;\n" + 5 * TRANSMIT.format(f"c{i}") for i in range(5 * CONTRACTS))
+    return Case("run", (book + "clerk;;\n" + lines).encode(), 30 * CONTRACTS)
+
+
+def alike_ways():
+    """Contracts with forty like parts and two ways for each transmission, of which the alternatives come to be alike."""
+    way = f"({BARREL} + transmit(a, b, r, t | r = [1 Oil]). {BARREL})"
+    contract = "\n|| ".join([way] * 12)
+    lines = "".join(f"register c{i} = {contract};;\n" + 4 * TRANSMIT.format(f"c{i}") for i in range(CONTRACTS // 8))
+    return Case("run", (HEAD + "clerk;;\n" + lines).encode(), 5 * CONTRACTS // 8)
+
+
+def looks():
+    """So many shows of a contract with ninety-nine different deliveries side by side."""
+    parts = "\n|| ".join(f"transmit(a, b, r, t | r = [{i} Oil]). Success" for i in range(99))
+    return Case("run", (HEAD + f"clerk;;\nregister c = {parts};;\n" + "show c;;\n" * LOOKS).encode(), LOOKS + 1)
+
+
+def different_parts():
+    """Contracts of ten different deliveries side by side, which are taken one by one."""
+    parts = "\n|| ".join(f"transmit(a, b, r, t | amount(r) = {i}). Success" for i in range(10))
+    lines = "".join(
+        f"register c{number} = {parts};;\n"
+        + "".join(f"transmit c{number} ann bob {i} Oil @2006-01-01;;\n" for i in reversed(range(10)))
+        for number in range(2_000))
+    return Case("run", (HEAD + "clerk;;\n" + lines).encode(), 22_000)
+
+
+def plain():
+    """Transmissions on one contract that takes every one."""
+    text = HEAD + ANY + "clerk;;\nregister c = any();;\n" + TRANSMIT.format("c") * (COMMANDS - 1)
+    return Case("run", text.encode(), COMMANDS)
+
+
+def demonstration():
+    """The demonstration with 1,000 sales."""
+    return Case("demo 1000", b"", 40_008)
+
+
+def printed(program, case):
+    """What the program prints of the case."""
+    return subprocess.run([program, *case.words.split()], input=case.text, stdout=subprocess.PIPE, check=True).stdout
+
+
+def compare(older, program, about, case):
+    """Prints what the case costs in both programs. Answers whether they print the same and the bound was kept."""
+    same = printed(older, case) == printed(program, case)
+    runs = [[told(which, case) for which in (older, program)] for _ in range(ROUNDS)]
+    before, after = (min(run[at][0] for run in runs) for at in (0, 1))
+    peaks = [max(run[at][1] for run in runs) / 2**20 for at in (0, 1)]
+    kept = same and after < MOST_RATIO * before
+    print(f"{about}: {after:.3f} s beside {before:.3f} ({after / before:.2f}; {before / after:.1f} times as fast),"
+          f" peak {peaks[1]:.1f} MB beside {peaks[0]:.1f}{'' if same else '   PRINTS SOMETHING ELSE'}"
+          f"{'' if kept else '   NOT KEPT'}", flush=True)
+    return kept
+
+
+def main():
+    if len(sys.argv) < 2:
+        sys.exit(__doc__)
+    older, program = sys.argv[1], sys.argv[2] if len(sys.argv) > 2 else str(PROGRAM)
+    cases = [(f"{parts} like deliveries side by side", like_parts(parts)) for parts in (10, 40, 80)]
+    cases += [(family.__doc__.partition(",")[0].rstrip("."), family())
+              for family in (alike_ways, doubling, looks, different_parts, plain, demonstration)]
+    kept = [compare(older, program, about, case) for about, case in cases]
+    sys.exit(0 if all(kept) else 1)
+
+
+if __name__ == "__main__":
+    main()
