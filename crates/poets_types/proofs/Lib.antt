@@ -7,3 +7,4 @@ pub mod Indices
 pub mod Scopes
 pub mod Tables
 pub mod Twice
+pub mod TypingRules

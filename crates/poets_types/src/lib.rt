@@ -9,6 +9,7 @@ mod contract;
 mod declared;
 mod expression;
 mod index;
+pub mod laws;
 mod params;
 mod scope;
 mod table;
