@@ -7,4 +7,3 @@ pub mod Indices
 pub mod Scopes
 pub mod Tables
 pub mod Twice
-pub mod TypingRules

@@ -9,7 +9,6 @@ mod contract;
 mod declared;
 mod expression;
 mod index;
-pub mod laws;
 mod params;
 mod scope;
 mod table;

@@ -11,7 +11,7 @@ use Rattle.poets_syntax.specs.Typed.{check_contract}
 use Rattle.poets_report.specs.Query.{Query}
 use Rattle.poets_call.specs.Calls.{Request}
 use Rattle.poets_call.specs.TypedSentences.{check_template, check_report, check_request}
-use Rattle.poets_types.specs.TypingRules.{Has, Typed, IsTypedTemplate, IsTypedReport, IsTypedCommand}
+use Rattle.poets_typing.specs.Rules.{Has, Typed, IsTypedTemplate, IsTypedReport, IsTypedCommand}
 
 -- an expression passes with the type that it has by the rules, and with no other
 abbrev pub TypesByRules : Type 0

@@ -1,8 +1,6 @@
 -- A check passes exactly where the rules of typing hold.
-use Rattle.std.proofs.Common.{◌≡◌, ◌↔◌, ℕ, nat_eq, Bool, true, false, List, [], ◌∷◌, ◌++◌, length, map, Option, Some, None, suc, refl, ap, sym, ◌∙◌, eq-eqb}
+use Rattle.std.proofs.Common.{◌≡◌, Bool, true, false, List, [], ◌∷◌, ◌++◌, length, map, Option, Some, None, suc, refl, ap, sym, ◌∙◌, eq-eqb}
 use Rattle.std.specs.Prelude.{◌||◌, if◌then◌else◌}
-use Rattle.std.specs.List.{AllZip}
-use Rattle.std.proofs.lemmas.Bool.{eqb-true}
 use Rattle.poets_value.specs.declared.value.Name.{Name}
 use Rattle.poets_value.specs.declared.event.Event.{Event}
 use Rattle.poets_value.specs.declared.value.Ty.{Ty}
@@ -23,11 +21,11 @@ use Rattle.poets_report.specs.Query.{Query}
 use Rattle.poets_call.specs.Calls.{Request}
 use Rattle.poets_call.specs.Calls as Q
 use Rattle.poets_call.specs.Replies.{report_in}
-use Rattle.poets_call.specs.TypedSentences.{report_names, check_template, check_key, check_fold, check_report, check_declared, check_event, check_report_arguments, check_request}
+use Rattle.poets_call.specs.TypedSentences.{report_names, check_key, check_fold, check_report, check_declared, check_event, check_report_arguments, check_request}
 use Rattle.poets_syntax.proofs.Typedness.{passed, kind_declared, as_many}
-use Rattle.poets_types.specs.TypingRules.{IsNumberOrDay, Number, ADay, IsSum, IsProduct, IsEquality, IsComparison, IsConnective, Has, Fit, AreNew, Typed}
-use Rattle.poets_types.specs.TypingRules as R
-use Rattle.poets_types.specs.Laws.{TypesByRules, ContractsByRules, TemplatesByRules, ReportsByRules, CommandsByRules}
+use Rattle.poets_typing.specs.Rules.{IsNumberOrDay, Number, ADay, IsSum, IsProduct, IsEquality, IsComparison, IsConnective, Has, Fit, AreNew, Typed}
+use Rattle.poets_typing.specs.Rules as R
+use Rattle.poets_typing.specs.Laws.{TypesByRules, ContractsByRules, TemplatesByRules, ReportsByRules, CommandsByRules}
 
 -- one type
 
@@ -357,10 +355,13 @@ contracts_by_rules book reports scope c = (typed book reports scope c, contract_
 -- templates and reports
 
 pub templates_by_rules : TemplatesByRules
-templates_by_rules book reports t = (λ h.
+templates_by_rules book reports t = (
+  λ h.
       let p = passed (check_new (in_use book reports) [] (map (λ q. q.name) t.params)) (λ _. check_contract book reports (scope_of t.params) t.body) tt h in
-      record { params = are_new (in_use book reports) [] (map (λ q. q.name) t.params) p.1; body = typed book reports (scope_of t.params) t.body p.2 }, λ r.
-      rw (new_passes (in_use book reports) [] (map (λ q. q.name) t.params) r.params) (contract_passes book reports (scope_of t.params) t.body r.body))
+      record { params = are_new (in_use book reports) [] (map (λ q. q.name) t.params) p.1; body = typed book reports (scope_of t.params) t.body p.2 },
+  λ r.
+      rw (new_passes (in_use book reports) [] (map (λ q. q.name) t.params) r.params) (contract_passes book reports (scope_of t.params) t.body r.body),
+)
 
 has_key : (declared : Declared) (scope : Scope) (key : Option Expression) → check_key declared scope key ≡ Passes tt → R.HasKey declared scope key
 has_key declared scope None h = R.NoKey
@@ -392,9 +393,12 @@ report_typed book reports q h =
 
 report_passes : (book : Definitions) (reports : List Name) (q : Query) → R.IsTypedReport book reports q → check_report book reports q ≡ Passes tt
 report_passes book reports q r =
-    rw (new_passes (in_use book reports) [] (map (λ x. x.name) q.params) r.params, wanted_passes book.declared (scope_of q.params) q.ty q.start r.start,
+    rw (
+      new_passes (in_use book reports) [] (map (λ x. x.name) q.params) r.params,
+      wanted_passes book.declared (scope_of q.params) q.ty q.start r.start,
       new_passes (in_use book reports) [] (q.carry ∷ names_bound q.binders) r.names,
-      wanted_passes book.declared (types_bound q.binders ++ (q.carry, q.ty) ∷ scope_of q.params) q.ty q.step r.step)
+      wanted_passes book.declared (types_bound q.binders ++ (q.carry, q.ty) ∷ scope_of q.params) q.ty q.step r.step,
+    )
     (key_passes book.declared (types_bound q.binders ++ scope_of q.params) q.key r.key)
 
 pub reports_by_rules : ReportsByRules
