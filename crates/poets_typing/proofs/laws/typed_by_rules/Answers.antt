@@ -1,0 +1,17 @@
+use Rattle.poets_typing.proofs.Rules.{types_by_rules, contracts_by_rules, templates_by_rules, reports_by_rules, commands_by_rules}
+use Rattle.poets_typing.proofs.laws.typed_by_rules.Goals as goal
+
+pub returns-clause-expressions : goal.returns-clause-expressions
+returns-clause-expressions c = types_by_rules
+
+pub returns-clause-contracts : goal.returns-clause-contracts
+returns-clause-contracts c = contracts_by_rules
+
+pub returns-clause-templates : goal.returns-clause-templates
+returns-clause-templates c = templates_by_rules
+
+pub returns-clause-reports : goal.returns-clause-reports
+returns-clause-reports c = reports_by_rules
+
+pub returns-clause-commands : goal.returns-clause-commands
+returns-clause-commands c = commands_by_rules
