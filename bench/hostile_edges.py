@@ -1,0 +1,332 @@
+"""The families of the language's limits, of deep statements, of edges, and of names that nothing has."""
+import re
+import resource
+
+import clerks
+from hostile_memory import SALE, SOLD, is_legal
+from hostile_streams import LONGER, MOST_BYTES
+from measuring import ANY, COMMANDS, HEAD
+from running import is_so, kept_text, run, told_wrong
+
+TAKEN = "report taken(n: Int): Int = fold x = n with (s, v, r, t) in x;;\n"
+HELD = "report held(n: Bool): Bool = fold x = n with (s, v, r, t) in x;;\n"
+STACKS = (2**23, 2**22, 2**21)
+
+
+def case(about, words, text, status, out, limits=None):
+    """None where the program ends so, else what is told of it."""
+    data = text.encode() if isinstance(text, str) else text
+    ran = run(words, data, limits=limits)
+    wanted = out.encode() if isinstance(out, str) else out
+    return None if is_so(ran, status, wanted) else told_wrong(f"{words}, {about}, {kept_text(about, data)}", ran)
+
+
+def one_step(about, command, reply, book=HEAD + TAKEN + HELD + ANY):
+    """A session of one command, which gets this reply, or is refused so."""
+    statement = book.count(";;") + 2
+    is_refused = reply[:1].isupper()
+    line = f"refused in statement {statement}: {reply}\n" if is_refused else f"1 1: {command} => {reply}\n"
+    return case(about, "run", f"{book}clerk;;\n{command};;\n", int(is_refused), line)
+
+
+def declarations():
+    """256 templates, reports, and both; and one more. 64 clerks, and one more; numbers of clerks in a journal."""
+    kinds = ("template t%d() = Success;;\n", "report r%d(): Int = fold x = 0 with (s, v, r, t) in x;;\n")
+    most = ["".join(kind % at for at in range(1, 257)) for kind in kinds]
+    yield case("256 templates", "check", most[0], 0, "book: templates 256, reports 0\n")
+    yield case("256 reports", "check", most[1], 0, "book: templates 0, reports 256\n")
+    yield case("256 of both", "check", most[0] + most[1], 0, "book: templates 256, reports 256\n")
+    for kind, text in zip(kinds, most):
+        yield case("257 " + kind[:8], "check", text + kind % 257, 1, "refused in statement 257: TooMany\n")
+        yield case("513 of both", "check", most[0] + most[1] + kind % 257, 1, "refused in statement 513: TooMany\n")
+    yield case("64 clerks", "run", 64 * "clerk;;", 0, "")
+    yield case("65 clerks", "run", 65 * "clerk;;", 1, "refused in statement 65: TooMany\n")
+    yield case("a journal without journal", "replay", "", 1, "refused in statement 1: Misplaced\n")
+    for number in (1, 64):
+        yield case(f"clerk {number}", "replay", f"journal;; {number}: end c;;", 0, f"1 {number}: end c => no contract c\n")
+    for number in (0, 65, 2**32 + 1, 2**63 - 1):
+        yield case(f"clerk {number}", "replay", f"journal;; {number}: end c;;", 1, "refused in statement 2: TooMany\n")
+
+
+def numbers_of_commands():
+    """65,536 commands of one clerk, of 64 clerks and of a journal; and one more."""
+    end, line = "end c;;\n", "%d 1: end c => no contract c\n"
+    lines = "".join(line % at for at in range(1, COMMANDS + 1))
+    yield case("65536 commands", "run", "clerk;;\n" + COMMANDS * end, 0, lines)
+    yield case("65537 commands", "run", "clerk;;\n" + (COMMANDS + 1) * end, 1, "refused in statement 65538: TooMany\n")
+    yield case("65536 calls", "replay", "journal;;\n" + COMMANDS * ("1: " + end), 0, lines)
+    yield case("65537 calls", "replay", "journal;;\n" + (COMMANDS + 1) * ("1: " + end), 1,
+               "refused in statement 65538: TooMany\n")
+    scripts = [1_024 * ["end c"]] * 64
+    ran = run("run", clerks.session(scripts).encode())
+    yield None if ran.status == 0 and is_legal(ran.out, True, scripts) else told_wrong("64 times 1024 commands", ran)
+    text = 64 * ("clerk;;\n" + 1_024 * end) + end
+    yield case("64 times 1024 commands and one", "run", text, 1, f"refused in statement {COMMANDS + 65}: TooMany\n")
+    shows = "".join(f"{at} 1: show a => no contract a\n" for at in range(1, COMMANDS + 1))
+    yield case("65536 shows", "run", HEAD + "clerk;;\n" + COMMANDS * "show a;;\n", 0, shows)
+    yield case("65537 shows", "run", HEAD + "clerk;;\n" + (COMMANDS + 1) * "show a;;\n", 1,
+               "refused in statement 65540: TooMany\n")
+
+
+def numbers_of_bytes():
+    """16,777,216 bytes of one kind or another, and one more."""
+    refused = "refused in statement %d: %s\n"
+    whole = {"blanks": (b" ", 0, ""), "line feeds": (b"\n", 0, ""), "one comment": (b"#", 0, ""),
+             "comments of any bytes": (b"#\xff\0\n", 0, ""), "brackets": (b"(", 1, refused % (1, "TooDeep")),
+             "closing brackets": (b")", 1, refused % (1, "NoSentence")), "names": (b"a ", 1, refused % (1, "NoSentence")),
+             "a long name": (b"a", 1, "refused at byte 0: LongName\n"), "clerks": (b"clerk;;", 1, refused % (65, "TooMany")),
+             "a long number": (b"7", 1, "refused at byte 0: LongNumber\n"), "ends": (b";;", 1, refused % (1, "NoSentence")),
+             "operators": (b"+", 1, refused % (1, "TooDeep")), "bytes past ASCII": (b"\xf0", 1, "refused at byte 0: BadByte\n"),
+             "numbers": (b"7 ", 1, refused % (1, "NoSentence")), "days": (b"@2006-01-01", 1, refused % (1, "NoSentence"))}
+    for about, (piece, status, out) in whole.items():
+        text = (piece * (MOST_BYTES // len(piece) + 1))[:MOST_BYTES]
+        if about not in ("clerks", "days"):
+            yield case(f"16777216 bytes of {about}", "run", text, status, out)
+        yield case(f"16777217 bytes of {about}", "run", text + piece[:1], 6, LONGER)
+    yield case("clerks", "run", b"clerk;;" * (MOST_BYTES // 7), 1, refused % (65, "TooMany"))
+    yield case("a zero of so many digits", "run", b"0" * MOST_BYTES, 1, refused % (1, "NoSentence"))
+    filled = SALE + b"#" * (MOST_BYTES - len(SALE))
+    yield case("a sale and a comment", "run", filled, 0, SOLD)
+    yield case("a sale and a longer comment", "run", filled + b"#", 6, LONGER)
+
+
+def numbers_of_brackets():
+    """200 brackets and 201, about a contract, a predicate, an argument; and brackets that close nothing."""
+    for count in (200, 201):
+        reply = "registered 1" if count == 200 else "TooDeep"
+        text = f"{HEAD}clerk;; register x = {count * '('}Success{count * ')'};;"
+        out = "1 1: register x = Success => registered 1\n" if count == 200 else "refused in statement 4: TooDeep\n"
+        yield case(f"{count} brackets", "run", text, int(count == 201), out)
+        inner = count - 1
+        text = f"{HEAD}clerk;; register x = transmit(a, b, r, t | {inner * '('}true{inner * ')'}). Success;;"
+        out = f"1 1: register x = transmit(a, b, r, t | true). Success => {reply}\n" if count == 200 else out
+        yield case(f"{count} brackets in a predicate", "run", text, int(count == 201), out)
+        text = f"{HEAD}{TAKEN}clerk;; tally taken({inner * '('}7{inner * ')'});;"
+        out = "1 1: tally taken(7) => value 7\n" if count == 200 else "refused in statement 5: TooDeep\n"
+        yield case(f"{count} brackets in an argument", "run", text, int(count == 201), out)
+    yield case("201 brackets never closed", "run", 201 * "(", 1, "refused in statement 1: TooDeep\n")
+    yield case("200 brackets never closed", "run", 200 * "(", 1, "refused in statement 1: NoSentence\n")
+    yield case("201 closed before", "run", 300 * ")" + 201 * "(", 1, "refused in statement 1: TooDeep\n")
+    yield case("300 by turns", "run", 300 * "()", 1, "refused in statement 1: NoSentence\n")
+
+
+def numbers_of_operators():
+    """1,000 operators and 1,001, of each kind that can stand so often."""
+    sums = {"+": lambda n: n + 1, "-": lambda n: 1 - n, "*": lambda n: 1, "/": lambda n: 1, "%": lambda n: 0}
+    for count in (1_000, 1_001):
+        deep = count > 1_000
+        for sign, value in sums.items():
+            command = f"tally taken(1{count * f' {sign} 1'})"
+            yield one_step(f"{count} {sign}", command, "TooDeep" if deep else f"value {value(count)}")
+        for word in ("and", "or"):
+            yield one_step(f"{count} {word}", f"tally held(true{count * f' {word} true'})", "TooDeep" if deep else "value true")
+        yield one_step(f"{count} not", f"tally held({count * 'not '}true)", "TooDeep" if deep else "value true")
+        chain = f"{count * 'if true then 1 else '}2{count * ' end'}"
+        yield one_step(f"{count} if", f"tally taken({chain})", "TooDeep" if deep else "value 1")
+        for sign in ("+", ";", "||"):
+            command = f"register x = Success{(count - 1) * f' {sign} Success'}"
+            yield one_step(f"{count} {sign} of contracts", command, "TooDeep" if deep else "registered 1")
+        command = f"register x = {(count - 1) * 'transmit(a, b, r, t | true). '}Success"
+        yield one_step(f"{count} transmits", command, "TooDeep" if deep else "too large")
+        signs = f"{HEAD}clerk;; tally {count * '. '};;"
+        yield case(f"{count} operators of no sentence", "run", signs, 1,
+                   f"refused in statement 4: {'TooDeep' if deep else 'NoSentence'}\n")
+
+
+def widths():
+    """Contracts of the widths 1,000 and 1,001."""
+    def choice(first):
+        return "register c = " + " + ".join(
+            f"transmit(a, b, r, t | {first if at == 1 else ''}amount(r) = {at}). Success" for at in range(1, 144))
+    yield one_step("a width of 1000", choice(""), "registered 1")
+    yield one_step("a width of 1001", choice("not "), "too large")
+    yield one_step("a transmit of the width 1000", f"register c = transmit(a, b, r, t | {997 * 'not '}true). Success", "registered 1")
+
+
+def limits():
+    """At and past the limits."""
+    return [(declarations,), (numbers_of_commands,), (numbers_of_bytes,), (numbers_of_brackets,), (numbers_of_operators,),
+            (widths,)]
+
+
+def nested(count, before, middle, after):
+    """The middle within so many of what stands before and after it."""
+    return count * before + middle + count * after
+
+
+# A deep contract, and the replies to its registration and to a transmission on it.
+ONE = "transmit(a, b, r, t | %s). Success"
+MAY_END, MORE = "recorded 1, may end yes", "recorded 1, may end no"
+DEEP = {
+    "negated truths": (ONE % (998 * "not " + "true"), MAY_END),
+    "negated truths in brackets": (ONE % nested(199, "not (", 799 * "not " + "true", ")"), MAY_END),
+    "negated numbers": (ONE % ("7 <> " + nested(198, "-(", 797 * "- " + "(5)", ")")), MAY_END),
+    "sums to the left": (ONE % ("1" + 996 * " + 1" + " > 7"), MAY_END),
+    "sums to the right": (ONE % (nested(199, "1 + (", "1" + 797 * " + 1", ")") + " > 7"), MAY_END),
+    "truths to the right": (ONE % nested(199, "true and (", "true" + 799 * " and true", ")"), MAY_END),
+    "cases": (ONE % nested(998, "if false then false else ", "true", " end"), MAY_END),
+    "cases in brackets": (ONE % nested(199, "if (", nested(799, "if true then true else ", "false", " end"),
+                                       ") then true else false end"), MAY_END),
+    "transmits in a row": (498 * "transmit(a, b, r, t | true). " + "Success", MORE),
+    "transmits in brackets": (nested(199, "transmit(a, b, r, t | true). (", "Success + Success", ")"), MORE),
+    "choices to the left": (nested(200, "(", "Success" + 4 * " + Success", " + Success)") + 790 * " + Success", "unmatched"),
+    "choices to the right": (nested(200, "Success + (", "Success" + 799 * " + Success", ")"), "unmatched"),
+    "parts at once": (" || ".join(248 * ["transmit(a, b, r, t | true). Success"]), MORE),
+    "parts after one another": (" ; ".join(248 * ["transmit(a, b, r, t | true). Success"]), MORE),
+    "parts to the right": (nested(200, "transmit(a, b, r, t | true). Success ; (", "Success", ")"), MORE),
+    "parts at once to the right": (nested(200, "transmit(a, b, r, t | true). Success || (", "Success", ")"), MORE),
+}
+
+
+def deep(about, sections, stack):
+    """The contract registered, transmitted on, shown and ended by one clerk on the main stack, or by some in threads."""
+    contract, reply = DEEP[about]
+    event = "ann bob 1 Oil @2006-01-01"
+    scripts = [[f"register x{at} = {contract}", f"transmit x{at} {event}", f"show x{at}", f"end x{at}"]
+               for at in range(1, sections + 1)]
+    text = clerks.session(scripts).encode()
+    ran = run("run", text, limits={resource.RLIMIT_STACK: stack})
+    replies = sorted(line.rpartition(" => ")[2] for line in ran.out.decode().splitlines() if ": show" not in line)
+    ended = {MAY_END: "ended now", MORE: "not performed", "unmatched": "ended now"}[reply]
+    wanted = sorted([f"registered {at}" for at in range(1, sections + 1)] + sections * [reply, ended])
+    calls = len(re.findall(" => ", ran.out.decode()))
+    right = ran.status == 0 and not ran.err and replies == wanted and calls == 4 * sections
+    yield None if right else told_wrong(f"{about}, {sections} clerks, a stack of {stack} bytes, {kept_text(about, text)}", ran)
+
+
+def deep_books(stack):
+    """256 templates of which each begins with the next, 1,000 operators deep; and reports of 1,000 operators."""
+    limits = {resource.RLIMIT_STACK: stack}
+    for about, before, after in (("to the left", "", 999 * " + Success"), ("in a row", "", 999 * " ; Success"),
+                                 ("at once", "", 999 * " || Success"), ("in brackets", 199 * "Success + (", 199 * ")")):
+        rows = [f"template t{at}() = {before}t{at + 1}(){after};;\n" for at in range(1, 256)]
+        book = "".join(rows) + "template t256() = Success;;\n"
+        yield case(f"templates {about}", "check", book, 0, "book: templates 256, reports 0\n", limits)
+        text = book + "clerk;; register x = t1();;"
+        yield case(f"a contract of templates {about}", "run", text, 0, "1 1: register x = t1() => too large\n", limits)
+        loop = book.replace("t256() = Success", f"t256() = {before}t1(){after}")
+        yield case(f"a cycle of templates {about}", "check", loop, 1, "refused in statement 1: Unguarded t1\n", limits)
+    rows = "".join(f"template t{at}() = t{at + 1}();;\n" for at in range(1, 256)) + "template t256() = Success;;\n"
+    yield case("templates in a chain", "run", rows + "clerk;; register x = t1();;", 0,
+               "1 1: register x = t1() => registered 1\n", limits)
+    report = f"report q(): Bool = fold x = {997 * 'not '}true with (s, v, r, t) in not x by not true;;"
+    yield case("a report", "run", report + "clerk;; tally q();;", 0, "1 1: tally q() => rows {}\n", limits)
+
+
+def depths():
+    """On the main stack and on those of threads."""
+    jobs = [(deep, about, sections, stack) for about in DEEP for sections in (1, 4) for stack in STACKS]
+    return jobs + [(deep_books, stack) for stack in STACKS]
+
+
+def names_at_edges():
+    """Names of 64 bytes and of 65, words and names, and what may stand beside them."""
+    name = 64 * "n"
+    for about, text, status, out in (
+            ("64 letters", name, 1, "refused in statement 1: NoSentence\n"),
+            ("65 letters", name + "n", 1, "refused at byte 0: LongName\n"),
+            ("65 in the middle", f"agents a, {name}_;;", 1, "refused at byte 10: LongName\n"),
+            ("an agent of 64", f"agents {name};; clerk;;", 0, ""),
+            ("a line", "agents _;; clerk;;", 0, ""), ("lines and digits", "agents _0, __, _0_;; clerk;;", 0, ""),
+            ("a digit first", "agents 7a;;", 1, "refused in statement 1: NoSentence\n"),
+            ("a word for a name", "agents total;;", 1, "refused in statement 1: NoSentence\n"),
+            ("a word with a capital", "agents Total, Kinds, success;; clerk;;", 0, ""),
+            ("a word without end", "agents ann", 1, "refused in statement 1: NoSentence\n"),
+            ("no name", "agents ;;", 1, "refused in statement 1: NoSentence\n"),
+            ("a comma too many", "agents a, ;;", 1, "refused in statement 1: NoSentence\n"),
+            ("past ASCII", "agents \u00e9;;", 1, "refused at byte 7: BadByte\n"),
+            ("a byte order mark", "\ufeffagents a;;", 1, "refused at byte 0: BadByte\n"),
+            ("a zero byte", "agents a\0;;", 1, "refused at byte 8: BadByte\n"),
+            ("a vertical tab", "agents a\v;;", 1, "refused at byte 8: BadByte\n"),
+            ("any byte in a comment", "agents a;;#\0\u00e9\r;; x\nclerk;;", 0, ""),
+            ("a comment to the end", "agents a;; clerk;;#", 0, ""),
+            ("a single sign", "agents a;", 1, "refused in statement 1: NoSentence\n"),
+            ("three signs", "agents a;;;", 1, "refused in statement 2: NoSentence\n"),
+            ("four signs", "agents a;;;;", 1, "refused in statement 2: NoSentence\n")):
+        yield case(about, "run", text, status, out)
+    line = f"1 1: end {name} => no contract {name}\n"
+    yield case("a contract of 64", "run", f"clerk;; end {name};;", 0, line)
+    many = ", ".join(f"a{at}" for at in range(100_000))
+    yield case("100000 agents", "run", f"agents {many};; clerk;;", 0, "")
+    yield case("an agent twice after 100000", "run", f"agents {many}, a99999;; clerk;;", 1,
+               "refused in statement 1: Twice a99999\n")
+
+
+def numbers_at_edges():
+    """The greatest number, one more, and what expressions make of it."""
+    most = 2**63 - 1
+    for text, reply in ((f"{most}", most), (f"-{most}", -most), (f"{most} + 1", None), (f"-{most} - 1", None),
+                        (f"{most} - -1", None), (f"{most} * -1", -most), (f"{most} * 2", None), (f"-{most} / -1", most),
+                        (f"{most} % -1", 0), ("1 / 0", None), ("1 % 0", None), ("-7 / 2", -3), ("-7 % 2", -1), ("7 % -2", 1),
+                        (f"-({most})", -most), ("4294967296 * 4294967296", None), ("3037000500 * 3037000500", None),
+                        ("3037000499 * 3037000499", 3037000499**2), (f"{most} / {most}", 1), (f"0 / -{most}", 0),
+                        ("@9999-12-31 - @0001-01-01", 3652058), ("@0001-01-01 - @9999-12-31", -3652058),
+                        (f"if {most} + 1 = 0 then 1 else 2 end", None), (f"if true then 3 else {most} + 1 end", 3)):
+        yield one_step(f"the number {text}", f"tally taken({text})", f"value {'undefined' if reply is None else reply}")
+    for text, reply in (("undefined Bool or true", "true"), ("false and undefined Bool", "false"),
+                        ("undefined Bool and false", "undefined"), ("undefined Int = undefined Int", "undefined"),
+                        ("not undefined Bool", "undefined"), ("@9999-12-31 + 1 > @0001-01-01", "undefined"),
+                        ("@0001-01-01 - 1 < @0001-01-01", "undefined"), ("@2000-02-28 + 1 = @2000-02-29", "true"),
+                        ("@1900-02-28 + 1 = @1900-03-01", "true"), (f"@2006-01-01 + {most} = @2006-01-01", "undefined"),
+                        (f"amount(res({most}, Oil)) = {most}", "true"), ("res(1, Oil) = [1 Oil]", "true"),
+                        ("[0 Oil] = [-0 Oil]", "true")):
+        printed = text.replace("-0", "0")
+        yield case(f"the truth {text}", "run", f"{HEAD}{HELD}clerk;; tally held({text});;", 0,
+                   f"1 1: tally held({printed}) => value {reply}\n")
+    for digits in (str(2**63), str(2**64), 64 * "9", 100_000 * "9"):
+        yield case("a long number", "run", f"clerk;; read {digits};;", 1, "refused at byte 13: LongNumber\n")
+    yield case("zeros before", "run", f"clerk;; read {'0' * 100_000}7;;", 0, "1 1: read 7 => no watch 7\n")
+    yield case("the greatest", "run", f"clerk;; read {most};;", 0, f"1 1: read {most} => no watch {most}\n")
+
+
+def days_at_edges():
+    """Days that the calendar has, and those that it has not."""
+    for day in ("0001-01-01", "9999-12-31", "2000-02-29", "2400-02-29", "2004-02-29", "1600-02-29", "1582-10-10"):
+        yield one_step(f"the day {day}", f"transmit c ann bob 1 Oil @{day}", "no contract c")
+    for day in ("0000-01-01", "0000-12-31", "2006-02-29", "1900-02-29", "2100-02-29", "2006-00-01", "2006-13-01",
+                "2006-01-00", "2006-01-32", "2006-04-31", "2006-1-01", "06-01-01", "2006/01/01", "2006-01-0", "", "-001-01-01",
+                "+006-01-01", "20060101", " 2006-01-01", "2006-01-\u0661"):
+        yield case(f"the day {day}", "run", f"agents ann;; @{day}", 1, "refused at byte 13: BadByte\n")
+    yield case("a longer day", "run", "agents ann;; @2006-01-015", 1, "refused in statement 2: NoSentence\n")
+    text = f"{HEAD}{ANY}clerk;; register c = any();; "
+    days = ("9999-12-31", "0001-01-01", "9999-12-31")
+    events = "".join(f"transmit c ann bob {2**63 - 1} Oil @{day};; " for day in days)
+    line = f"transmit c ann bob {2**63 - 1} Oil @"
+    yield case("days that fall", "run", text + events, 0,
+               "1 1: register c = any() => registered 1\n"
+               f"2 1: {line}9999-12-31 => recorded 1, may end yes\n3 1: {line}0001-01-01 => late 9999-12-31\n"
+               f"4 1: {line}9999-12-31 => recorded 2, may end yes\n")
+
+
+def edges():
+    """Names, numbers and days."""
+    return [(names_at_edges,), (numbers_at_edges,), (days_at_edges,)]
+
+
+UNKNOWN = {
+    "end zz": "no contract zz", "show zz": "no contract zz", "transmit zz ann bob 1 Oil @2006-01-01": "no contract zz",
+    "portfolio taken(7) over zz": "no contract zz", "read 9": "no watch 9", "read 0": "no watch 0",
+    "register c = zz()": None, "tally zz()": None, "watch zz(1)": None, "portfolio zz() over c": None,
+    "transmit c zz bob 1 Oil @2006-01-01": None, "transmit c ann zz 1 Oil @2006-01-01": None,
+    "transmit c ann bob 1 zz @2006-01-01": None}
+
+
+def unknown_names(command):
+    """65,536 times the command on a name that nothing has, by one clerk and by 64."""
+    reply, book = UNKNOWN[command], clerks.BOOK + TAKEN
+    refused = f"refused in statement {book.count(';;') + 2}: Unknown zz\n"
+    lines = "".join(f"{at} 1: {command} => {reply}\n" for at in range(1, COMMANDS + 1))
+    text = f"{book}clerk;;\n" + COMMANDS * f"{command};;\n"
+    yield case(f"65536 times {command}", "run", text, *((0, lines) if reply else (1, refused)))
+    text = book + 64 * ("clerk;;\n" + 1_024 * f"{command};;\n")
+    ran = run("run", text.encode())
+    replies = [line.partition(" => ")[2] for line in ran.out.decode().splitlines()]
+    numbers = [line.partition(" ")[0] for line in ran.out.decode().splitlines()]
+    right = (ran.status, replies) == (0, COMMANDS * [reply]) and numbers == [str(at) for at in range(1, COMMANDS + 1)]
+    right = right if reply else is_so(ran, 1, refused.encode())
+    yield None if right else told_wrong(f"64 clerks, 1024 times {command}", ran)
+
+
+def unknown():
+    """Each kind of command."""
+    return [(unknown_names, command) for command in UNKNOWN]
