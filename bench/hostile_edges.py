@@ -10,7 +10,8 @@ from running import is_so, kept_text, run, told_wrong
 
 TAKEN = "report taken(n: Int): Int = fold x = n with (s, v, r, t) in x;;\n"
 HELD = "report held(n: Bool): Bool = fold x = n with (s, v, r, t) in x;;\n"
-STACKS = (2**23, 2**22, 2**21)
+BOOK_OF_ALL = HEAD + TAKEN + HELD + ANY
+STACKS = (2**23, 2**22)
 
 
 def case(about, words, text, status, out, limits=None):
@@ -21,7 +22,7 @@ def case(about, words, text, status, out, limits=None):
     return None if is_so(ran, status, wanted) else told_wrong(f"{words}, {about}, {kept_text(about, data)}", ran)
 
 
-def one_step(about, command, reply, book=HEAD + TAKEN + HELD + ANY):
+def one_step(about, command, reply, book=BOOK_OF_ALL):
     """A session of one command, which gets this reply, or is refused so."""
     statement = book.count(";;") + 2
     is_refused = reply[:1].isupper()
@@ -154,44 +155,69 @@ def nested(count, before, middle, after):
     return count * before + middle + count * after
 
 
-# A deep contract, and the replies to its registration and to a transmission on it.
-ONE = "transmit(a, b, r, t | %s). Success"
-MAY_END, MORE = "recorded 1, may end yes", "recorded 1, may end no"
+def contract(text, reply, ended):
+    """The commands of one clerk on this contract, and the replies but for that to `show`. One that is too large is no
+    contract of the next commands."""
+    commands = [f"register x%d = {text}", "transmit x%d ann bob 1 Oil @2006-01-01", "end x%d", "show x%d"]
+    return commands, ["registered", reply, ended] if ended else ["too large", *2 * ["no contract x%d"]]
+
+
+def predicate(text, is_kept=True):
+    """The same of one transmission with a predicate that holds."""
+    replies = ("recorded 1, may end yes", "ended now") if is_kept else ("too large", None)
+    return contract(f"transmit(a, b, r, t | {text}). Success", *replies)
+
+
+def argument(text, value, report="taken"):
+    """One tally with this argument."""
+    return [f"tally {report}({text})"], [f"value {value}"]
+
+
+ONE = "transmit(a, b, r, t | true). "
+DONE, OWED, NOT_OWED = ("recorded 1, may end yes", "ended now"), ("recorded 1, may end no", "not performed"), ("unmatched", "ended now")
 DEEP = {
-    "negated truths": (ONE % (998 * "not " + "true"), MAY_END),
-    "negated truths in brackets": (ONE % nested(199, "not (", 799 * "not " + "true", ")"), MAY_END),
-    "negated numbers": (ONE % ("7 <> " + nested(198, "-(", 797 * "- " + "(5)", ")")), MAY_END),
-    "sums to the left": (ONE % ("1" + 996 * " + 1" + " > 7"), MAY_END),
-    "sums to the right": (ONE % (nested(199, "1 + (", "1" + 797 * " + 1", ")") + " > 7"), MAY_END),
-    "truths to the right": (ONE % nested(199, "true and (", "true" + 799 * " and true", ")"), MAY_END),
-    "cases": (ONE % nested(998, "if false then false else ", "true", " end"), MAY_END),
-    "cases in brackets": (ONE % nested(199, "if (", nested(799, "if true then true else ", "false", " end"),
-                                       ") then true else false end"), MAY_END),
-    "transmits in a row": (498 * "transmit(a, b, r, t | true). " + "Success", MORE),
-    "transmits in brackets": (nested(199, "transmit(a, b, r, t | true). (", "Success + Success", ")"), MORE),
-    "choices to the left": (nested(200, "(", "Success" + 4 * " + Success", " + Success)") + 790 * " + Success", "unmatched"),
-    "choices to the right": (nested(200, "Success + (", "Success" + 799 * " + Success", ")"), "unmatched"),
-    "parts at once": (" || ".join(248 * ["transmit(a, b, r, t | true). Success"]), MORE),
-    "parts after one another": (" ; ".join(248 * ["transmit(a, b, r, t | true). Success"]), MORE),
-    "parts to the right": (nested(200, "transmit(a, b, r, t | true). Success ; (", "Success", ")"), MORE),
-    "parts at once to the right": (nested(200, "transmit(a, b, r, t | true). Success || (", "Success", ")"), MORE),
+    "negated truths": predicate(996 * "not " + "true"),
+    "negated truths in brackets": predicate(nested(199, "not (", 797 * "not " + "true", ")")),
+    "negated numbers": predicate("5 = " + nested(198, "-(", 795 * "- " + "-5", ")")),
+    "sums to the left": predicate("1" + 480 * " + 1" + " > 7"),
+    "sums to the right": predicate(nested(199, "1 + (", "1" + 280 * " + 1", ")") + " > 7"),
+    "wide sums": predicate("1" + 997 * " + 1" + " > 7", False),
+    "truths to the right": predicate(nested(199, "true and (", "true" + 290 * " and true", ")")),
+    "cases": predicate(nested(330, "if false then false else ", "true", " end")),
+    "wide cases": predicate(nested(998, "if false then false else ", "true", " end"), False),
+    "transmits in a row": contract(498 * ONE + "Success", *OWED),
+    "a wide row of transmits": contract(999 * ONE + "Success", "too large", None),
+    "transmits in brackets": contract(nested(199, ONE + "(", "Success + Success", ")"), *OWED),
+    "choices to the left": contract(nested(200, "(", "Success", " + Success)") + 799 * " + Success", *NOT_OWED),
+    "choices to the right": contract(nested(200, "Success + (", "Success" + 799 * " + Success", ")"), *NOT_OWED),
+    "parts at once": contract(" || ".join(248 * [ONE + "Success"]), *OWED),
+    "parts after one another": contract(" ; ".join(248 * [ONE + "Success"]), *OWED),
+    "parts to the right": contract(nested(200, ONE + "Success ; (", "Success", ")"), *OWED),
+    "parts at once to the right": contract(nested(200, ONE + "Success || (", "Success", ")"), *OWED),
+    "a sum of 1000 to the left": argument("1" + 1_000 * " + 1", 1_001),
+    "a sum of 1000 to the right": argument(nested(199, "1 + (", "1" + 801 * " + 1", ")"), 1_001),
+    "a difference of 1000": argument(nested(199, "1 - (", "1" + 801 * " - 1", ")"), 801),
+    "1000 negations": argument(nested(198, "-(", 802 * "- " + "(5)", ")"), 5),
+    "1000 truths": argument(nested(199, "not (", 801 * "not " + "true", ")"), "true", "held"),
+    "1000 cases": argument(nested(1_000, "if true then 1 else ", "2", " end"), 1),
+    "1000 cases that do not hold": argument(nested(1_000, "if false then 1 else ", "2", " end"), 2),
+    "1000 cases in conditions": argument(nested(1_000, "if ", "true", " then true else false end"), "true", "held"),
+    "1000 cases in choices": argument(nested(1_000, "if true then ", "7", " else 1 end"), 7),
 }
 
 
 def deep(about, sections, stack):
-    """The contract registered, transmitted on, shown and ended by one clerk on the main stack, or by some in threads."""
-    contract, reply = DEEP[about]
-    event = "ann bob 1 Oil @2006-01-01"
-    scripts = [[f"register x{at} = {contract}", f"transmit x{at} {event}", f"show x{at}", f"end x{at}"]
-               for at in range(1, sections + 1)]
-    text = clerks.session(scripts).encode()
-    ran = run("run", text, limits={resource.RLIMIT_STACK: stack})
-    replies = sorted(line.rpartition(" => ")[2] for line in ran.out.decode().splitlines() if ": show" not in line)
-    ended = {MAY_END: "ended now", MORE: "not performed", "unmatched": "ended now"}[reply]
-    wanted = sorted([f"registered {at}" for at in range(1, sections + 1)] + sections * [reply, ended])
-    calls = len(re.findall(" => ", ran.out.decode()))
-    right = ran.status == 0 and not ran.err and replies == wanted and calls == 4 * sections
-    yield None if right else told_wrong(f"{about}, {sections} clerks, a stack of {stack} bytes, {kept_text(about, text)}", ran)
+    """The commands made by one clerk on the main stack, or by some in threads."""
+    commands, replies = DEEP[about]
+    scripts = [[command.replace("%d", str(at)) for command in commands] for at in range(1, sections + 1)]
+    text = BOOK_OF_ALL + "".join("clerk;;\n" + "".join(f"{command};;\n" for command in script) for script in scripts)
+    ran = run("run", text.encode(), limits={resource.RLIMIT_STACK: stack})
+    lines = [line for line in ran.out.decode().splitlines() if ": show" not in line]
+    found = sorted(re.sub("registered .*", "registered", line.rpartition(" => ")[2]) for line in lines)
+    wanted = sorted(reply.replace("%d", str(at)) for at in range(1, sections + 1) for reply in replies)
+    right = ran.status == 0 and not ran.err and found == wanted and ran.out.count(b" => ") == sections * len(commands)
+    yield None if right else told_wrong(
+        f"{about}, {sections} clerks, a stack of {stack} bytes, {kept_text(f'{about} {sections}', text.encode())}", ran)
 
 
 def deep_books(stack):
@@ -209,7 +235,7 @@ def deep_books(stack):
     rows = "".join(f"template t{at}() = t{at + 1}();;\n" for at in range(1, 256)) + "template t256() = Success;;\n"
     yield case("templates in a chain", "run", rows + "clerk;; register x = t1();;", 0,
                "1 1: register x = t1() => registered 1\n", limits)
-    report = f"report q(): Bool = fold x = {997 * 'not '}true with (s, v, r, t) in not x by not true;;"
+    report = f"report q(): Bool = fold x = {996 * 'not '}true with (s, v, r, t) in not x by not true;;"
     yield case("a report", "run", report + "clerk;; tally q();;", 0, "1 1: tally q() => rows {}\n", limits)
 
 
@@ -263,14 +289,14 @@ def numbers_at_edges():
                         ("@9999-12-31 - @0001-01-01", 3652058), ("@0001-01-01 - @9999-12-31", -3652058),
                         (f"if {most} + 1 = 0 then 1 else 2 end", None), (f"if true then 3 else {most} + 1 end", 3)):
         yield one_step(f"the number {text}", f"tally taken({text})", f"value {'undefined' if reply is None else reply}")
-    for text, reply in (("undefined Bool or true", "true"), ("false and undefined Bool", "false"),
+    for text, reply in (("undefined Bool or true", "undefined"), ("true or undefined Bool", "true"), ("false and undefined Bool", "false"),
                         ("undefined Bool and false", "undefined"), ("undefined Int = undefined Int", "undefined"),
                         ("not undefined Bool", "undefined"), ("@9999-12-31 + 1 > @0001-01-01", "undefined"),
                         ("@0001-01-01 - 1 < @0001-01-01", "undefined"), ("@2000-02-28 + 1 = @2000-02-29", "true"),
                         ("@1900-02-28 + 1 = @1900-03-01", "true"), (f"@2006-01-01 + {most} = @2006-01-01", "undefined"),
                         (f"amount(res({most}, Oil)) = {most}", "true"), ("res(1, Oil) = [1 Oil]", "true"),
                         ("[0 Oil] = [-0 Oil]", "true")):
-        printed = text.replace("-0", "0")
+        printed = text.replace("[-0", "[0")
         yield case(f"the truth {text}", "run", f"{HEAD}{HELD}clerk;; tally held({text});;", 0,
                    f"1 1: tally held({printed}) => value {reply}\n")
     for digits in (str(2**63), str(2**64), 64 * "9", 100_000 * "9"):

@@ -31,6 +31,15 @@ def given_in_steps(text, step, sink):
     os.close(sink)
 
 
+def given_for_ever(piece, sink):
+    """Writes the piece into a pipe again and again, as long as there is a reader."""
+    try:
+        while True:
+            os.write(sink, piece)
+    except BrokenPipeError:
+        os.close(sink)
+
+
 def read_in_steps(name, step):
     """The session through a pipe that gives so many bytes a read, and by reads and writes that move no more."""
     words, text, whole = SESSIONS[name]
@@ -74,8 +83,7 @@ def endless(about, words):
     """A source that gives these bytes for ever."""
     source, sink = os.pipe2(os.O_CLOEXEC)
     piece = ENDLESS[about] * (65_536 // len(ENDLESS[about]))
-    giver = threading.Thread(target=given_in_steps, args=(piece * 1_024, 65_536, sink), daemon=True)
-    giver.start()
+    threading.Thread(target=given_for_ever, args=(piece, sink), daemon=True).start()
     ran = run(words, source=source)
     os.close(source)
     right = is_so(ran, 6, LONGER) and ran.peak < MOST_MEMORY

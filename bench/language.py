@@ -10,10 +10,9 @@ import re
 
 PAGE = (pathlib.Path(__file__).resolve().parent.parent / "docs/LANGUAGE.md").read_text()
 WORDS = frozenset(re.search(r"The reserved words are `(.*?)`", PAGE).group(1).split())
-SIGNS = [b";;", b"||", b"<=", b"<>", b">=", *(bytes([sign]) for sign in b";|<>=+-*/%()[],:.")]
-BLANK = re.compile(rb"(?:[ \t\r\n]+|#[^\n]*)+")
-NAME = re.compile(rb"[A-Za-z_][A-Za-z0-9_]*")
-NUMBER = re.compile(rb"[0-9]+")
+TOKEN = re.compile(
+    rb"(?P<blank>(?:[ \t\r\n]+|#[^\n]*)+)|(?P<name>[A-Za-z_][A-Za-z0-9_]*)|(?P<number>[0-9]+)|(?P<day>@\d{4}-\d\d-\d\d)"
+    rb"|(?P<sign>;;|\|\||<=|<>|>=|[;|<>=+\-*/%()\[\],:.])")
 OPERATORS = frozenset("+ - * / % = <> < <= > >= . || ; and or not if".split())
 BOOK = ("agents", "kinds", "template", "report")
 LINE = re.compile(
@@ -25,40 +24,38 @@ class Fault(Exception):
     """The line that answers the text."""
 
 
-def token(text, at):
-    """The token at the place, as the grammar names it, and where it ends."""
-    if found := NAME.match(text, at):
-        if len(found[0]) > 64:
-            raise Fault(f"refused at byte {at}: LongName\n")
-        word = found[0].decode()
-        return (word if word in WORDS else "NAME"), found.end()
-    if found := NUMBER.match(text, at):
-        if int(found[0]) > 2**63 - 1:
-            raise Fault(f"refused at byte {at}: LongNumber\n")
-        return "NUMBER", found.end()
-    if re.match(rb"@\d{4}-\d\d-\d\d", text[at:]):
-        try:
-            datetime.date.fromisoformat(text[at + 1:at + 11].decode())
-            return "DAY", at + 11
-        except ValueError:
-            pass
-    for sign in SIGNS:
-        if text.startswith(sign, at):
-            return sign.decode(), at + len(sign)
-    raise Fault(f"refused at byte {at}: BadByte\n")
+def is_civil(day):
+    """Whether the calendar has the day, which is written with its `@`."""
+    try:
+        datetime.date.fromisoformat(day[1:].decode())
+        return True
+    except ValueError:
+        return False
+
+
+def token(one, at):
+    """The token as the grammar names it, where the text has one."""
+    kind = one.lastgroup if one else "none"
+    if kind == "name" and len(one[0]) > 64:
+        raise Fault(f"refused at byte {at}: LongName\n")
+    if kind == "number" and int(one[0]) > 2**63 - 1:
+        raise Fault(f"refused at byte {at}: LongNumber\n")
+    if kind == "none" or (kind == "day" and not is_civil(one[0])):
+        raise Fault(f"refused at byte {at}: BadByte\n")
+    word = one[0].decode() if kind != "blank" else ""
+    return kind.upper() if kind in ("number", "day") or (kind == "name" and word not in WORDS) else word
 
 
 def tokens(text):
     """The tokens of the text, each with its place, or the fault of the first byte that begins none."""
     at, found = 0, []
-    while True:
-        blank = BLANK.match(text, at)
-        at = blank.end() if blank else at
-        if at == len(text):
-            return found
-        what, end = token(text, at)
-        found.append((what, text[at:end], at))
-        at = end
+    while at < len(text):
+        one = TOKEN.match(text, at)
+        what = token(one, at)
+        if what:
+            found.append((what, one[0], at))
+        at = one.end()
+    return found
 
 
 def statements(found):

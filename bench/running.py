@@ -85,7 +85,8 @@ def refusals(settings):
 def run(words, text=b"", limits=None, settings=None, source=None, sink=None, first=None):
     """Runs the program with these words on the text, or between the source and the sink. `first` is what its process
     does before."""
-    files = [held(text) if source is None else source, held() if sink is None else sink, held()]
+    told, telling = os.pipe2(os.O_CLOEXEC)
+    files = [held(text) if source is None else source, held() if sink is None else sink, telling]
     shared["child"] = started(words.split(" ") if words else [], files, limits, settings, first)
     signal.signal(signal.SIGALRM, cut_off)
     signal.alarm(MOST_SECONDS)
@@ -94,7 +95,9 @@ def run(words, text=b"", limits=None, settings=None, source=None, sink=None, fir
     if source is None:
         os.close(files[0])
     out = holds(files[1]) if sink is None else b""
-    return Ran(os.waitstatus_to_exitcode(status), out, holds(files[2]), usage.ru_maxrss * 1024, False)
+    os.close(telling)
+    with os.fdopen(told, "rb") as end:
+        return Ran(os.waitstatus_to_exitcode(status), out, end.read(), usage.ru_maxrss * 1024, False)
 
 
 def run_refusing(call, at, words, text=b"", on=False, error=errno.EIO, step=0, limits=None):
