@@ -9,7 +9,7 @@ writes    short writes; each write failing in turn, and each byte that is too mu
 cuts      two sessions cut after each number of bytes
 bytes     each byte of them replaced by each of the 256
 limits    statements at and one past each limit of the language
-depths    200 brackets and 1,000 operators, on the main stack and on a thread's, of 8 MB and of 4 MB
+depths    200 brackets and 1,000 operators, on the main stack and on a thread's, of 8 MB, 4 MB, or without limit
 edges     names, numbers and days at their edges
 unknown   65,536 commands of each kind on names that nothing has
 words     words that are no command form

@@ -11,7 +11,8 @@ from running import is_so, kept_text, run, told_wrong
 TAKEN = "report taken(n: Int): Int = fold x = n with (s, v, r, t) in x;;\n"
 HELD = "report held(n: Bool): Bool = fold x = n with (s, v, r, t) in x;;\n"
 BOOK_OF_ALL = HEAD + TAKEN + HELD + ANY
-STACKS = (2**23, 2**22)
+# A stack of the usual size, of half of it, and of no limit, where those of threads have 2 MB.
+STACKS = (2**23, 2**22, resource.RLIM_INFINITY)
 
 
 def case(about, words, text, status, out, limits=None):
@@ -44,7 +45,8 @@ def declarations():
     yield case("65 clerks", "run", 65 * "clerk;;", 1, "refused in statement 65: TooMany\n")
     yield case("a journal without journal", "replay", "", 1, "refused in statement 1: Misplaced\n")
     for number in (1, 64):
-        yield case(f"clerk {number}", "replay", f"journal;; {number}: end c;;", 0, f"1 {number}: end c => no contract c\n")
+        line = f"1 {number}: end c => no contract c\n"
+        yield case(f"clerk {number}", "replay", f"journal;; {number}: end c;;", 0, line)
     for number in (0, 65, 2**32 + 1, 2**63 - 1):
         yield case(f"clerk {number}", "replay", f"journal;; {number}: end c;;", 1, "refused in statement 2: TooMany\n")
 
@@ -72,13 +74,14 @@ def numbers_of_commands():
 def numbers_of_bytes():
     """16,777,216 bytes of one kind or another, and one more."""
     refused = "refused in statement %d: %s\n"
-    whole = {"blanks": (b" ", 0, ""), "line feeds": (b"\n", 0, ""), "one comment": (b"#", 0, ""),
-             "comments of any bytes": (b"#\xff\0\n", 0, ""), "brackets": (b"(", 1, refused % (1, "TooDeep")),
-             "closing brackets": (b")", 1, refused % (1, "NoSentence")), "names": (b"a ", 1, refused % (1, "NoSentence")),
-             "a long name": (b"a", 1, "refused at byte 0: LongName\n"), "clerks": (b"clerk;;", 1, refused % (65, "TooMany")),
-             "a long number": (b"7", 1, "refused at byte 0: LongNumber\n"), "ends": (b";;", 1, refused % (1, "NoSentence")),
-             "operators": (b"+", 1, refused % (1, "TooDeep")), "bytes past ASCII": (b"\xf0", 1, "refused at byte 0: BadByte\n"),
-             "numbers": (b"7 ", 1, refused % (1, "NoSentence")), "days": (b"@2006-01-01", 1, refused % (1, "NoSentence"))}
+    no_sentence, too_deep, byte = refused % (1, "NoSentence"), refused % (1, "TooDeep"), "refused at byte 0: %s\n"
+    whole = {
+        "blanks": (b" ", 0, ""), "line feeds": (b"\n", 0, ""), "one comment": (b"#", 0, ""),
+        "comments of any bytes": (b"#\xff\0\n", 0, ""), "brackets": (b"(", 1, too_deep),
+        "closing brackets": (b")", 1, no_sentence), "names": (b"a ", 1, no_sentence), "numbers": (b"7 ", 1, no_sentence),
+        "ends": (b";;", 1, no_sentence), "operators": (b"+", 1, too_deep), "a long name": (b"a", 1, byte % "LongName"),
+        "a long number": (b"7", 1, byte % "LongNumber"), "bytes past ASCII": (b"\xf0", 1, byte % "BadByte"),
+        "clerks": (b"clerk;;", 1, ""), "days": (b"@2006-01-01", 1, "")}
     for about, (piece, status, out) in whole.items():
         text = (piece * (MOST_BYTES // len(piece) + 1))[:MOST_BYTES]
         if about not in ("clerks", "days"):
@@ -120,7 +123,8 @@ def numbers_of_operators():
             command = f"tally taken(1{count * f' {sign} 1'})"
             yield one_step(f"{count} {sign}", command, "TooDeep" if deep else f"value {value(count)}")
         for word in ("and", "or"):
-            yield one_step(f"{count} {word}", f"tally held(true{count * f' {word} true'})", "TooDeep" if deep else "value true")
+            command = f"tally held(true{count * f' {word} true'})"
+            yield one_step(f"{count} {word}", command, "TooDeep" if deep else "value true")
         yield one_step(f"{count} not", f"tally held({count * 'not '}true)", "TooDeep" if deep else "value true")
         chain = f"{count * 'if true then 1 else '}2{count * ' end'}"
         yield one_step(f"{count} if", f"tally taken({chain})", "TooDeep" if deep else "value 1")
@@ -141,7 +145,8 @@ def widths():
             f"transmit(a, b, r, t | {first if at == 1 else ''}amount(r) = {at}). Success" for at in range(1, 144))
     yield one_step("a width of 1000", choice(""), "registered 1")
     yield one_step("a width of 1001", choice("not "), "too large")
-    yield one_step("a transmit of the width 1000", f"register c = transmit(a, b, r, t | {997 * 'not '}true). Success", "registered 1")
+    transmit = f"register c = transmit(a, b, r, t | {997 * 'not '}true). Success"
+    yield one_step("a transmit of the width 1000", transmit, "registered 1")
 
 
 def limits():
@@ -174,7 +179,8 @@ def argument(text, value, report="taken"):
 
 
 ONE = "transmit(a, b, r, t | true). "
-DONE, OWED, NOT_OWED = ("recorded 1, may end yes", "ended now"), ("recorded 1, may end no", "not performed"), ("unmatched", "ended now")
+OWED = ("recorded 1, may end no", "not performed")
+NOT_OWED = ("unmatched", "ended now")
 DEEP = {
     "negated truths": predicate(996 * "not " + "true"),
     "negated truths in brackets": predicate(nested(199, "not (", 797 * "not " + "true", ")")),

@@ -5,10 +5,12 @@ import pathlib
 import resource
 
 import clerks
-from running import MEMORY, UNWRITTEN, is_so, run, run_refusing, shared, told_wrong
+from measuring import ANY, COMMANDS, HEAD
+from running import MEMORY, is_so, run, run_refusing, shared, told_wrong
 
 EXAMPLES = pathlib.Path(__file__).resolve().parent.parent / "examples"
 PAGE = 4_096
+EVENTS = 2_000
 
 # A sale that is delivered, shown and paid.
 BOOK = b"""agents ann, bob;; kinds Oil, USD;;
@@ -68,7 +70,8 @@ def is_front(ran, name):
     """Whether the run of the session ended with the whole result, or with want of memory and a front of its lines."""
     _, _, whole = SESSIONS[name]
     if whole is None:
-        return ran.status in (0, 3) and ran.err == (MEMORY if ran.status else b"") and is_legal(ran.out, ran.status == 0)
+        told = MEMORY if ran.status else b""
+        return ran.status in (0, 3) and ran.err == told and is_legal(ran.out, ran.status == 0)
     if ran.status == 0:
         return is_so(ran, 0, whole)
     lines = whole.splitlines(keepends=True) if name != "demo 1" else []
@@ -103,10 +106,28 @@ def limited_space(name, steps, offset, stride):
         yield None if is_front(ran, name) else told_wrong(f"{name}, {least + more} bytes of address space", ran)
 
 
+def more_than_memory(space):
+    """Tallies whose rows together take more than this space: the lines that are written are a front of the history."""
+    tallies = COMMANDS - EVENTS - 1
+    events = [f"transmit c ann bob {amount} Oil @2006-01-01" for amount in range(1, EVENTS + 1)]
+    commands = ["register c = any()", *events] + tallies * ["tally each()"]
+    book = HEAD + ANY + "report each(): Int = fold x = 0 with (s, v, r, t) in x + amount(r) by amount(r);;\n"
+    text = f"{book}clerk;;\n" + "".join(f"{command};;\n" for command in commands)
+    ran = run("run", text.encode(), limits={resource.RLIMIT_AS: space})
+    rows = ", ".join(f"{amount}: {amount}" for amount in range(1, EVENTS + 1))
+    replies = ["registered 1", *(f"recorded {at}, may end yes" for at in range(1, EVENTS + 1))]
+    replies += tallies * [f"rows {{{rows}}}"]
+    count = ran.out.count(b"\n")
+    lines = (f"{at} 1: {command} => {reply}\n" for at, command, reply in zip(range(1, count + 1), commands, replies))
+    right = is_so(ran, 3, "".join(lines).encode()) and ran.peak <= space
+    yield None if right else told_wrong(f"tallies in {space} bytes", ran)
+
+
 def growths():
     """Refused growths; address spaces by pages, and where threads take theirs by 64 KB and then by 1 MB."""
     pages = range(0, 2**20, PAGE)
     spaces = [*pages, *range(2**20, 48 * 2**20, 2**16), *range(48 * 2**20, 600 * 2**20, 2**20)]
     jobs = [(refused_growths, name, on) for name in SESSIONS for on in (False, True)] if shared["library"] else []
     jobs += [(limited_space, name, pages, 0, 1) for name in ("a sale", "an audit")]
-    return jobs + [(limited_space, name, spaces, at, 8) for name in ("four clerks", "demo 1") for at in range(8)]
+    return jobs + [(limited_space, name, spaces, at, 8) for name in ("four clerks", "demo 1") for at in range(8)] + [
+        (more_than_memory, space * 2**20) for space in (32, 64, 128, 256)]

@@ -7,7 +7,6 @@ import resource
 import signal
 import threading
 
-import clerks
 from hostile_memory import AUDIT, AUDITED, DEMO, EXAMPLES, PAGE, SALE, SESSIONS, SOLD
 from measuring import COMMANDS
 from running import held, holds, is_so, run, run_refusing, shared, told_wrong
@@ -192,7 +191,8 @@ def writes():
 
 NO_FORMS = [
     "", "run run", "run check", "Run", "RUN", "ru", "runs", "check 1", "replay x", "demo", "demo 0", "demo 00",
-    "demo 1001", "demo 01", "demo +1", "demo -1", "demo 1.0", "demo 1e2", "demo 0x1", "demo one", "demo 1 1", "demo \u0661",
+    "demo 1001", "demo 01", "demo +1", "demo -1", "demo 1.0", "demo 1e2", "demo 0x1", "demo one", "demo 1 1",
+    "demo \u0661",
     "demo 18446744073709551617", "demo 4294967297", "-h", "--help", "--version", "-V", "-", "--", "-- run", "run --",
     "run -", "--run", "help", "explain", "explain c", "keep f", "export", "run\0".rstrip("\0") + "\u00a0", "@file",
     "demo " + 4_000 * "1", 100_000 * "a", " ".join(10_000 * ["run"]), " ", "run ", " run", "demo  1"]

@@ -15,6 +15,9 @@ TOKEN = re.compile(
     rb"|(?P<sign>;;|\|\||<=|<>|>=|[;|<>=+\-*/%()\[\],:.])")
 OPERATORS = frozenset("+ - * / % = <> < <= > >= . || ; and or not if".split())
 BOOK = ("agents", "kinds", "template", "report")
+# What may stand in a session of each form up to the first `clerk` or `journal`, and after it.
+FIRST = {"check": BOOK, "run": (*BOOK, "clerk"), "replay": (*BOOK, "journal")}
+LATER = {"check": (), "run": ("clerk", "command"), "replay": ("numbered",)}
 LINE = re.compile(
     r"refused in statement (\d+): (?:(TooDeep|NoSentence|Misplaced|TooMany)|(Twice|Unknown|Unguarded) (\w+)"
     r"|WrongCount (\w+): wanted \d+, found \d+|WrongType: wanted (?:Int|Bool|Agent|Kind|Resource|Day), found \w+)\n")
@@ -141,9 +144,7 @@ def place_fault(all_of, form):
     for number, (row, _) in enumerate(all_of, 1):
         first = row[0][0]
         kind = first if first in (*BOOK, "clerk", "journal") else "numbered" if first == "NUMBER" else "command"
-        fits = {"book": kind in BOOK, "run": kind in (BOOK if not begun else ()) or kind == "clerk" or (begun and kind == "command"),
-                "replay": kind in (*BOOK, "journal") if not begun else kind == "numbered"}[form]
-        if not fits:
+        if kind not in (LATER if begun else FIRST)[form]:
             return number, "Misplaced"
         begun = begun or kind in ("clerk", "journal")
         counted = "command" if kind == "numbered" else kind
