@@ -78,8 +78,9 @@ def numbers_of_bytes():
     whole = {
         "blanks": (b" ", 0, ""), "line feeds": (b"\n", 0, ""), "one comment": (b"#", 0, ""),
         "comments of any bytes": (b"#\xff\0\n", 0, ""), "brackets": (b"(", 1, too_deep),
-        "closing brackets": (b")", 1, no_sentence), "names": (b"a ", 1, no_sentence), "numbers": (b"7 ", 1, no_sentence),
-        "ends": (b";;", 1, no_sentence), "operators": (b"+", 1, too_deep), "a long name": (b"a", 1, byte % "LongName"),
+        "closing brackets": (b")", 1, no_sentence), "names": (b"a ", 1, no_sentence),
+        "numbers": (b"7 ", 1, no_sentence), "ends": (b";;", 1, no_sentence), "operators": (b"+", 1, too_deep),
+        "a long name": (b"a", 1, byte % "LongName"),
         "a long number": (b"7", 1, byte % "LongNumber"), "bytes past ASCII": (b"\xf0", 1, byte % "BadByte"),
         "clerks": (b"clerk;;", 1, ""), "days": (b"@2006-01-01", 1, "")}
     for about, (piece, status, out) in whole.items():
@@ -151,8 +152,8 @@ def widths():
 
 def limits():
     """At and past the limits."""
-    return [(declarations,), (numbers_of_commands,), (numbers_of_bytes,), (numbers_of_brackets,), (numbers_of_operators,),
-            (widths,)]
+    return [(declarations,), (numbers_of_commands,), (numbers_of_bytes,), (numbers_of_brackets,),
+            (numbers_of_operators,), (widths,)]
 
 
 def nested(count, before, middle, after):
@@ -226,21 +227,31 @@ def deep(about, sections, stack):
         f"{about}, {sections} clerks, a stack of {stack} bytes, {kept_text(f'{about} {sections}', text.encode())}", ran)
 
 
+def books(before, after):
+    """256 templates, each of which applies the next one among this, 1,000 operators deep."""
+    rows = [f"template t{at}() = {before.replace('t()', f't{at + 1}()')}{after};;\n" for at in range(1, 256)]
+    return "".join(rows), f"{before.replace('t()', 't1()')}{after}"
+
+
+# How templates apply the next one, what stands after that, and whether a contract of the first one is too large.
+BOOKS = {
+    "to the left": ("t()", 999 * " + Success", True), "in a row": ("t()", 999 * " ; Success", True),
+    "at once": ("t()", 999 * " || Success", True), "in brackets": (199 * "Success + (" + "t()", 199 * ")", True),
+    "in a chain": ("t()", "", False), "twice in a choice": ("t() + t()", "", True),
+    "twice at once": ("t() || t()", "", True), "twice in a row": ("t() ; t()", "", False), "twice, the first of them or none": ("(t() + Success) ; t()", "", True)}
+
+
 def deep_books(stack):
-    """256 templates of which each begins with the next, 1,000 operators deep; and reports of 1,000 operators."""
+    """256 templates deep, which unfold to up to 2 to the 255 parts; and a report of 1,000 operators."""
     limits = {resource.RLIMIT_STACK: stack}
-    for about, before, after in (("to the left", "", 999 * " + Success"), ("in a row", "", 999 * " ; Success"),
-                                 ("at once", "", 999 * " || Success"), ("in brackets", 199 * "Success + (", 199 * ")")):
-        rows = [f"template t{at}() = {before}t{at + 1}(){after};;\n" for at in range(1, 256)]
-        book = "".join(rows) + "template t256() = Success;;\n"
+    for about, (before, after, is_large) in BOOKS.items():
+        rows, last = books(before, after)
+        book = f"{rows}template t256() = transmit(a, b, r, t | true). Success;;\n"
+        line = f"1 1: register x = t1() => {'too large' if is_large else 'registered 1'}\n"
         yield case(f"templates {about}", "check", book, 0, "book: templates 256, reports 0\n", limits)
-        text = book + "clerk;; register x = t1();;"
-        yield case(f"a contract of templates {about}", "run", text, 0, "1 1: register x = t1() => too large\n", limits)
-        loop = book.replace("t256() = Success", f"t256() = {before}t1(){after}")
-        yield case(f"a cycle of templates {about}", "check", loop, 1, "refused in statement 1: Unguarded t1\n", limits)
-    rows = "".join(f"template t{at}() = t{at + 1}();;\n" for at in range(1, 256)) + "template t256() = Success;;\n"
-    yield case("templates in a chain", "run", rows + "clerk;; register x = t1();;", 0,
-               "1 1: register x = t1() => registered 1\n", limits)
+        yield case(f"a contract of templates {about}", "run", f"{book}clerk;; register x = t1();;", 0, line, limits)
+        cycle = f"{rows}template t256() = {last};;\n"
+        yield case(f"a cycle of templates {about}", "check", cycle, 1, "refused in statement 1: Unguarded t1\n", limits)
     report = f"report q(): Bool = fold x = {996 * 'not '}true with (s, v, r, t) in not x by not true;;"
     yield case("a report", "run", report + "clerk;; tally q();;", 0, "1 1: tally q() => rows {}\n", limits)
 
@@ -284,40 +295,49 @@ def names_at_edges():
                "refused in statement 1: Twice a99999\n")
 
 
+MOST = 2**63 - 1
+# Expressions and their values, None for undefined.
+NUMBERS = {
+    f"{MOST}": MOST, f"-{MOST}": -MOST, f"-({MOST})": -MOST, f"{MOST} + 1": None, f"-{MOST} - 1": None,
+    f"{MOST} - -1": None, f"{MOST} * -1": -MOST, f"{MOST} * 2": None, f"-{MOST} / -1": MOST, f"{MOST} / {MOST}": 1,
+    f"{MOST} % -1": 0, f"0 / -{MOST}": 0, "1 / 0": None, "1 % 0": None, "-7 / 2": -3, "-7 % 2": -1, "7 % -2": 1,
+    "4294967296 * 4294967296": None, "3037000500 * 3037000500": None, "3037000499 * 3037000499": 3037000499**2,
+    "@9999-12-31 - @0001-01-01": 3652058, "@0001-01-01 - @9999-12-31": -3652058,
+    f"if {MOST} + 1 = 0 then 1 else 2 end": None, f"if true then 3 else {MOST} + 1 end": 3}
+TRUTHS = {
+    "undefined Bool or true": None, "true or undefined Bool": "true", "false and undefined Bool": "false",
+    "undefined Bool and false": None, "undefined Int = undefined Int": None, "not undefined Bool": None,
+    "@9999-12-31 + 1 > @0001-01-01": None, "@0001-01-01 - 1 < @0001-01-01": None,
+    "@2000-02-28 + 1 = @2000-02-29": "true", "@1900-02-28 + 1 = @1900-03-01": "true",
+    f"@2006-01-01 + {MOST} = @2006-01-01": None, f"amount(res({MOST}, Oil)) = {MOST}": "true",
+    "res(1, Oil) = [1 Oil]": "true", "[0 Oil] = [-0 Oil]": "true"}
+
+
 def numbers_at_edges():
     """The greatest number, one more, and what expressions make of it."""
-    most = 2**63 - 1
-    for text, reply in ((f"{most}", most), (f"-{most}", -most), (f"{most} + 1", None), (f"-{most} - 1", None),
-                        (f"{most} - -1", None), (f"{most} * -1", -most), (f"{most} * 2", None), (f"-{most} / -1", most),
-                        (f"{most} % -1", 0), ("1 / 0", None), ("1 % 0", None), ("-7 / 2", -3), ("-7 % 2", -1), ("7 % -2", 1),
-                        (f"-({most})", -most), ("4294967296 * 4294967296", None), ("3037000500 * 3037000500", None),
-                        ("3037000499 * 3037000499", 3037000499**2), (f"{most} / {most}", 1), (f"0 / -{most}", 0),
-                        ("@9999-12-31 - @0001-01-01", 3652058), ("@0001-01-01 - @9999-12-31", -3652058),
-                        (f"if {most} + 1 = 0 then 1 else 2 end", None), (f"if true then 3 else {most} + 1 end", 3)):
-        yield one_step(f"the number {text}", f"tally taken({text})", f"value {'undefined' if reply is None else reply}")
-    for text, reply in (("undefined Bool or true", "undefined"), ("true or undefined Bool", "true"), ("false and undefined Bool", "false"),
-                        ("undefined Bool and false", "undefined"), ("undefined Int = undefined Int", "undefined"),
-                        ("not undefined Bool", "undefined"), ("@9999-12-31 + 1 > @0001-01-01", "undefined"),
-                        ("@0001-01-01 - 1 < @0001-01-01", "undefined"), ("@2000-02-28 + 1 = @2000-02-29", "true"),
-                        ("@1900-02-28 + 1 = @1900-03-01", "true"), (f"@2006-01-01 + {most} = @2006-01-01", "undefined"),
-                        (f"amount(res({most}, Oil)) = {most}", "true"), ("res(1, Oil) = [1 Oil]", "true"),
-                        ("[0 Oil] = [-0 Oil]", "true")):
-        printed = text.replace("[-0", "[0")
-        yield case(f"the truth {text}", "run", f"{HEAD}{HELD}clerk;; tally held({text});;", 0,
-                   f"1 1: tally held({printed}) => value {reply}\n")
+    for report, values in (("taken", NUMBERS), ("held", TRUTHS)):
+        for text, value in values.items():
+            reply = "undefined" if value is None else value
+            line = f"1 1: tally {report}({text.replace('[-0', '[0')}) => value {reply}\n"
+            yield case(text, "run", f"{BOOK_OF_ALL}clerk;; tally {report}({text});;", 0, line)
     for digits in (str(2**63), str(2**64), 64 * "9", 100_000 * "9"):
         yield case("a long number", "run", f"clerk;; read {digits};;", 1, "refused at byte 13: LongNumber\n")
     yield case("zeros before", "run", f"clerk;; read {'0' * 100_000}7;;", 0, "1 1: read 7 => no watch 7\n")
-    yield case("the greatest", "run", f"clerk;; read {most};;", 0, f"1 1: read {most} => no watch {most}\n")
+    yield case("the greatest", "run", f"clerk;; read {MOST};;", 0, f"1 1: read {MOST} => no watch {MOST}\n")
+
+
+DAYS = ("0001-01-01", "9999-12-31", "2000-02-29", "2400-02-29", "2004-02-29", "1600-02-29", "1582-10-10")
+NO_DAYS = (
+    "0000-01-01", "0000-12-31", "2006-02-29", "1900-02-29", "2100-02-29", "2006-00-01", "2006-13-01", "2006-01-00",
+    "2006-01-32", "2006-04-31", "2006-1-01", "06-01-01", "2006/01/01", "2006-01-0", "", "-001-01-01", "+006-01-01",
+    "20060101", " 2006-01-01", "2006-01-\u0661")
 
 
 def days_at_edges():
     """Days that the calendar has, and those that it has not."""
-    for day in ("0001-01-01", "9999-12-31", "2000-02-29", "2400-02-29", "2004-02-29", "1600-02-29", "1582-10-10"):
+    for day in DAYS:
         yield one_step(f"the day {day}", f"transmit c ann bob 1 Oil @{day}", "no contract c")
-    for day in ("0000-01-01", "0000-12-31", "2006-02-29", "1900-02-29", "2100-02-29", "2006-00-01", "2006-13-01",
-                "2006-01-00", "2006-01-32", "2006-04-31", "2006-1-01", "06-01-01", "2006/01/01", "2006-01-0", "", "-001-01-01",
-                "+006-01-01", "20060101", " 2006-01-01", "2006-01-\u0661"):
+    for day in NO_DAYS:
         yield case(f"the day {day}", "run", f"agents ann;; @{day}", 1, "refused at byte 13: BadByte\n")
     yield case("a longer day", "run", "agents ann;; @2006-01-015", 1, "refused in statement 2: NoSentence\n")
     text = f"{HEAD}{ANY}clerk;; register c = any();; "
