@@ -238,7 +238,8 @@ BOOKS = {
     "to the left": ("t()", 999 * " + Success", True), "in a row": ("t()", 999 * " ; Success", True),
     "at once": ("t()", 999 * " || Success", True), "in brackets": (199 * "Success + (" + "t()", 199 * ")", True),
     "in a chain": ("t()", "", False), "twice in a choice": ("t() + t()", "", True),
-    "twice at once": ("t() || t()", "", True), "twice in a row": ("t() ; t()", "", False), "twice, the first of them or none": ("(t() + Success) ; t()", "", True)}
+    "twice at once": ("t() || t()", "", True), "twice in a row": ("t() ; t()", "", False),
+    "twice, the first of them or none": ("(t() + Success) ; t()", "", True)}
 
 
 def deep_books(stack):
