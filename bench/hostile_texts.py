@@ -80,12 +80,20 @@ def is_checked_so(ran, text, all_of, is_early):
     return statement > count or is_so(checked, 1, ran.out)
 
 
-def ends_so(word, text, nth):
-    """How the run of the text ended, and whether it ended as it must."""
+def words_of(text):
+    """The tokens of the text without their places."""
+    return [(what, word) for what, word, _ in language.tokens(text)]
+
+
+def ends_so(name, text, nth):
+    """How the run of the changed text ended, and whether it ended as it must: as before where its tokens are the same."""
+    word, first, whole = TEXTS[name]
     ran = run(word, text)
     fault, all_of = language.early_fault(text, word)
     if fault:
         right = is_so(ran, 1, fault.encode())
+    elif words_of(text) == words_of(first):
+        right = is_so(ran, 0, whole)
     elif ran.status == 1:
         right = is_so(ran, 1, ran.out) and language.is_late_fault(ran.out.decode(), text, all_of)
     else:
@@ -97,10 +105,10 @@ def ends_so(word, text, nth):
 
 def replaced_byte(name, at):
     """The text with each of the 256 values for this byte."""
-    word, text, _ = TEXTS[name]
+    text = TEXTS[name][1]
     for value in range(256):
         changed = text[:at] + bytes([value]) + text[at + 1:]
-        ran, right = ends_so(word, changed, value + at)
+        ran, right = ends_so(name, changed, value + at)
         yield None if right else told_wrong(kept_text(f"{name} byte {at} {value}", changed), ran)
 
 
