@@ -74,14 +74,23 @@ def printed(program, word, text, processors, rng=None):
     return child.communicate(text.encode() if text else None)[0].decode()
 
 
-def is_right(history, scripts, program, processors):
-    """Whether each clerk's commands are his script, and the history's calls are replayed by the same lines."""
+def own_commands(history):
+    """The commands of each clerk in the history, in order."""
     own = {}
     for call, clerk in CALL.findall(history):
         own.setdefault(int(clerk), []).append(call.partition(": ")[2])
-    wanted = dict(enumerate(scripts, 1))
+    return own
+
+
+def is_replayed(history, program, processors):
+    """Whether the history's lines are those that `poets replay` prints of its calls."""
     calls = "".join(f"{call};;\n" for call, _ in CALL.findall(history))
-    return own == wanted and printed(program, "replay", f"{BOOK}journal;;\n{calls}", processors) == history
+    return printed(program, "replay", f"{BOOK}journal;;\n{calls}", processors) == history
+
+
+def is_right(history, scripts, program, processors):
+    """Whether each clerk's commands are his script, and the history's calls are replayed by the same lines."""
+    return own_commands(history) == dict(enumerate(scripts, 1)) and is_replayed(history, program, processors)
 
 
 def try_histories(program, rounds):

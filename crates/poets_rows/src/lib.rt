@@ -12,6 +12,8 @@ mod journals;
 #[cfg(test)]
 mod limits;
 #[cfg(test)]
+mod many;
+#[cfg(test)]
 mod names;
 #[cfg(test)]
 mod past;
@@ -21,6 +23,8 @@ mod portfolios;
 mod program;
 #[cfg(test)]
 mod refusals;
+#[cfg(test)]
+mod sale;
 #[cfg(test)]
 mod sessions;
 #[cfg(test)]
@@ -39,3 +43,5 @@ mod texts;
 mod unread;
 #[cfg(test)]
 mod watches;
+#[cfg(test)]
+mod wide;

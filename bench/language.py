@@ -1,0 +1,189 @@
+"""What docs/LANGUAGE.md says of a text, worked out apart from the program: its tokens, its sentences and their places.
+
+The grammar is read from that page. What is not here: names that are declared twice, types, and books that are not
+guarded; of these the line alone is known, and that its statement and its name stand in the text.
+"""
+import datetime
+import functools
+import pathlib
+import re
+
+PAGE = (pathlib.Path(__file__).resolve().parent.parent / "docs/LANGUAGE.md").read_text()
+WORDS = frozenset(re.search(r"The reserved words are `(.*?)`", PAGE).group(1).split())
+TOKEN = re.compile(
+    rb"(?P<blank>(?:[ \t\r\n]+|#[^\n]*)+)|(?P<name>[A-Za-z_][A-Za-z0-9_]*)|(?P<number>[0-9]+)|(?P<day>@\d{4}-\d\d-\d\d)"
+    rb"|(?P<sign>;;|\|\||<=|<>|>=|[;|<>=+\-*/%()\[\],:.])")
+OPERATORS = frozenset("+ - * / % = <> < <= > >= . || ; and or not if".split())
+BOOK = ("agents", "kinds", "template", "report")
+# What may stand in a session of each form up to the first `clerk` or `journal`, and after it.
+FIRST = {"check": BOOK, "run": (*BOOK, "clerk"), "replay": (*BOOK, "journal")}
+LATER = {"check": (), "run": ("clerk", "command"), "replay": ("numbered",)}
+LINE = re.compile(
+    r"refused in statement (\d+): (?:(TooDeep|NoSentence|Misplaced|TooMany)|(Twice|Unknown|Unguarded) (\w+)"
+    r"|WrongCount (\w+): wanted \d+, found \d+|WrongType: wanted (?:Int|Bool|Agent|Kind|Resource|Day), found \w+)\n")
+
+
+class Fault(Exception):
+    """The line that answers the text."""
+
+
+def is_civil(day):
+    """Whether the calendar has the day, which is written with its `@`."""
+    try:
+        datetime.date.fromisoformat(day[1:].decode())
+        return True
+    except ValueError:
+        return False
+
+
+def token(one, at):
+    """The token as the grammar names it, where the text has one."""
+    kind = one.lastgroup if one else "none"
+    if kind == "name" and len(one[0]) > 64:
+        raise Fault(f"refused at byte {at}: LongName\n")
+    if kind == "number" and int(one[0]) > 2**63 - 1:
+        raise Fault(f"refused at byte {at}: LongNumber\n")
+    if kind == "none" or (kind == "day" and not is_civil(one[0])):
+        raise Fault(f"refused at byte {at}: BadByte\n")
+    word = one[0].decode() if kind != "blank" else ""
+    return kind.upper() if kind in ("number", "day") or (kind == "name" and word not in WORDS) else word
+
+
+def tokens(text):
+    """The tokens of the text, each with its place, or the fault of the first byte that begins none."""
+    at, found = 0, []
+    while at < len(text):
+        one = TOKEN.match(text, at)
+        what = token(one, at)
+        if what:
+            found.append((what, one[0], at))
+        at = one.end()
+    return found
+
+
+def statements(found):
+    """The tokens of each statement, and whether it is ended."""
+    all_of, open_one = [], []
+    for one in found:
+        if one[0] == ";;":
+            all_of.append((open_one, True))
+            open_one = []
+        else:
+            open_one.append(one)
+    return all_of + ([(open_one, False)] if open_one else [])
+
+
+def rules():
+    """The grammar of the page: of each rule a tree of alternatives, sequences, repetitions, options and words."""
+    block = re.search(r"\n```\n(session +=.*?)```\n", PAGE, re.DOTALL).group(1)
+    parts = re.split(r"^(\w+) +=", block, flags=re.MULTILINE)[1:]
+    return {name: choice(re.findall(r'"[^"]+"|[\w]+|[{}\[\]()|]', body)) for name, body in zip(parts[::2], parts[1::2])}
+
+
+def choice(words):
+    """The alternatives up to the end or a closing bracket."""
+    all_of, row = [], []
+    while words and words[0] not in ("}", "]", ")"):
+        word = words.pop(0)
+        if word == "|":
+            all_of.append(row)
+            row = []
+        elif word in ("{", "[", "("):
+            row.append((word, choice(words)))
+            words.pop(0)
+        else:
+            row.append(("word", word[1:-1]) if word[0] == '"' else ("rule", word))
+    return [*all_of, row]
+
+
+RULES = rules()
+
+
+@functools.lru_cache(maxsize=100_000)
+def is_sentence(words):
+    """Whether the grammar gives a statement of these tokens."""
+    @functools.lru_cache(maxsize=None)
+    def ends_of_rule(name, at):
+        if name not in RULES:
+            return frozenset([at + 1] if at < len(words) and words[at] == name else [])
+        return ends_of_choice(RULES[name], at)
+
+    def ends_of_choice(rows, at):
+        return frozenset(end for row in rows for end in ends_of_row(row, at))
+
+    def ends_of_row(row, at):
+        ends = {at}
+        for part in row:
+            ends = {after for end in ends for after in ends_of_part(part, end)}
+        return ends
+
+    def ends_of_part(part, at):
+        kind, what = part
+        if kind in ("word", "rule"):
+            known = ends_of_rule if kind == "rule" else lambda word, at: [at + 1] if words[at:at + 1] == (word,) else []
+            return known(what, at)
+        ends = ends_of_choice(what, at)
+        if kind == "{":
+            ends = ends.union(*(ends_of_part(part, end) for end in ends if end > at))
+        return ends if kind == "(" else ends | {at}
+    return len(words) in ends_of_rule("statement", 0)
+
+
+def is_too_deep(words):
+    """Whether more than 200 brackets are open at one place, or more than 1,000 operators stand in the statement."""
+    depth = most = 0
+    for word in words:
+        depth = depth + 1 if word == "(" else max(depth - 1, 0) if word == ")" else depth
+        most = max(most, depth)
+    return most > 200 or sum(word in OPERATORS for word in words) > 1_000
+
+
+def place_fault(all_of, form):
+    """The first statement that may not stand in its place or is one too many, and its fault."""
+    counts, begun = {"clerk": 0, "template": 0, "report": 0, "command": 0}, False
+    for number, (row, _) in enumerate(all_of, 1):
+        first = row[0][0]
+        kind = first if first in (*BOOK, "clerk", "journal") else "numbered" if first == "NUMBER" else "command"
+        if kind not in (LATER if begun else FIRST)[form]:
+            return number, "Misplaced"
+        begun = begun or kind in ("clerk", "journal")
+        counted = "command" if kind == "numbered" else kind
+        counts[counted] = counts.get(counted, 0) + 1
+        most = {"clerk": 64, "template": 256, "report": 256, "command": 65_536}.get(counted, len(all_of))
+        if counts[counted] > most or (kind == "numbered" and not 1 <= int(row[0][1]) <= 64):
+            return number, "TooMany"
+    return (len(all_of) + 1, "Misplaced") if form == "replay" and not begun else None
+
+
+def early_fault(text, form):
+    """The line of the text's first fault of tokens, sentences or places, if it has one; and its statements."""
+    try:
+        all_of = statements(tokens(text))
+    except Fault as fault:
+        return str(fault), []
+    for number, (row, is_ended) in enumerate(all_of, 1):
+        words = tuple(what for what, _, _ in row)
+        if is_too_deep(words):
+            return f"refused in statement {number}: TooDeep\n", all_of
+        if not is_ended or not is_sentence(words):
+            return f"refused in statement {number}: NoSentence\n", all_of
+    found = place_fault(all_of, form)
+    return (f"refused in statement {found[0]}: {found[1]}\n" if found else None), all_of
+
+
+def is_late_fault(line, text, all_of):
+    """Whether the line has a form of the page that may come where tokens, sentences and places have no fault, and its
+    statement and its name stand in the text."""
+    found = LINE.fullmatch(line)
+    if not found or found[2] or not 1 <= int(found[1]) <= len(all_of):
+        return False
+    name = found[4] or found[5]
+    return name is None or name.encode() in text
+
+
+def book_of(all_of, text):
+    """The text of the session's book, and how many of its statements are the book's."""
+    for number, (row, _) in enumerate(all_of):
+        if row[0][0] not in BOOK:
+            return text[:row[0][2]], number
+    return text, len(all_of)
