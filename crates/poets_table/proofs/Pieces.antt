@@ -5,7 +5,7 @@ use Rattle.std.proofs.lemmas.Bool.Decides.{nat_tests}
 use Rattle.std.proofs.lemmas.List.{append-nil, append_assoc, length-append}
 use Rattle.std.proofs.lemmas.List.Elements.{All-head, All-tail, All-push}
 use Rattle.std.proofs.lemmas.List.Concat.{flat_map-append}
-use Rattle.std.proofs.Math.Seq.{take-append_seam, drop-append_seam, drop-append-add}
+use Rattle.std.proofs.Math.Seq.{take-add, take-append_seam, drop-append_seam, drop-append-add}
 use Rattle.poets_value.specs.declared.event.Event.{Event}
 use Rattle.std.proofs.lemmas.List.{length-map}
 use Rattle.std.specs.declared.alloc.Global.{Global}
@@ -169,3 +169,12 @@ last_shared ps last p o sealed none e h =
     let here = ap (λ n. slice_get (pieces_of ps) (n - 1)) (length-pieces_of ps) ∙ pieces_of-get ps (length ps - 1) p (sym e) in
     h ∙ last_in_sealed (pieces_of ps) (events_in p) sealed here
     ∙ ap (λ xs. slice_get (joined (pieces_of ps) xs) (length (joined (pieces_of ps) xs) - 1)) (sym (none_last last none))
+
+-- the pieces up to a place and that at the place
+pub pieces_more : (i : ℕ) (xs : List Event) → take (i * piece_length) xs ++ piece_at i xs ≡ take ((i + 1) * piece_length) xs
+pieces_more i xs =
+    sym (take-add (i * piece_length) piece_length xs) ∙ ap (λ n. take n xs) (let k : i * piece_length + piece_length ≡ (i + 1) * piece_length = omega arith in k)
+
+-- all pieces are the list
+pub pieces_all : (i : ℕ) (xs : List Event) → length xs ≤ i * piece_length → take (i * piece_length) xs ≡ xs
+pieces_all i xs h = take_short (i * piece_length) xs h
