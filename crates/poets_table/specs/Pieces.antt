@@ -13,7 +13,7 @@ piece_length = 256
 
 -- so many sealed pieces can be counted in a word
 abbrev pub most_pieces : ℕ
-most_pieces = 72_057_594_037_927_934
+most_pieces = 18_014_398_509_481_983
 
 -- the events of shared pieces
 abbrev pub pieces_of : List (Arc (Listed Event) Global) → List (List Event)

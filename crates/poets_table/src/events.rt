@@ -1,5 +1,5 @@
 //! Lists of events in pieces, of which all but the last are shared.
-ghost use Rattle.std.specs.Prelude.{◌≡◌, ◌+◌, ◌*◌, ◌-◌, ◌<◌, ◌≤◌, ◌↔◌, ◌++◌, ◌∷◌, [], length, IfOk, OnOk, OnErr, IfSome, IsNone, slice_get};
+ghost use Rattle.std.specs.Prelude.{◌≡◌, ◌+◌, ◌*◌, ◌-◌, ◌<◌, ◌≤◌, ◌^◌, ◌↔◌, ◌++◌, ◌∷◌, [], length, IfOk, OnOk, OnErr, IfSome, IsNone, slice_get};
 ghost use Rattle.std.specs.Prelude.{map};
 ghost use Rattle.std.specs.Arc.{arc_value};
 ghost use Rattle.poets_table.specs.Pieces.{joined, most_pieces, piece_at, piece_length as piece_length_lem, pieces_of, AreSealed};
@@ -14,7 +14,7 @@ use std::sync::Arc;
 pub const PIECE_LENGTH: usize = 256;
 
 // More pieces than this have no room in any memory.
-const MOST_PIECES: usize = usize::MAX / PIECE_LENGTH - 1;
+const MOST_PIECES: usize = usize::MAX / PIECE_LENGTH / 4;
 
 /// A list of events. It is kept in pieces of `PIECE_LENGTH` events, which are sealed and may be shared, and a last
 /// piece of at most so many.
@@ -53,7 +53,8 @@ impl Events {
 
     /// The number of events.
     pub fn len(&self) -> usize
-        ensures { result ≡ length self.now.items }
+        ensures count { result ≡ length self.now.items }
+        ensures small { result < 2 ^ 63 }
     {
         self.sealed.len() * PIECE_LENGTH + self.last.len()
     }

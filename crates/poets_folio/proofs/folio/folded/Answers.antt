@@ -19,7 +19,7 @@ loop-place-preserved g c =
 pub returns : goal.returns
 returns g c =
     let times = div_ceil_times c.len.result piece_length (omega arith) in
-    let count = c.len.ensures in
+    let count = c.len.ensures.count in
     let pieces = c.div_ceil-place-end.ensures in
     let over = c.loop-place-test.false in
     let end : length c.args.events.now.items ≤ c.loop-place.place * piece_length = omega (arith, times, count, pieces, over) in
