@@ -1,6 +1,7 @@
 -- Portfolios: what their turn prepares, and what is made of it.
-use Rattle.std.proofs.Common.{◌≡◌, ℕ, List, [], ◌∷◌, Option, Some, None, map, refl, sym, ◌∙◌, ap, subst}
-use Rattle.std.specs.List.{AllZip}
+use Rattle.std.proofs.Common.{◌≡◌, ℕ, ◌+◌, ◌-◌, false, slice_get, option_map, arith, List, [], ◌∷◌, Option, Some, None, map, refl, sym, ◌∙◌, ap, subst}
+use Rattle.std.specs.List.{AllZip, position}
+use Rattle.std.proofs.lemmas.List.Quantifiers.{position-Some}
 use Rattle.poets_value.specs.declared.value.Name.{Name}
 use Rattle.poets_value.specs.declared.value.Value.{Value}
 use Rattle.std.specs.Arc.{arc_value}
@@ -11,7 +12,8 @@ use Rattle.poets_report.specs.Query.{Query, query_of}
 use Rattle.poets_report.specs.Answers.{Finding, IsAnswer}
 use Rattle.poets_report.proofs.Existence.{every_answer}
 use Rattle.poets_report.specs.declared.report.Answer.{Answer}
-use Rattle.poets_table.specs.TableView.{number_named}
+use Rattle.poets_syntax.specs.declared.term.Term.{Term}
+use Rattle.poets_table.specs.TableView.{RowView, number_named}
 use Rattle.poets_folio.specs.declared.folio.Part.{Part}
 use Rattle.poets_folio.specs.Rows.{IsRow}
 use Rattle.poets_call.specs.declared.rules.Rules.{Rules}
@@ -24,7 +26,7 @@ use Rattle.poets_call.specs.Replies.{report_in, total_of, argument_values, AreFo
 use Rattle.poets_engine.specs.Store.{StoreView}
 use Rattle.poets_engine.specs.Parts.{absent_or_later, absent_from, IsPart}
 use Rattle.poets_engine.specs.Rows.{IsLedger, Stands}
-use Rattle.poets_engine.specs.Makes.{Makes, Prepares, MakesBody}
+use Rattle.poets_engine.specs.Makes.{Makes, Prepares, MakesBody, has_changed}
 use Rattle.poets_engine.specs.State.{Fulfils}
 use Rattle.poets_engine.specs.Works.{IsPartIn, HoldsPortfolio, OwesReply}
 use Rattle.poets_engine.specs.declared.kept.FolioWork.{FolioWork}
@@ -32,7 +34,21 @@ use Rattle.poets_engine.specs.declared.kept.Body.{Body}
 use Rattle.poets_engine.specs.declared.kept.Body.TheVariants.{Done, Folio}
 use Rattle.poets_engine.proofs.Histories.{answered}
 use Rattle.poets_engine.proofs.Standing.{frame_by, leaves, stood, absent, taken}
-use Rattle.poets_engine.proofs.Tallying.{values_by}
+use Rattle.poets_engine.proofs.Tallying.{values_by, within}
+use Rattle.poets_engine.proofs.Named.{has_name}
+
+row_at : (x : Name) (rows : List (RowView Term)) (o : Option ℕ) (n : ℕ) → position (has_name x) rows ≡ o → option_map (λ i. i + 1) o ≡ Some n →
+    (r : RowView Term) × (slice_get rows (n - 1) ≡ Some r)
+row_at x rows None n p e = absurd cc
+row_at x [] (Some k) n p e = absurd cc
+row_at x (r ∷ rows) (Some k) n p e =
+    let number : k + 1 ≡ n = cc in
+    let here = within (r ∷ rows) k (position-Some (has_name x) (r ∷ rows) k r p).0 in
+    (here.0, subst (λ i. slice_get (r ∷ rows) i ≡ Some here.0) (let z : k ≡ n - 1 = omega (arith, number) in z) here.1)
+
+-- the row of a number that a name has
+pub row_named : (x : Name) (rows : List (RowView Term)) (n : ℕ) → number_named x rows ≡ Some n → (r : RowView Term) × (slice_get rows (n - 1) ≡ Some r)
+row_named x rows n e = row_at x rows (position (has_name x) rows) n refl e
 
 module _ (rules : Rules) (l : Ledger) (store : StoreView) (h : IsLedger rules l store) where
   absent_here : (x : Name) (o : Option ℕ) (later later' : Option Name) → number_named x store.rows ≡ o → later ≡ later' →
@@ -135,11 +151,10 @@ prepared_makes : (rules : Rules) (request : Request) (store : StoreView) (work :
 prepared_makes rules request store work p =
     let q = query_of (arc_value work.report) in
     let found = rows_exist (declared_of (arc_value work.decls).names) q work.args.items work.parts.items in
-    let response = Response.Folio found.0 (total_of q found.0) in
-    (
+    let response = Response.Folio found.0 (total_of q found.0) in (
       response,
       subst (λ c. Makes rules c store store response) (sym p.asked) (leaves rules (Request.Portfolio p.report p.args p.over) response store (λ l. refl)
-      (λ l h right. gives (book_of rules) (reports_of rules) l p.report p.args p.over work (p.holds l h) (frame_by rules right) refl refl found.0 found.1)),
+          (λ l h right. gives (book_of rules) (reports_of rules) l p.report p.args p.over work (p.holds l h) (frame_by rules right) refl refl found.0 found.1)),
     )
 
 module _ (rules : Rules) (request : Request) (old new : StoreView) where
@@ -149,6 +164,11 @@ module _ (rules : Rules) (request : Request) (old new : StoreView) where
   body_makes (Folio work) m =
       let made = prepared_makes rules request old work m.1 in
       (made.0, subst (λ s. Makes rules request old s made.0) (sym m.0) made.1)
+
+  -- and without it nothing changed
+  pub body_refused : (body : Body) → MakesBody rules request old new body → has_changed body ≡ false → new ≡ old
+  body_refused (Done reply) m refusal = m.refused refusal
+  body_refused (Folio work) m refusal = m.0
 
   -- and the body owes it
   pub body_owes : (calls : List Call) (body : Body) → Stands rules calls old → MakesBody rules request old new body →

@@ -16,7 +16,6 @@ use crate::steps::step;
 use crate::store::Store;
 use poets_call::{Command, Reply, Rules};
 use poets_expr::Asks;
-use poets_folio::portfolio;
 use poets_value::{List, Memory};
 use std::alloc::Global;
 use std::marker::Model;
@@ -128,14 +127,7 @@ impl Engine {
     {
         match kept.body {
             Body::Done(reply) => Ok(reply),
-            Body::Folio(work) => Ok(Reply::Folio(portfolio(
-                rt,
-                alloc,
-                &work.decls,
-                &work.report,
-                &work.args,
-                &work.parts,
-            )?)),
+            Body::Folio(work) => Ok(Reply::Folio(work.finish(rt, alloc)?)),
         }
     }
 }
