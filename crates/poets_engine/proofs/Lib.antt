@@ -11,7 +11,8 @@ pub mod Transmitting
 pub mod Ending
 pub mod Showing
 pub mod Tallying
-pub mod Folios
 pub mod Histories
+pub mod Folios
+pub mod Copied
 pub mod ShownResiduals
 pub mod Crossing

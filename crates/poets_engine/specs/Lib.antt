@@ -1,4 +1,6 @@
 pub mod Store
+pub mod Copies
+pub mod Works
 pub mod State
 pub mod Rows
 pub mod Choices

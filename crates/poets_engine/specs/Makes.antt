@@ -2,10 +2,17 @@
 use Rattle.std.specs.Prelude.{◌≡◌, Bool, true, false}
 use Rattle.poets_call.specs.declared.rules.Rules.{Rules}
 use Rattle.poets_call.specs.Rules.{book_of, reports_of}
-use Rattle.poets_call.specs.Calls.{Request, Response}
+use Rattle.std.specs.Prelude.{List}
+use Rattle.poets_value.specs.declared.value.Name.{Name}
+use Rattle.poets_expr.specs.Expression.{Expression}
+use Rattle.poets_call.specs.Calls.{Request, Response, response_of}
 use Rattle.poets_call.specs.Ledger.{Ledger, with_entry}
 use Rattle.poets_call.specs.Histories.{RepliesIn}
 use Rattle.poets_engine.specs.Store.{StoreView}
+use Rattle.poets_engine.specs.Works.{HoldsPortfolio}
+use Rattle.poets_engine.specs.declared.kept.FolioWork.{FolioWork}
+use Rattle.poets_engine.specs.declared.kept.Body.{Body}
+use Rattle.poets_engine.specs.declared.kept.Body.TheVariants.{Done, Folio}
 use Rattle.poets_engine.specs.Rows.{IsLedger}
 
 -- the replies after which something changed
@@ -22,3 +29,21 @@ pub record Makes (rules : Rules) (request : Request) (old new : StoreView) (resp
   pub reply : (l : Ledger) → IsLedger rules l old → RepliesIn (book_of rules) (reports_of rules) l request response
   pub store : (l : Ledger) → IsLedger rules l old → IsLedger rules (with_entry l request response) new
   pub refused : is_accepted response ≡ false → new ≡ old
+
+-- the command is a portfolio, and the work is the one after the ledger of what is kept
+pub record Prepares (rules : Rules) (request : Request) (store : StoreView) (work : FolioWork) : Type 0 where
+  pub report : Name
+  pub args : List Expression
+  pub over : List Name
+  pub asked : request ≡ Request.Portfolio report args over
+  pub holds : (l : Ledger) → IsLedger rules l store → HoldsPortfolio (book_of rules) (reports_of rules) l report args over work
+
+-- the command was made, but for what the body still owes
+abbrev pub MakesBody : Rules → Request → StoreView → StoreView → Body → Type 0
+MakesBody rules request old new (Done reply) = Makes rules request old new (response_of reply)
+MakesBody rules request old new (Folio work) = (new ≡ old) × Prepares rules request old work
+
+-- a body after which something changed
+abbrev pub has_changed : Body → Bool
+has_changed (Done reply) = is_accepted (response_of reply)
+has_changed (Folio work) = false

@@ -8,11 +8,10 @@ use Rattle.poets_report.specs.Query.{Query}
 use Rattle.poets_call.specs.declared.call.Command.{Command}
 use Rattle.poets_call.specs.declared.rules.Rules.{Rules}
 use Rattle.poets_call.specs.Rules.{book_of, reports_of}
-use Rattle.poets_call.specs.Calls.{Call, Request, Response, request_of, response_of}
+use Rattle.poets_call.specs.Calls.{Call, Request, Response, request_of}
 use Rattle.poets_call.specs.Histories.{AnswersIn}
+use Rattle.poets_engine.specs.Works.{OwesReply}
 use Rattle.poets_engine.specs.Store.{StoreView}
-use Rattle.poets_engine.specs.declared.kept.Body.{Body}
-use Rattle.poets_engine.specs.declared.kept.Body.TheVariants.{Done}
 use Rattle.poets_engine.specs.declared.kept.Kept.{Kept}
 
 -- the studied book with its reports, the calls made, and what is kept of them
@@ -29,14 +28,16 @@ commands_of history = map (λ p. (p.0, arc_value p.1)) history
 abbrev pub plain_calls : List (ℕ × Command) → List Call
 plain_calls calls = map (λ p. (p.0, request_of p.1)) calls
 
-abbrev pub response_in : Body → Response
-response_in (Done reply) = response_of reply
-
--- the kept value has the place of the call after those calls, and holds the right reply to the command there
+-- the kept value has the place of the call after those calls, and owes the right reply to the command there
 pub record Owes (book : Definitions) (reports : List Query) (calls : List Call) (request : Request) (kept : Kept) : Type 0 where
   pub place : kept.place ≡ length calls
-  pub reply : AnswersIn book reports calls request (response_in kept.body)
+  pub reply : OwesReply book reports calls request kept.body
 
 -- the same after the engine's calls
 abbrev pub OwesNext : State → Command → Kept → Type 0
 OwesNext e command kept = Owes (book_of e.rules) (reports_of e.rules) (plain_calls e.calls) (request_of command) kept
+
+-- the response answers whatever command the kept value is owed to
+abbrev pub Fulfils : Kept → Response → Type 0
+Fulfils kept response = (book : Definitions) (reports : List Query) (calls : List Call) (request : Request) →
+    Owes book reports calls request kept → AnswersIn book reports calls request response

@@ -7,9 +7,10 @@ ghost use Rattle.poets_call.specs.Histories.{IsLegal};
 ghost use Rattle.poets_call.specs.Rules.{book_of, reports_of};
 ghost use Rattle.poets_call.specs.Taken.{IsTaken};
 ghost use Rattle.poets_engine.specs.Evaluations.{most_evaluations};
-ghost use Rattle.poets_engine.specs.Makes.{is_accepted};
-ghost use Rattle.poets_engine.specs.State.{commands_of, OwesNext, response_in};
+ghost use Rattle.poets_engine.specs.Makes.{has_changed};
+ghost use Rattle.poets_engine.specs.State.{commands_of, Fulfils, OwesNext};
 
+use crate::copies::Copies;
 use crate::kept::{Body, Kept};
 use crate::steps::step;
 use crate::store::Store;
@@ -28,6 +29,7 @@ pub struct Engine {
     rules: Rules,
     store: Store,
     history: List<(u32, Arc<Command>)>,
+    copies: Copies,
 }
 
 impl Model for Engine {
@@ -45,6 +47,7 @@ impl Model for Engine {
 
     ghost use Rattle.poets_engine.specs.State.{commands_of, plain_calls};
     ghost use Rattle.poets_engine.specs.Rows.{Stands};
+    ghost use Rattle.poets_engine.specs.Copies.{AreCopies};
 
     ghost view = { λ e. record {
       rules = e.rules;
@@ -52,7 +55,7 @@ impl Model for Engine {
       store = e.store;
     } };
 
-    ghost invariant = { λ e. Stands e.rules (plain_calls (commands_of e.history.items)) e.store };
+    ghost invariant = { λ e. Stands e.rules (plain_calls (commands_of e.history.items)) e.store × AreCopies e.rules e.copies };
 }
 
 impl Engine {
@@ -69,6 +72,7 @@ impl Engine {
             rules,
             store: Store::new(alloc),
             history: List::new(alloc),
+            copies: Copies::new(alloc),
         }
     }
 
@@ -79,7 +83,7 @@ impl Engine {
         &self.history
     }
 
-    /// Makes a call. `finish` hands out the reply. The rows of a portfolio are made in parallel.
+    /// Makes a call. `finish` hands out the reply, and makes the rows of a portfolio.
     ///
     /// All memory is taken before the first change, so that after want of memory nothing changed. After a refusal only
     /// the call is added to the history.
@@ -94,7 +98,7 @@ impl Engine {
         requires { IsTaken (book_of self.old.rules) (reports_of self.old.rules) (request_of (arc_value command.now)) }
         ensures calls { IfOk result (λ k. self.new.calls ≡ self.old.calls ++ (clerk, arc_value command.now) ∷ []) }
         ensures owes { IfOk result (λ k. OwesNext self.old (arc_value command.now) k) }
-        ensures refused { IfOk result (λ k. is_accepted (response_in k.body) ≡ false → self.new.store ≡ self.old.store) }
+        ensures refused { IfOk result (λ k. has_changed k.body ≡ false → self.new.store ≡ self.old.store) }
         ensures asks { asks.new ≤ asks.old + most_evaluations self.old.rules self.old.store (request_of (arc_value command.now)) }
         ensures rises { asks.old ≤ asks.new }
         ensures memory { OnErr result (self.new ≡ self.old) }
@@ -103,22 +107,27 @@ impl Engine {
         let kept = Arc::try_clone(command)?;
         self.history.reserve(1)?;
         let place = self.history.len() as u64;
-        let reply = step(rt, alloc, &self.rules, &mut self.store, &**command, asks)?;
+        let body = step(
+            alloc,
+            &self.rules,
+            &mut self.copies,
+            &mut self.store,
+            &**command,
+            asks,
+        )?;
         let Ok(()) = self.history.push((clerk, kept)) else {
             unreachable!();
         };
-        Ok(Kept {
-            place,
-            body: Body::Done(reply),
-        })
+        Ok(Kept { place, body })
     }
 
-    /// The reply to the call.
-    pub fn finish(kept: Kept) -> Result<Reply, Memory>
-        ensures { IfOk result (λ r. response_of r ≡ response_in kept.body) }
+    /// The reply to the call. The rows of a portfolio are made in parallel.
+    pub fn finish<R: Threads + Sync>(rt: &R, alloc: Global, kept: Kept) -> Result<Reply, Memory>
+        ensures { IfOk result (λ r. Fulfils kept (response_of r)) }
     {
         match kept.body {
             Body::Done(reply) => Ok(reply),
+            Body::Folio(work) => Ok(Reply::Folio(work.finish(rt, alloc)?)),
         }
     }
 }

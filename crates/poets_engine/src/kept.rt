@@ -1,12 +1,59 @@
 //! What a call keeps until its reply is asked for.
+ghost use Rattle.std.specs.Prelude.{◌≡◌, length, map, IfOk};
+ghost use Rattle.std.specs.Arc.{arc_value};
+ghost use Rattle.std.specs.List.{AllZip};
+ghost use Rattle.poets_expr.specs.Env.{declared_of};
+ghost use Rattle.poets_report.specs.Query.{query_of};
+ghost use Rattle.poets_folio.specs.Rows.{IsRow};
+ghost use Rattle.poets_call.specs.Calls.{folio_row_of};
+ghost use Rattle.poets_call.specs.Replies.{total_of};
 
-use poets_call::Reply;
+use poets_call::{Folio, Reply};
+use poets_expr::Decls;
+use poets_folio::{Part, portfolio};
+use poets_report::Report;
+use poets_value::{List, Memory, Value};
+use std::alloc::Global;
+use std::sync::Arc;
+use std::thread::Threads;
+
+/// All that a portfolio is made of. The declared names, the report and the sealed pieces of the events are shared.
+#[derive(Drop)]
+pub struct FolioWork {
+    pub decls: Arc<Decls>,
+    pub report: Arc<Report>,
+    /// The values of the arguments.
+    pub args: List<Option<Value>>,
+    pub parts: List<Part>,
+    /// There are as many arguments as parameters.
+    pub ghost counts: { length args.items ≡ length (arc_value report).params.items },
+}
+
+impl FolioWork {
+    /// The portfolio, its rows made in parallel.
+    pub(crate) fn finish<R: Threads + Sync>(self, rt: &R, alloc: Global) -> Result<Folio, Memory>
+        ensures rows { IfOk result (λ f. AllZip
+            (IsRow (declared_of (arc_value self.decls).names) (query_of (arc_value self.report)) self.args.items) self.parts.items f.rows.items) }
+        ensures total { IfOk result (λ f. f.total ≡ total_of (query_of (arc_value self.report)) (map folio_row_of f.rows.items)) }
+    {
+        portfolio(
+            rt,
+            alloc,
+            &self.decls,
+            &self.report,
+            &self.args,
+            &self.parts,
+        )
+    }
+}
 
 /// How far the reply to a call is made.
 #[derive(Drop)]
 pub enum Body {
     /// The reply is made.
     Done(Reply),
+    /// The rows of a portfolio are still to be made.
+    Folio(FolioWork),
 }
 
 /// The place of a call in the history, counted from 0, and its reply as far as it is made.

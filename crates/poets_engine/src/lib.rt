@@ -1,6 +1,7 @@
 //! The engine of one thread: each reply is that of an engine which is only a list of calls.
 #![tactic(auto)]
 
+mod copies;
 mod ends;
 mod engine;
 mod judging;
@@ -17,4 +18,4 @@ mod transmission;
 mod watching;
 
 pub use engine::Engine;
-pub use kept::{Body, Kept};
+pub use kept::{Body, FolioWork, Kept};

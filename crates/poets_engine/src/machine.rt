@@ -50,6 +50,6 @@ impl Machine for Engine {
     }
 
     fn finish<R: Threads + Sync>(rt: &R, alloc: Global, kept: Kept) -> Result<Reply, Memory> {
-        Engine::finish(kept)
+        Engine::finish(rt, alloc, kept)
     }
 }

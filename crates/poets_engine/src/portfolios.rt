@@ -3,21 +3,23 @@ ghost use Rattle.std.specs.Prelude.{◌≡◌, ◌≢◌, ◌+◌, ◌≤◌, Al
 ghost use Rattle.std.specs.List.{AllZip};
 ghost use Rattle.poets_expr.specs.Expression.{expression_of};
 ghost use Rattle.poets_table.specs.TableView.{number_named};
-ghost use Rattle.poets_call.specs.Calls.{response_of, Request};
+ghost use Rattle.poets_call.specs.Calls.{Request};
 ghost use Rattle.poets_call.specs.Rules.{book_of, reports_of};
 ghost use Rattle.poets_call.specs.Taken.{IsTaken};
-ghost use Rattle.poets_engine.specs.Makes.{Makes};
+ghost use Rattle.poets_engine.specs.Copies.{AreCopies};
+ghost use Rattle.poets_engine.specs.Makes.{MakesBody};
 ghost use Rattle.poets_engine.specs.Parts.{absent_from, IsPart};
 
+use crate::copies::Copies;
+use crate::kept::{Body, FolioWork};
 use crate::store::Store;
 use crate::tallies::report_called;
 use poets_call::{Reply, Rules};
 use poets_expr::{Asks, Expr};
 use poets_folio::Part;
 use poets_report::argument_values;
-use poets_value::{Event, List, Memory, Name, push};
+use poets_value::{List, Memory, Name, push};
 use std::alloc::Global;
-use std::thread::Threads;
 
 // The first of the names that no contract has.
 fn first_absent(store: &Store, names: &[Name]) -> Option<Name>
@@ -31,28 +33,18 @@ fn first_absent(store: &Store, names: &[Name]) -> Option<Name>
     None
 }
 
-// The same events in a list of their own.
-fn copied(alloc: Global, events: &[Event]) -> Result<List<Event>, Memory>
-    ensures { IfOk result (λ l. l.items ≡ events.now) }
-{
-    let mut copies = List::new(alloc);
-    copies.reserve(events.len())?;
-    for event in events {
-        push(&mut copies, *event)?;
-    }
-    Ok(copies)
-}
-
 // The name of a contract with its events.
-fn part(alloc: Global, store: &Store, name: Name) -> Result<Part, Memory>
+fn part(store: &Store, name: Name) -> Result<Part, Memory>
     requires { number_named name store.now.rows ≢ None }
     ensures { IfOk result (IsPart store.now.rows name) }
 {
     let Some(number) = store.find(name) else {
         unreachable!();
     };
-    let events = copied(alloc, store.row(number).events.as_slice())?;
-    Ok(Part { name, events })
+    Ok(Part {
+        name,
+        events: store.events(number)?,
+    })
 }
 
 // Each of the contracts with its events.
@@ -62,35 +54,42 @@ fn parts(alloc: Global, store: &Store, names: &[Name]) -> Result<List<Part>, Mem
 {
     let mut parts = List::new(alloc);
     for name in names {
-        let part = part(alloc, store, *name)?;
+        let part = part(store, *name)?;
         push(&mut parts, part)?;
     }
     Ok(parts)
 }
 
-/// The report over the events of each of the contracts, with the total.
-pub(crate) fn portfolio<T, R: Threads + Sync>(
-    rt: &R,
+/// All that the report over the events of each of the contracts is made of.
+pub(crate) fn portfolio<T>(
     alloc: Global,
     rules: &Rules,
+    copies: &mut Copies,
     store: &Store,
     name: Name,
     args: &[Expr],
     over: &[Name],
     asks: &mut Asks<T>,
-) -> Result<Reply, Memory>
-    requires { IsTaken (book_of rules.now) (reports_of rules.now) (Request.Portfolio name (map expression_of args.now) over.now) }
-    ensures ok { IfOk result (λ r. Makes rules.now (Request.Portfolio name (map expression_of args.now) over.now) store.now store.now (response_of r)) }
+) -> Result<Body, Memory>
+    requires taken { IsTaken (book_of rules.now) (reports_of rules.now) (Request.Portfolio name (map expression_of args.now) over.now) }
+    requires copies { AreCopies rules.now copies.old }
+    ensures ok { IfOk result (λ b. MakesBody rules.now (Request.Portfolio name (map expression_of args.now) over.now) store.now store.now b) }
+    ensures copies { AreCopies rules.now copies.new }
     ensures asks { asks.new ≤ asks.old + length args.now }
     ensures rises { asks.old ≤ asks.new }
 {
     if let Some(absent) = first_absent(store, over) {
-        return Ok(Reply::NoContract(absent));
+        return Ok(Body::Done(Reply::NoContract(absent)));
     }
     let report = report_called(rules, name, args);
-    let decls = &rules.studied.book().decls;
-    let values = argument_values(alloc, decls, args, asks)?;
+    let args = argument_values(alloc, &rules.studied.book().decls, args, asks)?;
     let parts = parts(alloc, store, over)?;
-    let folio = poets_folio::portfolio(rt, alloc, decls, report, &values, &parts)?;
-    Ok(Reply::Folio(folio))
+    let decls = copies.decls(alloc, rules)?;
+    let report = copies.report(alloc, rules, name, report)?;
+    Ok(Body::Folio(FolioWork {
+        decls,
+        report,
+        args,
+        parts,
+    }))
 }

@@ -10,7 +10,7 @@ use poets_expr::{Asks, Decls};
 use poets_live::Watches;
 use poets_report::{Answer, Report};
 use poets_syntax::Term;
-use poets_table::{Row, Table};
+use poets_table::{Events, Row, Table};
 use poets_value::{Event, List, Memory, Name, Value};
 use std::alloc::Global;
 use std::marker::Model;
@@ -63,6 +63,14 @@ impl Store {
         ensures { slice_get self.now.rows (number - 1) ≡ Some (row_view result.now) }
     {
         self.table.row(number)
+    }
+
+    /// The events of the contract with a number, as they are now.
+    pub(crate) fn events(&self, number: u64) -> Result<Events, Memory>
+        requires { IsLive number self.now.rows }
+        ensures { IfOk result (λ e. (r : _) → slice_get self.now.rows (number - 1) ≡ Some r → e.items ≡ r.events) }
+    {
+        self.table.events(number)
     }
 
     /// All events, with the numbers of their contracts.

@@ -18,13 +18,13 @@ use poets_call::{Reply, Rules};
 use poets_expr::Asks;
 use poets_residue::{may_end, residual};
 use poets_syntax::{Studied, Term};
-use poets_table::Row;
+use poets_table::{Events, Row};
 use poets_value::{Day, Event, Memory, Name};
 use std::alloc::Global;
 
 // The day of the last event.
-fn last_day_of(events: &[Event]) -> Option<Day>
-    ensures { result ≡ last_day events.now }
+fn last_day_of(events: &Events) -> Option<Day>
+    ensures { result ≡ last_day events.now.items }
 {
     match events.last() {
         Some(last) => Some(last.day),
@@ -33,8 +33,8 @@ fn last_day_of(events: &[Event]) -> Option<Day>
 }
 
 // The last day recorded, where the given day is before it.
-fn late(events: &[Event], day: &Day) -> Option<Day>
-    ensures { result ≡ late_day events.now day.now }
+fn late(events: &Events, day: &Day) -> Option<Day>
+    ensures { result ≡ late_day events.now.items day.now }
 {
     let last = last_day_of(events)?;
     if day.number() < last.number() {
@@ -61,7 +61,7 @@ fn decide<T>(
     if row.ended {
         return Ok(Decision::Refused(Reply::Ended));
     }
-    if let Some(last) = late(row.events.as_slice(), &event.day) {
+    if let Some(last) = late(&row.events, &event.day) {
         return Ok(Decision::Refused(Reply::Late(last)));
     }
     // The numbers of arguments fit in the bodies of the templates.
@@ -91,7 +91,7 @@ pub(crate) fn transmit<T>(
         return Ok(Reply::NoContract(name));
     };
     let row = store.row(number);
-    let count = row.events.as_slice().len() as u64 + 1;
+    let count = row.events.len() as u64 + 1;
     match decide(alloc, &rules.studied, row, event, asks)? {
         Decision::Refused(reply) => Ok(reply),
         Decision::Kept(next) => {

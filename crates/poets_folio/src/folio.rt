@@ -2,6 +2,7 @@
 ghost use Rattle.std.specs.Prelude.{◌≡◌, length, map, IfOk};
 ghost use Rattle.std.specs.List.{AllZip};
 ghost use Rattle.poets_expr.specs.Env.{declared_of};
+ghost use Rattle.poets_report.specs.Folds.{GoesOn};
 ghost use Rattle.poets_report.specs.Query.{query_of};
 ghost use Rattle.poets_call.specs.Calls.{folio_row_of};
 ghost use Rattle.poets_call.specs.Replies.{total_of};
@@ -10,8 +11,9 @@ ghost use Rattle.poets_folio.specs.Rows.{IsRow};
 use crate::total::total;
 use poets_call::Folio;
 use poets_expr::{Asks, Decls};
-use poets_report::{Answer, Report, value_of};
-use poets_value::{Event, List, Memory, Name, Value, push};
+use poets_report::{Answer, Fold, Report};
+use poets_table::{Events, PIECE_LENGTH};
+use poets_value::{List, Memory, Name, Value, push};
 use rayon::prelude::*;
 use std::alloc::Global;
 use std::thread::Threads;
@@ -20,7 +22,7 @@ use std::thread::Threads;
 #[derive(Drop)]
 pub struct Part {
     pub name: Name,
-    pub events: List<Event>,
+    pub events: Events,
 }
 
 /// The report over the events of each part, in the order of the parts, and the total, which is
@@ -87,9 +89,28 @@ fn row(
     ensures { IfOk result (IsRow (declared_of decls.now.names) (query_of report.now) args.now.items part.now) }
 {
     let mut asks = Asks::new(());
-    let events = part.events.as_slice();
-    let answer = value_of(alloc, decls, report, args, events, &mut asks)?;
-    Ok((part.name, answer))
+    let start = Fold::start(alloc, decls, report, args, &mut asks)?;
+    let fold = folded(start, decls, report, &part.events, &mut asks)?;
+    Ok((part.name, fold.answer()?))
+}
+
+// The fold over more events, piece by piece.
+fn folded<L>(
+    mut fold: Fold,
+    decls: &Decls,
+    report: &Report,
+    events: &Events,
+    asks: &mut Asks<L>,
+) -> Result<Fold, Memory>
+    ensures { IfOk result (GoesOn (declared_of decls.now.names) (query_of report.now) events.now.items fold) }
+{
+    for place in 0..events.len().div_ceil(PIECE_LENGTH) {
+        let Some(piece) = events.piece(place) else {
+            unreachable!();
+        };
+        fold = fold.more(decls, report, piece, asks)?;
+    }
+    Ok(fold)
 }
 
 // The same rows as a list.

@@ -6,9 +6,11 @@ use poets_call::Folio;
 use poets_expr::{Decls, Expr, Op, build};
 use poets_report::{Answer, Report};
 use poets_syntax::Binders;
+use poets_table::{Events, Table};
 use poets_value::{Day, Event, List, Memory, Name, Resource, Ty, Value, push};
 use std::alloc::Global;
 use std::collections::BTreeMap;
+use std::sync::Arc;
 use std::thread::Threads;
 
 const GREATEST: i64 = 9_223_372_036_854_775_807;
@@ -55,14 +57,21 @@ fn sum_by(alloc: Global, key: Option<Expr>) -> Result<Report, Memory>
     })
 }
 
-fn part(alloc: Global, id: u32, amounts: &[i64]) -> Result<Part, Memory> {
-    let mut events = List::new(alloc);
+// The events with these amounts, out of the table's only row.
+fn events(alloc: Global, amounts: &[i64]) -> Result<Events, Memory> {
+    let mut table: Table<()> = Table::new(alloc);
+    let number = table.add(Name { id: 0 }, Arc::new(alloc, ())?, ())?;
     for amount in amounts {
-        push(&mut events, event(*amount))?;
+        table.room(number)?;
+        table.enter(number, event(*amount), ());
     }
+    table.events(number)
+}
+
+fn part(alloc: Global, id: u32, amounts: &[i64]) -> Result<Part, Memory> {
     Ok(Part {
         name: Name { id },
-        events,
+        events: events(alloc, amounts)?,
     })
 }
 
@@ -117,5 +126,14 @@ fn a_report_with_a_key_has_no_total(rt: HostRuntime) -> Result<(), Memory> {
     let folio = folio(&rt, rt.alloc(), Some(key), &[5], &[1])?;
     assert_eq!(rt; folio.rows.len(), 2);
     assert_eq!(rt; folio.total, None);
+    Ok(())
+}
+
+#[test]
+fn all_pieces_of_a_long_past_are_folded(rt: HostRuntime) -> Result<(), Memory> {
+    let folio = folio(&rt, rt.alloc(), None, &[1; 600], &[2; 512])?;
+    assert_eq!(rt; row(&folio, 0), Some((21, Some(Value::Int(600)))));
+    assert_eq!(rt; row(&folio, 1), Some((20, Some(Value::Int(1024)))));
+    assert_eq!(rt; folio.total, Some(Some(Value::Int(1624))));
     Ok(())
 }

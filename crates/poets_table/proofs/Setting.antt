@@ -32,7 +32,7 @@ index_get [] i x h e = absurd (omega (arith, h))
 index_get (y ∷ xs) zero x h e = ap Some (sym e)
 index_get (y ∷ xs) (suc i) x h e = index_get xs i x (omega (arith, h)) e
 
-map_get : {A B : Type 0} (g : A → B) (xs : List A) (i : ℕ) → slice_get (map g xs) i ≡ option_map g (slice_get xs i)
+pub map_get : {A B : Type 0} (g : A → B) (xs : List A) (i : ℕ) → slice_get (map g xs) i ≡ option_map g (slice_get xs i)
 map_get g [] i = refl
 map_get g (x ∷ xs) zero = refl
 map_get g (x ∷ xs) (suc i) = map_get g xs i

@@ -3,6 +3,7 @@ ghost use Rattle.std.specs.Prelude.{◌≡◌, map, ◌+◌, ◌-◌, ◌≤◌,
 ghost use Rattle.std.specs.Arc.{arc_value};
 ghost use Rattle.poets_table.specs.TableView.{row_view, IsLive, changed_at, with_event, finished, number_named, new_row};
 
+use crate::events::Events;
 use indexmap::IndexSet;
 use poets_value::{Event, List, Memory, Name};
 use std::alloc::Global;
@@ -17,7 +18,7 @@ pub struct Row<T> {
     pub original: Arc<T>,
     /// What is still owed.
     pub current: T,
-    pub events: List<Event>,
+    pub events: Events,
     pub ended: bool,
 }
 
@@ -76,6 +77,14 @@ impl<T> Table<T> {
         &self.rows[(number - 1) as usize]
     }
 
+    /// The events of the row with a number, as they are now. The sealed pieces are shared with the row.
+    pub fn events(&self, number: u64) -> Result<Events, Memory>
+        requires { IsLive number self.now.rows }
+        ensures { IfOk result (λ e. (r : _) → slice_get self.now.rows (number - 1) ≡ Some r → e.items ≡ r.events) }
+    {
+        self.row(number).events.share()
+    }
+
     /// The number of the row with a name, if there is one.
     pub fn find(&self, name: Name) -> Option<u64>
         ensures { result ≡ number_named name self.now.rows }
@@ -130,7 +139,7 @@ fn room_in<T>(row: &mut Row<T>) -> Result<(), Memory>
     ensures name { row.new.name ≡ row.old.name }
     ensures ok { OnOk result (0 < row.new.events.room) }
 {
-    row.events.reserve(1)
+    row.events.make_room()
 }
 
 /// Makes room for an event in the row at a place.
@@ -181,10 +190,7 @@ fn append<T: Drop>(row: &mut Row<T>, event: Event, current: T)
     ensures same { row_view row.new ≡ with_event event current (row_view row.old) }
     ensures name { row.new.name ≡ row.old.name }
 {
-    match row.events.push(event) {
-        Ok(()) => {}
-        Err(_) => unreachable!(),
-    }
+    row.events.add(event);
     row.current = current;
 }
 
@@ -211,7 +217,7 @@ impl<T: Drop> Table<T> {
             name,
             original,
             current,
-            events: List::new(alloc),
+            events: Events::new(alloc),
             ended: false,
         };
         let Ok(()) = self.rows.push(row) else {

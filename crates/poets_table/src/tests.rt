@@ -1,6 +1,6 @@
 //! A table filled by hand, each call once with memory.
 
-use crate::Table;
+use crate::{Events, PIECE_LENGTH, Table};
 use poets_value::{Day, Event, Memory, Name, Resource};
 use std::alloc::Global;
 use std::sync::Arc;
@@ -94,5 +94,95 @@ fn events_stand_in_their_rows_and_in_the_log(rt: HostRuntime) -> Result<(), Memo
     assert_eq!(rt; logged(&table, 1), Some((1, 6)));
     assert_eq!(rt; logged(&table, 2), Some((2, 7)));
     assert_eq!(rt; logged(&table, 3), None);
+    Ok(())
+}
+
+// A table with a row that takes so many events, whose amounts count from 1.
+fn filled(alloc: Global, count: i64) -> Result<Table<u64>, Memory> {
+    let mut table: Table<u64> = Table::new(alloc);
+    added(alloc, &mut table, SALE, 0)?;
+    for amount in 1..=count {
+        entered(&mut table, SALE, amount, 0)?;
+    }
+    Ok(table)
+}
+
+// The events of the row with that name.
+fn events(table: &Table<u64>, name: Name) -> Result<Option<Events>, Memory> {
+    match table.find(name) {
+        Some(number) => Ok(Some(table.events(number)?)),
+        None => Ok(None),
+    }
+}
+
+// The number of events of a piece, and the amounts of its first and its last.
+fn piece(events: &Events, place: usize) -> Option<(usize, i64, i64)> {
+    let piece = events.piece(place)?;
+    Some((
+        piece.len(),
+        piece.first()?.what.amount,
+        piece.last()?.what.amount,
+    ))
+}
+
+fn last_amount(events: &Events) -> Option<i64> {
+    Some(events.last()?.what.amount)
+}
+
+#[test]
+fn a_long_row_stands_in_pieces(rt: HostRuntime) -> Result<(), Memory> {
+    let table = filled(rt.alloc(), 600)?;
+    let Some(events) = events(&table, SALE)? else {
+        return Err(Memory);
+    };
+    assert_eq!(rt; events.len(), 600);
+    assert_eq!(rt; last_amount(&events), Some(600));
+    assert_eq!(rt; piece(&events, 0), Some((256, 1, 256)));
+    assert_eq!(rt; piece(&events, 1), Some((256, 257, 512)));
+    assert_eq!(rt; piece(&events, 2), Some((88, 513, 600)));
+    assert_eq!(rt; piece(&events, 3), None);
+    Ok(())
+}
+
+#[test]
+fn a_full_piece_is_sealed_for_the_next_event(rt: HostRuntime) -> Result<(), Memory> {
+    let mut table = filled(rt.alloc(), 256)?;
+    assert_eq!(rt; PIECE_LENGTH, 256);
+    for _ in 0..2 {
+        let Some(events) = events(&table, SALE)? else {
+            return Err(Memory);
+        };
+        assert_eq!(rt; events.len(), 256);
+        assert_eq!(rt; last_amount(&events), Some(256));
+        assert_eq!(rt; piece(&events, 0), Some((256, 1, 256)));
+        assert_eq!(rt; piece(&events, 1), None);
+        assert_eq!(rt; piece(&events, usize::MAX), None);
+        // The piece is sealed by now, and no event stands behind it.
+        if let Some(number) = table.find(SALE) {
+            table.room(number)?;
+        }
+    }
+    Ok(())
+}
+
+#[test]
+fn events_taken_out_stay_as_they_were(rt: HostRuntime) -> Result<(), Memory> {
+    let mut table = filled(rt.alloc(), 300)?;
+    let Some(before) = events(&table, SALE)? else {
+        return Err(Memory);
+    };
+    for amount in 301..=520 {
+        entered(&mut table, SALE, amount, 0)?;
+    }
+    let Some(after) = events(&table, SALE)? else {
+        return Err(Memory);
+    };
+    drop(table);
+    assert_eq!(rt; (before.len(), last_amount(&before)), (300, Some(300)));
+    assert_eq!(rt; piece(&before, 1), Some((44, 257, 300)));
+    assert_eq!(rt; piece(&before, 2), None);
+    assert_eq!(rt; (after.len(), last_amount(&after)), (520, Some(520)));
+    assert_eq!(rt; piece(&after, 1), Some((256, 257, 512)));
+    assert_eq!(rt; piece(&after, 2), Some((8, 513, 520)));
     Ok(())
 }

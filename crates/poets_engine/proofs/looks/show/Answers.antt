@@ -7,4 +7,4 @@ use Rattle.poets_engine.proofs.looks.show.Goals as goal
 pub returns : goal.returns
 returns c =
     show_found c.args.rules.now c.args.name c.args.store.now c.in-Some.number (row_view c.row-row.result.now) c.may_end.result
-    (contract_of c.in_ok-copy.field-0) c.len.result (sym c.in-Some.ensures) c.row-row.ensures c.may_end.ensures c.in_ok-copy.ensures c.len.ensures
+    (contract_of c.in_ok-copy.field-0) c.len.result (sym c.in-Some.ensures) c.row-row.ensures c.may_end.ensures c.in_ok-copy.ensures c.len.ensures.count

@@ -1,11 +1,8 @@
-use Rattle.std.proofs.Common.{◌≡◌, [], sym, ap, ◌∙◌, subst, map}
-use Rattle.std.specs.List.{AllZip}
+use Rattle.std.proofs.Common.{◌≡◌, [], sym, refl, ap, ◌∙◌, map}
 use Rattle.poets_expr.specs.Env.{declared_of}
 use Rattle.poets_expr.specs.Expression.{expression_of}
 use Rattle.poets_expr.specs.Val.{val}
-use Rattle.poets_report.specs.Query.{query_of}
-use Rattle.poets_folio.specs.Rows.{IsRow}
-use Rattle.poets_engine.proofs.Folios.{portfolio_absent, portfolio_made}
+use Rattle.poets_engine.proofs.Folios.{portfolio_absent, portfolio_prepared}
 use Rattle.poets_engine.proofs.Tallying.{values_by}
 use Rattle.poets_engine.proofs.portfolios.portfolio.Goals as goal
 
@@ -17,10 +14,5 @@ pub returns-clause-ok : goal.returns-clause-ok
 returns-clause-ok g c =
     let rules = c.args.rules.now in
     let args = map expression_of c.args.args.now in
-    let q = query_of c.report_called-report.result.now in
-    let values = c.in_ok-values.values.items in
-    let valued : values ≡ values_by rules args = c.in_ok-values.ensures.values ∙ ap (λ book. map (val (declared_of book.decls.names) []) args) c.book.ensures.book in
-    portfolio_made rules c.args.name args c.args.over.now c.args.store.now q values c.in_ok-parts.parts.items c.in_ok-folio.folio.rows.items c.in_ok-folio.folio.total
-    (sym c.in_default.ensures) c.report_called-report.ensures.report valued c.in_ok-parts.ensures
-    (subst (λ book. AllZip (IsRow (declared_of book.decls.names) q values) c.in_ok-parts.parts.items c.in_ok-folio.folio.rows.items) c.book.ensures.book c.in_ok-folio.ensures.rows)
-    c.in_ok-folio.ensures.total
+    let valued : c.in_ok-args.args.items ≡ values_by rules args = c.in_ok-args.ensures.values ∙ ap (λ book. map (val (declared_of book.decls.names) []) args) c.book.ensures.book in
+    (refl, portfolio_prepared rules c.args.name args c.args.over.now c.args.store.now _ (sym c.in_default.ensures) c.in_ok-decls.ensures.ok c.in_ok-report.ensures.ok valued c.in_ok-parts.ensures)

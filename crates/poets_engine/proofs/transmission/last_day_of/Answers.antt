@@ -3,7 +3,7 @@ use Rattle.poets_engine.proofs.Days.{last_day_is}
 use Rattle.poets_engine.proofs.transmission.last_day_of.Goals as goal
 
 pub returns-in-Some : goal.returns-in-Some
-returns-in-Some c = last_day_is c.args.events.now (Some c.in-Some.last.now) c.in-Some.ensures.value
+returns-in-Some c = last_day_is c.args.events.now.items (Some c.in-Some.last) c.in-Some.ensures
 
 pub returns-in-None : goal.returns-in-None
-returns-in-None c = last_day_is c.args.events.now None c.in-None.ensures.value
+returns-in-None c = last_day_is c.args.events.now.items None c.in-None.ensures
