@@ -22,6 +22,8 @@ mod program;
 #[cfg(test)]
 mod refusals;
 #[cfg(test)]
+mod sealed;
+#[cfg(test)]
 mod sessions;
 #[cfg(test)]
 mod streams;
