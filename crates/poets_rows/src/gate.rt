@@ -23,19 +23,26 @@ const PATIENCE: u32 = 1_000_000;
 #[derive(Drop)]
 pub(crate) struct HoldingGate {
     held: List<Hold>,
+    // Those that are held between their turn and their reply.
+    held_outside: List<Hold>,
     // How many calls of each clerk are answered.
     answered: List<AtomicU64>,
     has_given_up: AtomicBool,
 }
 
 impl HoldingGate {
-    pub(crate) fn new(alloc: Global, held: &[Hold]) -> Result<HoldingGate, Memory> {
+    pub(crate) fn new(
+        alloc: Global,
+        held: &[Hold],
+        held_outside: &[Hold],
+    ) -> Result<HoldingGate, Memory> {
         let mut answered = List::new(alloc);
         for _ in 0..CLERKS {
             push(&mut answered, AtomicU64::new(0))?;
         }
         Ok(HoldingGate {
             held: list(alloc, held)?,
+            held_outside: list(alloc, held_outside)?,
             answered,
             has_given_up: AtomicBool::new(false),
         })
@@ -48,6 +55,15 @@ impl HoldingGate {
 
     fn answered_of(&self, clerk: u32) -> Option<&AtomicU64> {
         self.answered.get(clerk.checked_sub(1)? as usize)
+    }
+
+    // Holds the call, where it is one of these.
+    fn hold(&self, holds: &List<Hold>, call: ClerkCall) {
+        for (held, other) in holds.as_slice() {
+            if *held == call {
+                self.wait_for(*other);
+            }
+        }
     }
 
     fn wait_for(&self, (clerk, call): ClerkCall) {
@@ -65,14 +81,12 @@ impl HoldingGate {
 
 impl Gate for HoldingGate {
     fn before(&self, clerk: u32, call: u64) {
-        for (held, other) in self.held.as_slice() {
-            if *held == (clerk, call) {
-                self.wait_for(*other);
-            }
-        }
+        self.hold(&self.held, (clerk, call));
     }
 
-    fn outside(&self, clerk: u32, call: u64) {}
+    fn outside(&self, clerk: u32, call: u64) {
+        self.hold(&self.held_outside, (clerk, call));
+    }
 
     fn after(&self, clerk: u32, call: u64) {
         if let Some(answered) = self.answered_of(clerk) {

@@ -26,6 +26,8 @@ mod refusals;
 #[cfg(test)]
 mod sale;
 #[cfg(test)]
+mod sealed;
+#[cfg(test)]
 mod sessions;
 #[cfg(test)]
 mod streams;

@@ -11,13 +11,14 @@ use std::test::Fail;
 use std::thread::Threads;
 
 /// How the source, the sink and the gate behave: the bytes of a read, the reads and writes that fail, and the clerks'
-/// calls that are held.
+/// calls that are held before their turns, or behind them.
 #[derive(Clone, Copy)]
 pub(crate) struct Edges<'a> {
     pub step: usize,
     pub reads: &'a [u64],
     pub writes: &'a [u64],
     pub held: &'a [Hold],
+    pub held_outside: &'a [Hold],
 }
 
 pub(crate) const SOUND: Edges = Edges {
@@ -25,6 +26,7 @@ pub(crate) const SOUND: Edges = Edges {
     reads: &[],
     writes: &[],
     held: &[],
+    held_outside: &[],
 };
 
 /// A list of these items.
@@ -118,7 +120,7 @@ pub(crate) fn ask<R: Threads + Wait + Sync>(
     let writes = list(alloc, edges.writes)?;
     let mut source = TextSource::new(alloc, bytes, edges.step.max(1), reads);
     let mut sink = TextSink::new(alloc, writes)?;
-    let gate = HoldingGate::new(alloc, edges.held)?;
+    let gate = HoldingGate::new(alloc, edges.held, edges.held_outside)?;
     let outcome = run(rt, alloc, words.as_slice(), &mut source, &mut sink, &gate);
     Ok(Answer {
         status: outcome.status,

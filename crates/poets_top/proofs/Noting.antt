@@ -14,7 +14,7 @@ use Rattle.poets_call.specs.Replies.{Legal, Replies}
 use Rattle.poets_call.proofs.Histories.{calls_last, one_history}
 use Rattle.poets_call.proofs.OneFrames.{one_frame}
 use Rattle.poets_engine.specs.declared.kept.Kept.{Kept}
-use Rattle.poets_engine.specs.State.{State, plain_calls, OwesNext, response_in}
+use Rattle.poets_engine.specs.State.{State, plain_calls, OwesNext, Fulfils}
 use Rattle.poets_top.specs.Scripts.{AreNoted}
 
 -- a legal history with one more entry, whose reply answers after its calls
@@ -38,11 +38,11 @@ AreNoted-none e legal calls = record { legal = legal; calls = sym (ap plain_call
 
 -- one entry more among the entries of the code
 pub AreNoted-entry : (e e' : State) (clerk : ℕ) (entries new : List Entry) (command : Command) (entry : Entry) (kept : Kept) →
-    AreNoted e (history_of entries) → OwesNext e command kept → response_of entry.reply ≡ response_in kept.body → entry.clerk ≡ clerk → arc_value entry.command ≡ command →
+    AreNoted e (history_of entries) → OwesNext e command kept → Fulfils kept (response_of entry.reply) → entry.clerk ≡ clerk → arc_value entry.command ≡ command →
     e'.calls ≡ e.calls ++ (clerk, command) ∷ [] → e'.rules ≡ e.rules → new ≡ entries ++ entry ∷ [] → AreNoted e' (history_of new)
 AreNoted-entry e e' clerk entries new command entry kept noted owes reply own same calls frame pushed =
     let h = history_of entries in
-    let answers = subst (λ r. AnswersIn (book_of e.rules) (reports_of e.rules) (plain_calls e.calls) (request_of command) r) (sym reply) owes.reply in
+    let answers = reply (book_of e.rules) (reports_of e.rules) (plain_calls e.calls) (request_of command) owes in
     let after = subst (λ cs. AnswersIn (book_of e.rules) (reports_of e.rules) cs (request_of command) (response_of entry.reply)) (sym noted.calls) answers in
     let asked = subst (λ c. AnswersIn (book_of e.rules) (reports_of e.rules) (calls_of h) (request_of c) (response_of entry.reply)) (sym same) after in
     let legal = IsLegal-more (book_of e.rules) (reports_of e.rules) h (entry_of entry) noted.legal asked in

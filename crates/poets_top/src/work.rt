@@ -33,7 +33,7 @@ fn call<R: Threads + Sync>(
     ensures frame { engine.new.rules ≡ engine.old.rules }
 {
     let kept = engine.apply(rt, alloc, clerk, command, &mut Asks::new(()))?;
-    let reply = Engine::finish(kept)?;
+    let reply = Engine::finish(rt, alloc, kept)?;
     let command = Arc::try_clone(command)?;
     let entry = Entry {
         clerk,
