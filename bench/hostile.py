@@ -65,6 +65,7 @@ def prepare(folder):
     """Puts a copy of the program where any user may run it, and builds the library beside it."""
     os.chmod(folder, 0o755)
     shared["program"] = shutil.copy(shared["program"], f"{folder}/poets")
+    os.chmod(shared["program"], 0o755)
     build_library(folder)
     if not shared["library"]:
         print("there is no cc: the cases where a call of the C library is refused are left out")
