@@ -24,7 +24,7 @@ import os
 import shutil
 import sys
 import tempfile
-from multiprocessing import Pool
+from concurrent.futures import ProcessPoolExecutor
 
 import hostile_clerks
 import hostile_edges
@@ -52,7 +52,7 @@ def tried(job):
 def try_family(pool, name):
     """Tries the family. Answers whether all its cases ended as they must."""
     count, wrong = 0, []
-    for more, told in pool.imap_unordered(tried, FAMILIES[name]()):
+    for more, told in pool.map(tried, FAMILIES[name]()):
         count += more
         wrong += told
     print(f"{name:8} {count:>8,} tried {count - len(wrong):>8,} ended as they must", flush=True)
@@ -79,7 +79,7 @@ def main():
         shared["program"] = os.path.abspath(given.pop(0))
     with tempfile.TemporaryDirectory() as folder:
         prepare(folder)
-        with Pool(PROCESSES) as pool:
+        with ProcessPoolExecutor(PROCESSES) as pool:
             right = [try_family(pool, name) for name in given or FAMILIES]
     sys.exit(0 if all(right) else 1)
 
