@@ -21,9 +21,10 @@ that each clerk's commands are his script and `poets replay` prints the same lin
 must not is told, and the script ends with status 1. The library that refuses calls is bench/refusing.c, built by cc.
 """
 import os
+import shutil
 import sys
 import tempfile
-from multiprocessing import Pool
+from concurrent.futures import ProcessPoolExecutor
 
 import hostile_clerks
 import hostile_edges
@@ -51,7 +52,7 @@ def tried(job):
 def try_family(pool, name):
     """Tries the family. Answers whether all its cases ended as they must."""
     count, wrong = 0, []
-    for more, told in pool.imap_unordered(tried, FAMILIES[name]()):
+    for more, told in pool.map(tried, FAMILIES[name]()):
         count += more
         wrong += told
     print(f"{name:8} {count:>8,} tried {count - len(wrong):>8,} ended as they must", flush=True)
@@ -60,14 +61,25 @@ def try_family(pool, name):
     return not wrong
 
 
+def prepare(folder):
+    """Puts a copy of the program where any user may run it, and builds the library beside it."""
+    os.chmod(folder, 0o755)
+    shared["program"] = shutil.copy(shared["program"], f"{folder}/poets")
+    os.chmod(shared["program"], 0o755)
+    build_library(folder)
+    if not shared["library"]:
+        print("there is no cc: the cases where a call of the C library is refused are left out")
+    if os.geteuid() != 0:
+        print("this user is not root: the cases with a limit of processes are left out")
+
+
 def main():
     given = sys.argv[1:]
     if given and given[0] not in FAMILIES:
         shared["program"] = os.path.abspath(given.pop(0))
     with tempfile.TemporaryDirectory() as folder:
-        os.chmod(folder, 0o755)
-        build_library(folder)
-        with Pool(PROCESSES) as pool:
+        prepare(folder)
+        with ProcessPoolExecutor(PROCESSES) as pool:
             right = [try_family(pool, name) for name in given or FAMILIES]
     sys.exit(0 if all(right) else 1)
 
