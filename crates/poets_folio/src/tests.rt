@@ -57,15 +57,28 @@ fn sum_by(alloc: Global, key: Option<Expr>) -> Result<Report, Memory>
     })
 }
 
+// Adds an event to the row with that name.
+fn enter(table: &mut Table<()>, name: Name, amount: i64) -> Result<(), Memory> {
+    let Some(number) = table.find(name) else {
+        return Err(Memory);
+    };
+    table.room(number)?;
+    table.enter(number, event(amount), ());
+    Ok(())
+}
+
 // The events with these amounts, out of the table's only row.
 fn events(alloc: Global, amounts: &[i64]) -> Result<Events, Memory> {
+    let name = Name { id: 0 };
     let mut table: Table<()> = Table::new(alloc);
-    let number = table.add(Name { id: 0 }, Arc::new(alloc, ())?, ())?;
+    table.add(name, Arc::new(alloc, ())?, ())?;
     for amount in amounts {
-        table.room(number)?;
-        table.enter(number, event(*amount), ());
+        enter(&mut table, name, *amount)?;
     }
-    table.events(number)
+    match table.find(name) {
+        Some(number) => table.events(number),
+        None => Err(Memory),
+    }
 }
 
 fn part(alloc: Global, id: u32, amounts: &[i64]) -> Result<Part, Memory> {
