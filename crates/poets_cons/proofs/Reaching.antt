@@ -1,0 +1,55 @@
+-- What is reached, and what was entered.
+use Rattle.std.proofs.Common.{◌≡◌, ℕ, ◌+◌, ◌<◌, ◌≤◌, arith, List, [], ◌∷◌, ◌++◌, length, get_or, slice_get, Some, map, refl, sym, ◌∙◌, ap, ap₂, subst, inl, inr, Result, Ok, Err, IfOk}
+use Rattle.std.proofs.lemmas.Bool.{cases_lt}
+use Rattle.poets_syntax.specs.Contract.{Contract}
+use Rattle.poets_cons.specs.declared.node.Node.{Node}
+use Rattle.poets_cons.specs.Row.{Row, parts_of, contract_by, IsPart, AreBelow}
+use Rattle.poets_cons.specs.Table.{rows_of, contract_at, Reached, Stands, Extends, AddsReached}
+use Rattle.std.specs.List.{All}
+use Rattle.std.proofs.lemmas.List.Elements.{All-head, All-tail}
+use Rattle.poets_cons.specs.Row.{Success, Failure, Transmit, Plus, Par, Seq, App}
+use Rattle.poets_cons.proofs.Standing.{contract_at-later, row_later}
+
+-- two facts of a result
+pub both_ok : {X E : Type 0} (P Q R : X → Type 0) (r : Result X E) → ((x : X) → P x → Q x → R x) → IfOk r P → IfOk r Q → IfOk r R
+both_ok P Q R (Ok x) f p q = f x p q
+both_ok P Q R (Err e) f p q = tt
+
+pub one_ok : {X E : Type 0} (P R : X → Type 0) (r : Result X E) → ((x : X) → P x → R x) → IfOk r P → IfOk r R
+one_ok P R (Ok x) f p = f x p
+one_ok P R (Err e) f p = tt
+
+pub reached_later : (old new : List Node) → Extends old new → {i k : ℕ} → Reached (rows_of old) i k → Reached (rows_of new) i k
+reached_later old new x Reached.Root = Reached.Root
+reached_later old new x (Reached.Part {i = j} {r = r} h e m) = Reached.Part (reached_later old new x h) (row_later old new x j r e) m
+
+pub reached_through : (rows : List Row) {p a k : ℕ} → Reached rows p a → Reached rows a k → Reached rows p k
+reached_through rows h Reached.Root = h
+reached_through rows h (Reached.Part g e m) = Reached.Part (reached_through rows h g) e m
+
+-- by way of a part
+reached_by : (rows : List Row) (p a k : ℕ) (r : Row) → slice_get rows p ≡ Some r → IsPart r a → Reached rows a k → Reached rows p k
+reached_by rows p a k r e m h = reached_through rows (Reached.Part Reached.Root e m) h
+
+module _ (old mid new : List Node) (after : Extends mid new) (a : ℕ) (first : AddsReached old mid a) (r : Row) where
+  pub reached_one : IsPart r a → (p : ℕ) → slice_get (rows_of new) p ≡ Some r → AddsReached mid new p → AddsReached old new p
+  reached_one m p e last k l n = elim (cases_lt k (length mid)) [
+    | inl h ↦ reached_by (rows_of new) p a k r e m (reached_later mid new after (first k l h))
+    | inr h ↦ last k h n
+  ]
+
+module _ (old n₁ n₂ new : List Node) (x : Extends n₁ n₂) (y : Extends n₂ new) (a b : ℕ) (first : AddsReached old n₁ a) (second : AddsReached n₁ n₂ b) (r : Row) where
+  pub reached_two : IsPart r a → IsPart r b → (p : ℕ) → slice_get (rows_of new) p ≡ Some r → AddsReached n₂ new p → AddsReached old new p
+  reached_two m n p e last k l h = elim (cases_lt k (length n₂)) [
+    | inr g ↦ last k g h
+    | inl g ↦ elim (cases_lt k (length n₁)) [
+      | inl f ↦ reached_by (rows_of new) p a k r e m (reached_later n₂ new y (reached_later n₁ n₂ x (first k l f)))
+      | inr f ↦ reached_by (rows_of new) p b k r e n (reached_later n₂ new y (second k f g))
+    ]
+  ]
+
+-- two parts that stand
+pub stands_two : (f : Contract → Contract → Contract) (n₁ n₂ new : List Node) → Extends n₁ n₂ → (a b : ℕ) (c d : Contract) → Stands n₁ a c → Stands n₂ b d → (p : ℕ) →
+    Stands new p (f (contract_at n₂ a) (contract_at n₂ b)) → Stands new p (f c d)
+stands_two f n₁ n₂ new x a b c d s t p h =
+    subst (Stands new p) (ap₂ f (contract_at-later n₁ n₂ x a s.within ∙ s.contract) t.contract) h

@@ -1,0 +1,6 @@
+pub mod Row
+pub mod Same
+pub mod Hashing
+pub mod Table
+pub mod Parts
+pub mod SameRows

@@ -1,0 +1,68 @@
+//! Contracts entered in tables of rows.
+ghost use Rattle.std.specs.Prelude.{◌≡◌, map, IfOk};
+ghost use Rattle.poets_expr.specs.Expression.{expression_of};
+ghost use Rattle.poets_syntax.specs.Contract.{contract_of};
+ghost use Rattle.poets_cons.specs.Table.{Stands, Extends, AddsReached};
+
+use crate::arena::Arena;
+use crate::node::Node;
+use poets_expr::{Expr, copy};
+use poets_syntax::Term;
+use poets_syntax::build::push;
+use poets_value::{List, Memory};
+use std::alloc::Global;
+
+// The same expressions, in a list of their own.
+pub(crate) fn copy_args(alloc: Global, args: &List<Expr>) -> Result<List<Expr>, Memory>
+    ensures { IfOk result (λ r. map expression_of r.items ≡ map expression_of args.now.items) }
+{
+    let mut copies = List::new(alloc);
+    for arg in args.as_slice() {
+        push(&mut copies, copy(alloc, arg)?)?;
+    }
+    Ok(copies)
+}
+
+/// The number of the row of this contract, which is added with its parts where it is not there.
+pub fn enter(alloc: Global, arena: &mut Arena, term: &Term) -> Result<usize, Memory>
+    ensures grows { Extends arena.old arena.new }
+    ensures stands { IfOk result (λ p. Stands arena.new p (contract_of term.now)) }
+    ensures reached { IfOk result (λ p. AddsReached arena.old arena.new p) }
+{
+    match term {
+        Term::Success => arena.add(Node::Success),
+        Term::Failure => arena.add(Node::Failure),
+        Term::Transmit {
+            binders,
+            when,
+            then,
+        } => {
+            let then = enter(alloc, arena, then)?;
+            let when = copy(alloc, when)?;
+            arena.add(Node::Transmit {
+                binders: *binders,
+                when,
+                then,
+            })
+        }
+        Term::Plus(a, b) => {
+            let a = enter(alloc, arena, a)?;
+            let b = enter(alloc, arena, b)?;
+            arena.add(Node::Plus(a, b))
+        }
+        Term::Par(a, b) => {
+            let a = enter(alloc, arena, a)?;
+            let b = enter(alloc, arena, b)?;
+            arena.add(Node::Par(a, b))
+        }
+        Term::Seq(a, b) => {
+            let a = enter(alloc, arena, a)?;
+            let b = enter(alloc, arena, b)?;
+            arena.add(Node::Seq(a, b))
+        }
+        Term::App { name, args } => {
+            let args = copy_args(alloc, args)?;
+            arena.add(Node::App { name: *name, args })
+        }
+    }
+}
