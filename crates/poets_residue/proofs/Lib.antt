@@ -12,3 +12,4 @@ pub mod Arguments
 pub mod StudiedExample
 pub mod TypedResiduals
 pub mod RowChoices
+pub mod Noted

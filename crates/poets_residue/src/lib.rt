@@ -6,8 +6,10 @@ mod endings;
 mod joining;
 pub mod laws;
 mod residuals;
+mod shared;
 #[cfg(test)]
 mod tests;
 
 pub use endings::may_end;
 pub use residuals::residual;
+pub use shared::may_end_rows;

@@ -53,7 +53,7 @@ fn event_givens(binders: &Binders, event: &Event) -> [(Name, Given); 4]
 }
 
 // Whether the predicate holds of the event.
-fn holds<L>(
+pub(crate) fn holds<L>(
     decls: &Decls,
     binders: &Binders,
     when: &Expr,
@@ -143,7 +143,7 @@ fn in_first(alloc: Global, after_a: Term, b: &Term) -> Result<Term, Memory>
 }
 
 // What a transmission that took the event leads to.
-fn taken_on<L>(
+pub(crate) fn taken_on<L>(
     alloc: Global,
     studied: &Studied,
     binders: &Binders,

@@ -41,11 +41,11 @@ returns-in_ok-choice-in_default-Plus t c =
     record {
       grows = extends_twice old mid new c.in_ok-choice-in_default-Plus.ensures.grows c.add.ensures.grows;
       stands = one_ok (λ p. Stands new p (if c.has-is_known.result then contract_at mid c.in_ok-choice-in_default-Plus.choice
-        else Plus (contract_at mid c.in_ok-choice-in_default-Plus.choice) (contract_at mid last)))
-      (λ p. Stands new p (plus (contract_at old a) (contract_at old b))) c.add.result
-      (λ p h. merge_front old mid new c.in_ok-choice-in_default-Plus.ensures.grows a b front last c.in_ok-choice-in_default-Plus.choice p
-        c.has-is_known.result whole k c.requires.first some c.requires.second c.has-is_known.ensures c.in_ok-choice-in_default-Plus.ensures.stands h)
-      c.add.ensures.stands;
+          else Plus (contract_at mid c.in_ok-choice-in_default-Plus.choice) (contract_at mid last)))
+          (λ p. Stands new p (plus (contract_at old a) (contract_at old b))) c.add.result
+          (λ p h. merge_front old mid new c.in_ok-choice-in_default-Plus.ensures.grows a b front last c.in_ok-choice-in_default-Plus.choice p
+          c.has-is_known.result whole k c.requires.first some c.requires.second c.has-is_known.ensures c.in_ok-choice-in_default-Plus.ensures.stands h)
+          c.add.ensures.stands;
     }
 
 pub returns-in_default : goal.returns-in_default
@@ -59,7 +59,7 @@ returns-in_default t c =
     record {
       grows = c.add-in_default.ensures.grows;
       stands = one_ok (λ p. Stands new p (if c.has-is_known-in_default.result then contract_at old a else Plus (contract_at old a) (contract_at old b)))
-      (λ p. Stands new p (plus (contract_at old a) (contract_at old b))) c.add-in_default.result
-      (λ p h. merge_one old new a b p c.has-is_known-in_default.result c.requires.first some one c.has-is_known-in_default.ensures h)
-      c.add-in_default.ensures.stands;
+          (λ p. Stands new p (plus (contract_at old a) (contract_at old b))) c.add-in_default.result
+          (λ p h. merge_one old new a b p c.has-is_known-in_default.result c.requires.first some one c.has-is_known-in_default.ensures h)
+          c.add-in_default.ensures.stands;
     }
