@@ -8,8 +8,7 @@ use crate::arena::Arena;
 use crate::node::Node;
 use poets_expr::{Expr, copy};
 use poets_syntax::Term;
-use poets_syntax::build::push;
-use poets_value::{List, Memory};
+use poets_value::{List, Memory, push};
 use std::alloc::Global;
 
 // The same expressions, in a list of their own.

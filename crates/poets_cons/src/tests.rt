@@ -3,7 +3,7 @@
 use crate::{Rows, of_term, to_term};
 use poets_expr::{Expr, Op, build as make};
 use poets_syntax::{Binders, Term, build, copy, same};
-use poets_value::{List, Memory, Name};
+use poets_value::{List, Memory, Name, push};
 use std::alloc::Global;
 
 const OIL: Name = Name { id: 0 };
@@ -56,7 +56,7 @@ fn equal_parts_are_one_row(rt: HostRuntime) -> Result<(), Memory> {
 // f(1) ; (f(1) + f(1))
 fn applied(alloc: Global) -> Result<Term, Memory> {
     let mut args = List::new(alloc);
-    build::push(&mut args, Expr::Int(1))?;
+    push(&mut args, Expr::Int(1))?;
     let one = Term::App { name: OIL, args };
     let first = copy(alloc, &one)?;
     let second = copy(alloc, &one)?;
