@@ -13,3 +13,6 @@ pub mod StudiedExample
 pub mod TypedResiduals
 pub mod RowChoices
 pub mod Noted
+mod Derived
+mod Ready
+mod Spending

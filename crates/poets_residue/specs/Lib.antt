@@ -4,3 +4,4 @@ pub mod Examples
 pub mod TypedLaws
 pub mod Notes
 pub mod Once
+pub mod Spent

@@ -2,6 +2,7 @@
 #![tactic(auto)]
 
 mod bodies;
+mod derivation;
 mod endings;
 mod joining;
 pub mod laws;
@@ -10,6 +11,7 @@ mod shared;
 #[cfg(test)]
 mod tests;
 
+pub use derivation::residual_rows;
 pub use endings::may_end;
 pub use residuals::residual;
 pub use shared::may_end_rows;

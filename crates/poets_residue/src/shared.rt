@@ -54,7 +54,7 @@ pub(crate) fn may_end_at(studied: &Studied, arena: &Arena, place: usize) -> bool
 }
 
 // Whether the residuals of a row are known to be choices of distinct alternatives.
-fn is_joined(studied: &Studied, arena: &Arena, place: usize) -> bool
+pub(crate) fn is_joined(studied: &Studied, arena: &Arena, place: usize) -> bool
     requires { place < length arena.now }
     ensures { IsTrue result → (e : TheEvent) → IsDistinctChoice (after (definitions_of studied.now.book) (marks_of studied.now) e (contract_at arena.now place)) }
 {
@@ -65,7 +65,7 @@ fn is_joined(studied: &Studied, arena: &Arena, place: usize) -> bool
 }
 
 // Notes where the residual of a row stands, and hands that on.
-fn note(memo: &mut IndexMap<usize, usize>, place: usize, next: usize) -> Result<usize, Memory>
+pub(crate) fn note(memo: &mut IndexMap<usize, usize>, place: usize, next: usize) -> Result<usize, Memory>
     ensures next { IfOk result (λ p. p ≡ next) }
     ensures notes { IfOk result (λ _. (k : ℕ) → get nat_eq memo.new k ≡ cond (nat_eq place k) (Some next) (get nat_eq memo.old k)) }
 {
@@ -76,7 +76,7 @@ fn note(memo: &mut IndexMap<usize, usize>, place: usize, next: usize) -> Result<
 }
 
 // The residual of a transmission whose continuation is a row.
-fn transmit_at<L>(
+pub(crate) fn transmit_at<L>(
     alloc: Global,
     studied: &Studied,
     event: &Event,
@@ -99,7 +99,7 @@ fn transmit_at<L>(
 }
 
 // The event went to the first part, or to the second.
-fn sides(
+pub(crate) fn sides(
     arena: &mut Arena,
     a: usize,
     b: usize,
