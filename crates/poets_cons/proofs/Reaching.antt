@@ -4,7 +4,7 @@ use Rattle.std.proofs.lemmas.Bool.{cases_lt}
 use Rattle.poets_syntax.specs.Contract.{Contract}
 use Rattle.poets_cons.specs.declared.node.Node.{Node}
 use Rattle.poets_cons.specs.Row.{Row, parts_of, contract_by, IsPart, AreBelow}
-use Rattle.poets_cons.specs.Table.{rows_of, contract_at, Reached, Stands, Extends, AddsReached}
+use Rattle.poets_cons.specs.Table.{rows_of, contract_at, Reached, Stands, Extends, AddsReached, AddsReachedBoth}
 use Rattle.std.specs.List.{All}
 use Rattle.std.proofs.lemmas.List.Elements.{All-head, All-tail}
 use Rattle.poets_cons.specs.Row.{Success, Failure, Transmit, Plus, Par, Seq, App}
@@ -47,6 +47,24 @@ module _ (old n₁ n₂ new : List Node) (x : Extends n₁ n₂) (y : Extends n�
       | inr f ↦ reached_by (rows_of new) p b k r e n (reached_later n₂ new y (second k f g))
     ]
   ]
+
+-- from the one row or from the other
+pub reached_both : (old mid new : List Node) → Extends mid new → (a b : ℕ) → AddsReached old mid a → AddsReached mid new b → AddsReachedBoth old new a b
+reached_both old mid new x a b first second k l n = elim (cases_lt k (length mid)) [
+  | inl h ↦ inl (reached_later mid new x (first k l h))
+  | inr h ↦ inr (second k h n)
+]
+
+-- and so from the row that has the two as its parts
+pub reached_parts : (old mid new : List Node) → Extends mid new → (a b : ℕ) → AddsReachedBoth old mid a b → (r : Row) → IsPart r a → IsPart r b → (p : ℕ) →
+    slice_get (rows_of new) p ≡ Some r → AddsReached mid new p → AddsReached old new p
+reached_parts old mid new x a b both r f s p e last k l n = elim (cases_lt k (length mid)) [
+  | inl h ↦ elim (both k l h) [
+    | inl g ↦ reached_by (rows_of new) p a k r e f (reached_later mid new x g)
+    | inr g ↦ reached_by (rows_of new) p b k r e s (reached_later mid new x g)
+  ]
+  | inr h ↦ last k h n
+]
 
 -- two parts that stand
 pub stands_two : (f : Contract → Contract → Contract) (n₁ n₂ new : List Node) → Extends n₁ n₂ → (a b : ℕ) (c d : Contract) → Stands n₁ a c → Stands n₂ b d → (p : ℕ) →

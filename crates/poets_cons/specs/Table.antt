@@ -1,5 +1,5 @@
 -- What a table of rows stands for.
-use Rattle.std.specs.Prelude.{◌≡◌, ℕ, suc, ◌+◌, ◌-◌, ◌<◌, ◌≤◌, List, [], ◌∷◌, ◌++◌, map, length, slice_get, Some, All}
+use Rattle.std.specs.Prelude.{◌≡◌, ◌⊎◌, ℕ, ◌-◌, ◌<◌, ◌≤◌, List, [], ◌∷◌, ◌++◌, map, length, slice_get, Some, All}
 use Rattle.std.specs.List.{IsDistinct, slice_index_or}
 use Rattle.poets_syntax.specs.Contract.{Contract, Failure}
 use Rattle.poets_cons.specs.declared.node.Node.{Node}
@@ -64,3 +64,7 @@ Extends old new = (more : List Node) × (new ≡ old ++ more)
 -- each new row is reached from the root
 abbrev pub AddsReached : List Node → List Node → ℕ → Type 0
 AddsReached old new root = (k : ℕ) → length old ≤ k → k < length new → Reached (rows_of new) root k
+
+-- each new row is reached from one of two
+abbrev pub AddsReachedBoth : List Node → List Node → ℕ → ℕ → Type 0
+AddsReachedBoth old new a b = (k : ℕ) → length old ≤ k → k < length new → Reached (rows_of new) a k ⊎ Reached (rows_of new) b k
