@@ -1,9 +1,9 @@
 -- What a table of rows stands for.
-use Rattle.std.specs.Prelude.{◌≡◌, ◌⊎◌, ℕ, ◌-◌, ◌<◌, ◌≤◌, List, [], ◌∷◌, ◌++◌, map, length, slice_get, Some, All}
+use Rattle.std.specs.Prelude.{◌≡◌, ◌⊎◌, ℕ, ◌-◌, ◌<◌, ◌≤◌, List, [], ◌∷◌, ◌++◌, map, length, slice_get, Some}
 use Rattle.std.specs.List.{IsDistinct, slice_index_or}
 use Rattle.poets_syntax.specs.Contract.{Contract, Failure}
 use Rattle.poets_cons.specs.declared.node.Node.{Node}
-use Rattle.poets_cons.specs.Row.{Row, row_of, parts_of, contract_by, IsPart}
+use Rattle.poets_cons.specs.Row.{Row, row_of, contract_by, IsPart, AreBelow}
 use Rattle.poets_cons.specs.Same.{same_row}
 
 -- the contract with that number; `Failure` past the end
@@ -27,7 +27,7 @@ contract_at nodes i = nth (contracts_of nodes) i
 
 -- each row names earlier ones alone
 abbrev pub AreEarlier : List Row → Type 0
-AreEarlier rows = (i : ℕ) (r : Row) → slice_get rows i ≡ Some r → All (λ k. k < i) (parts_of r)
+AreEarlier rows = (i : ℕ) (r : Row) → slice_get rows i ≡ Some r → AreBelow i r
 
 -- no two rows are equal
 abbrev pub AreDistinct : List Row → Type 0
