@@ -1,6 +1,6 @@
 -- A node added to a table.
 use Rattle.std.proofs.Common.{◌≡◌, ℕ, ◌+◌, ◌<◌, ◌≤◌, true, false, arith, List, [], ◌∷◌, ◌++◌, length, get_or, slice_get, Some, map, refl, sym, ◌∙◌, ap, subst, inl, inr, append-nil, length-append, if◌then◌else◌, Bool, option_map}
-use Rattle.std.specs.List.{All, IsDistinct, list_any, AllByRecursion}
+use Rattle.std.specs.List.{IsDistinct, list_any, AllByRecursion}
 use Rattle.std.specs.Ordering.{on}
 use Rattle.std.proofs.lemmas.Bool.{cases_order, cases_lt}
 use Rattle.std.proofs.lemmas.List.{length-map, map-append}
@@ -10,12 +10,11 @@ use Rattle.std.proofs.Math.Seq.{get_or-append_seam}
 use Rattle.indexmap.specs.IndexSet.{insert_key}
 use Rattle.poets_syntax.proofs.Replacing.{truth}
 use Rattle.poets_cons.specs.declared.node.Node.{Node}
-use Rattle.poets_cons.specs.Row.{Row, Success, row_of, parts_of, contract_by, AreBelow}
+use Rattle.poets_cons.specs.Row.{Row, Success, row_of, contract_by, AreBelow}
 use Rattle.poets_cons.specs.Same.{same_row}
 use Rattle.poets_cons.specs.SameRows.{row_one}
 use Rattle.poets_cons.specs.Table.{rows_of, contract_at, AreEarlier, AreDistinct, IsTable, Reached, Stands, Extends, AddsReached}
 use Rattle.poets_cons.proofs.Places.{place_of_row, contract-at}
-use Rattle.poets_cons.proofs.Belows.{below_parts}
 
 -- the test of two nodes is that of their rows
 abbrev pub same_node : Node → Node → Bool
@@ -31,7 +30,7 @@ distinct-map [] h = h
 distinct-map (n ∷ nodes) h = (apart-map (row_of n) nodes h.0, distinct-map nodes h.1)
 
 -- at the end a new row
-earlier-push : (rows : List Row) (r : Row) → AreEarlier rows → All (λ k. k < length rows) (parts_of r) → AreEarlier (rows ++ r ∷ [])
+earlier-push : (rows : List Row) (r : Row) → AreEarlier rows → AreBelow (length rows) r → AreEarlier (rows ++ r ∷ [])
 earlier-push rows r earlier h i s e =
     let l = slice_get_within (rows ++ r ∷ []) i s e in
     let v = get_or_from_slice_get (rows ++ r ∷ []) i s Success e in
@@ -40,11 +39,11 @@ earlier-push rows r earlier h i s e =
       | inr k ↦ (
           let place : i ≡ length rows = omega (arith, l, k, length-append rows (r ∷ [])) in
           let same : s ≡ r = sym v ∙ ap (λ j. get_or (rows ++ r ∷ []) j Success) place ∙ get_or-append_seam rows r [] Success in
-          λ j d m. rw place (subst (λ x. All (λ k. k < length rows) (parts_of x)) (sym same) h j d m)
+          rw place (subst (AreBelow (length rows)) (sym same) h)
           )
     ]
 
-module _ (old new : List Node) (node : Node) (table : IsTable old) (parts : All (λ k. k < length old) (parts_of (row_of node)))
+module _ (old new : List Node) (node : Node) (table : IsTable old) (parts : AreBelow (length old) (row_of node))
     (made : new ≡ insert_key same_node old node) (unique : IsDistinct same_node new) where
   pub added_grows : Extends old new
   added_grows = elim (truth (list_any (same_node node) old)) [
@@ -58,7 +57,7 @@ module _ (old new : List Node) (node : Node) (table : IsTable old) (parts : All 
     | inr k ↦ (
         let e : new ≡ old ++ node ∷ [] = rw k at made in
         let all : rows_of new ≡ rows_of old ++ row_of node ∷ [] = ap rows_of e ∙ map-append row_of old (node ∷ []) in
-        subst AreEarlier (sym all) (earlier-push (rows_of old) (row_of node) table.earlier (λ j d m. omega (arith, parts j d m, length-map old row_of)))
+        subst AreEarlier (sym all) (earlier-push (rows_of old) (row_of node) table.earlier (subst (λ n. AreBelow n (row_of node)) (sym (length-map old row_of)) parts))
         )
   ]
 
@@ -106,4 +105,4 @@ module _ (nodes : List Node) (table : IsTable nodes) (place : ℕ) (node : Node)
   node_contract = contract-at (rows_of nodes) table.earlier table.distinct place (row_of node) row_here
 
   pub node_below : AreBelow place (row_of node)
-  node_below = below_parts place (row_of node) (table.earlier place (row_of node) row_here)
+  node_below = table.earlier place (row_of node) row_here

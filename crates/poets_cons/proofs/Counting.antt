@@ -21,7 +21,6 @@ use Rattle.poets_cons.specs.Parts.{subterms, subterm_count}
 use Rattle.poets_cons.specs.Table.{nth, grown, rows_of, contracts_of, contract_at, contract_of_rows, IsTable, IsRooted, Reached}
 use Rattle.poets_cons.proofs.Places.{contract-at, one_place}
 use Rattle.poets_cons.proofs.Standing.{length-contracts}
-use Rattle.poets_cons.proofs.Belows.{below_parts}
 
 -- whether the contract is a subterm
 abbrev In : Contract → Contract → Type 0
@@ -114,7 +113,7 @@ module _ (nodes : List Node) (table : IsTable nodes) where
       let r = get_or (rows_of nodes) p Success in
       let e = slice_get-get_or (rows_of nodes) p Success (omega (arith, w, length-map nodes row_of)) in
       let made = contract-at (rows_of nodes) table.earlier table.distinct p r e in
-      found_row q p w (λ k m g. found_below n k q (omega arith) (omega arith) g) r made (below_parts p r (table.earlier p r e)) (subst (In q) made h)
+      found_row q p w (λ k m g. found_below n k q (omega arith) (omega arith) g) r made (table.earlier p r e) (subst (In q) made h)
 
   -- a read within the list, whatever the default is
   read : (i : ℕ) (d : Contract) → i < length (contracts_of nodes) → get_or (contracts_of nodes) i d ≡ contract_at nodes i

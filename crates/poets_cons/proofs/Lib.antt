@@ -5,5 +5,6 @@ pub mod Places
 pub mod Standing
 pub mod Adding
 pub mod Reaching
+pub mod Copied
 pub mod Rooting
 pub mod Counting

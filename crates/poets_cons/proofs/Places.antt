@@ -1,50 +1,36 @@
 -- No two rows of a table stand for one contract.
 use Rattle.std.proofs.Common.{◌≡◌, ℕ, zero, suc, ◌+◌, ◌<◌, ◌≤◌, true, false, arith, List, [], ◌∷◌, length, get_or, slice_get, Some, refl, sym, ◌∙◌, ap, ap₂, subst, inl, inr}
-use Rattle.std.specs.List.{All}
 use Rattle.std.proofs.lemmas.Bool.{cases_order}
-use Rattle.std.proofs.lemmas.List.Elements.{All-head, All-tail}
 use Rattle.std.proofs.lemmas.Option.{get_or_from_slice_get, slice_get_within, slice_get-get_or}
 use Rattle.std.proofs.lemmas.Map.Keys.{apart_from_distinct}
 use Rattle.poets_syntax.specs.Contract.{Contract}
-use Rattle.poets_cons.specs.Row.{Row, Success, Failure, Transmit, Plus, Par, Seq, App, parts_of, contract_by}
+use Rattle.poets_cons.specs.Row.{Row, Success, Failure, Transmit, Plus, Par, Seq, App, contract_by, IsPart}
 use Rattle.poets_cons.specs.Same.{same_row}
 use Rattle.poets_cons.specs.SameRows.{row_itself}
 use Rattle.poets_cons.specs.Table.{nth, grown, AreEarlier, AreDistinct}
+use Rattle.poets_cons.proofs.Belows.{part_below}
 use Rattle.poets_cons.proofs.Growing.{grown-at}
 
--- a number that is one of the parts of one row, and has the contract of a part of the other, is that part
-abbrev OneOf : (ℕ → Contract) → Row → ℕ → Type 0
-OneOf part s k = All (λ l. part k ≡ part l → k ≡ l) (parts_of s)
-
-rows_alike : (part : ℕ → Contract) (r s : Row) → contract_by part r ≡ contract_by part s → All (OneOf part s) (parts_of r) → r ≡ s
+-- rows with one contract are one, where parts with one contract are
+rows_alike : (part : ℕ → Contract) (r s : Row) → contract_by part r ≡ contract_by part s → ((k l : ℕ) → IsPart r k → IsPart s l → part k ≡ part l → k ≡ l) → r ≡ s
 rows_alike part Success Success e h = refl
 rows_alike part Failure Failure e h = refl
 rows_alike part (Transmit b p c) (Transmit d q f) e h =
-    let k = All-head (λ l. part c ≡ part l → c ≡ l) f [] (All-head (OneOf part (Transmit d q f)) c [] h) in
-    let e' : part c ≡ part f = cc in
-    let m = k e' in
+    let then : part c ≡ part f = cc in
+    let same = h c f refl refl then in
     cc
 rows_alike part (Plus a b) (Plus c d) e h =
-    let s = Plus c d in
     let x : part a ≡ part c = cc in
     let y : part b ≡ part d = cc in
-    let k = All-head (λ l. part a ≡ part l → a ≡ l) c (d ∷ []) (All-head (OneOf part s) a (b ∷ []) h) in
-    let m = All-head (OneOf part s) b [] (All-tail (OneOf part s) a (b ∷ []) h) in
-    ap₂ Plus (k x) (All-head (λ l. part b ≡ part l → b ≡ l) d [] (All-tail (λ l. part b ≡ part l → b ≡ l) c (d ∷ []) m) y)
+    ap₂ Plus (h a c (inl refl) (inl refl) x) (h b d (inr refl) (inr refl) y)
 rows_alike part (Par a b) (Par c d) e h =
-    let s = Par c d in
     let x : part a ≡ part c = cc in
     let y : part b ≡ part d = cc in
-    let k = All-head (λ l. part a ≡ part l → a ≡ l) c (d ∷ []) (All-head (OneOf part s) a (b ∷ []) h) in
-    let m = All-head (OneOf part s) b [] (All-tail (OneOf part s) a (b ∷ []) h) in
-    ap₂ Par (k x) (All-head (λ l. part b ≡ part l → b ≡ l) d [] (All-tail (λ l. part b ≡ part l → b ≡ l) c (d ∷ []) m) y)
+    ap₂ Par (h a c (inl refl) (inl refl) x) (h b d (inr refl) (inr refl) y)
 rows_alike part (Seq a b) (Seq c d) e h =
-    let s = Seq c d in
     let x : part a ≡ part c = cc in
     let y : part b ≡ part d = cc in
-    let k = All-head (λ l. part a ≡ part l → a ≡ l) c (d ∷ []) (All-head (OneOf part s) a (b ∷ []) h) in
-    let m = All-head (OneOf part s) b [] (All-tail (OneOf part s) a (b ∷ []) h) in
-    ap₂ Seq (k x) (All-head (λ l. part b ≡ part l → b ≡ l) d [] (All-tail (λ l. part b ≡ part l → b ≡ l) c (d ∷ []) m) y)
+    ap₂ Seq (h a c (inl refl) (inl refl) x) (h b d (inr refl) (inr refl) y)
 rows_alike part (App f xs) (App g ys) e h = cc
 rows_alike part _ _ e h = absurd cc
 
@@ -70,7 +56,7 @@ module _ (rows : List Row) (apart : AreDistinct rows) where
 
 module _ (rows : List Row) (earlier : AreEarlier rows) (apart : AreDistinct rows) where
   pub contract-at : (i : ℕ) (r : Row) → slice_get rows i ≡ Some r → nth (grown [] rows) i ≡ contract_by (nth (grown [] rows)) r
-  contract-at i r e = let start : i ≡ 0 + i = omega arith in ap (nth (grown [] rows)) start ∙ grown-at [] rows i r e (λ k d l. omega (arith, earlier i r e k d l))
+  contract-at i r e = let start : i ≡ 0 + i = omega arith in ap (nth (grown [] rows)) start ∙ grown-at [] rows i r e (λ k m. omega (arith, part_below i r (earlier i r e) k m))
 
   one_place-below : (n i j : ℕ) → i < n → i < length rows → j < length rows → nth (grown [] rows) i ≡ nth (grown [] rows) j → i ≡ j
   one_place-below zero i j l a b e = absurd (omega arith)
@@ -80,10 +66,10 @@ module _ (rows : List Row) (earlier : AreEarlier rows) (apart : AreDistinct rows
       let at_i = slice_get-get_or rows i Success a in
       let at_j = slice_get-get_or rows j Success b in
       let both : contract_by (nth (grown [] rows)) r ≡ contract_by (nth (grown [] rows)) s = sym (contract-at i r at_i) ∙ e ∙ contract-at j s at_j in
-      let same = rows_alike (nth (grown [] rows)) r s both (λ k d m k' d' m'.
-      let p = earlier i r at_i k d m in
-      let q = earlier j s at_j k' d' m' in
-      one_place-below n (get_or (parts_of r) k d) (get_or (parts_of s) k' d') (omega arith) (omega arith) (omega arith)) in
+      let same = rows_alike (nth (grown [] rows)) r s both (λ k m p q.
+      let f = part_below i r (earlier i r at_i) k p in
+      let g = part_below j s (earlier j s at_j) m q in
+      one_place-below n k m (omega arith) (omega arith) (omega arith)) in
       place_of_row rows apart i j r at_i (at_j ∙ ap Some (sym same))
 
   -- places with one contract are one

@@ -3,12 +3,9 @@ use Rattle.std.proofs.Common.{◌≡◌, ℕ, ◌+◌, ◌<◌, ◌≤◌, arith
 use Rattle.std.proofs.lemmas.Bool.{cases_lt}
 use Rattle.poets_syntax.specs.Contract.{Contract}
 use Rattle.poets_cons.specs.declared.node.Node.{Node}
-use Rattle.poets_cons.specs.Row.{Row, parts_of, contract_by, IsPart, AreBelow}
-use Rattle.poets_cons.specs.Table.{rows_of, contract_at, Reached, Stands, Extends, AddsReached}
-use Rattle.std.specs.List.{All}
-use Rattle.std.proofs.lemmas.List.Elements.{All-head, All-tail}
-use Rattle.poets_cons.specs.Row.{Success, Failure, Transmit, Plus, Par, Seq, App}
-use Rattle.poets_cons.proofs.Standing.{contract_at-later, row_later}
+use Rattle.poets_cons.specs.Row.{Row, IsPart}
+use Rattle.poets_cons.specs.Table.{rows_of, contract_at, Reached, Stands, Extends, AddsReached, AddsReachedBoth}
+use Rattle.poets_cons.proofs.Standing.{row_later}
 
 -- two facts of a result
 pub both_ok : {X E : Type 0} (P Q R : X → Type 0) (r : Result X E) → ((x : X) → P x → Q x → R x) → IfOk r P → IfOk r Q → IfOk r R
@@ -38,18 +35,20 @@ module _ (old mid new : List Node) (after : Extends mid new) (a : ℕ) (first : 
     | inr h ↦ last k h n
   ]
 
-module _ (old n₁ n₂ new : List Node) (x : Extends n₁ n₂) (y : Extends n₂ new) (a b : ℕ) (first : AddsReached old n₁ a) (second : AddsReached n₁ n₂ b) (r : Row) where
-  pub reached_two : IsPart r a → IsPart r b → (p : ℕ) → slice_get (rows_of new) p ≡ Some r → AddsReached n₂ new p → AddsReached old new p
-  reached_two m n p e last k l h = elim (cases_lt k (length n₂)) [
-    | inr g ↦ last k g h
-    | inl g ↦ elim (cases_lt k (length n₁)) [
-      | inl f ↦ reached_by (rows_of new) p a k r e m (reached_later n₂ new y (reached_later n₁ n₂ x (first k l f)))
-      | inr f ↦ reached_by (rows_of new) p b k r e n (reached_later n₂ new y (second k f g))
-    ]
-  ]
+-- from the one row or from the other
+pub reached_both : (old mid new : List Node) → Extends mid new → (a b : ℕ) → AddsReached old mid a → AddsReached mid new b → AddsReachedBoth old new a b
+reached_both old mid new x a b first second k l n = elim (cases_lt k (length mid)) [
+  | inl h ↦ inl (reached_later mid new x (first k l h))
+  | inr h ↦ inr (second k h n)
+]
 
--- two parts that stand
-pub stands_two : (f : Contract → Contract → Contract) (n₁ n₂ new : List Node) → Extends n₁ n₂ → (a b : ℕ) (c d : Contract) → Stands n₁ a c → Stands n₂ b d → (p : ℕ) →
-    Stands new p (f (contract_at n₂ a) (contract_at n₂ b)) → Stands new p (f c d)
-stands_two f n₁ n₂ new x a b c d s t p h =
-    subst (Stands new p) (ap₂ f (contract_at-later n₁ n₂ x a s.within ∙ s.contract) t.contract) h
+-- and so from the row that has the two as its parts
+pub reached_parts : (old mid new : List Node) → Extends mid new → (a b : ℕ) → AddsReachedBoth old mid a b → (r : Row) → IsPart r a → IsPart r b → (p : ℕ) →
+    slice_get (rows_of new) p ≡ Some r → AddsReached mid new p → AddsReached old new p
+reached_parts old mid new x a b both r f s p e last k l n = elim (cases_lt k (length mid)) [
+  | inl h ↦ elim (both k l h) [
+    | inl g ↦ reached_by (rows_of new) p a k r e f (reached_later mid new x g)
+    | inr g ↦ reached_by (rows_of new) p b k r e s (reached_later mid new x g)
+  ]
+  | inr h ↦ last k h n
+]

@@ -4,12 +4,12 @@ use Rattle.poets_syntax.specs.Contract.{Contract}
 use Rattle.poets_cons.specs.declared.node.Node.{Node}
 use Rattle.poets_cons.specs.Row.{Row}
 use Rattle.poets_cons.specs.Table.{rows_of, contract_at, contract_of_rows, AreEarlier, IsTable, IsRooted, Reached, Stands, AddsReached}
-use Rattle.poets_cons.proofs.Belows.{below_parts, part_below}
+use Rattle.poets_cons.proofs.Belows.{part_below}
 
 pub reached_below : (rows : List Row) → AreEarlier rows → {p k : ℕ} → Reached rows p k → k ≤ p
 reached_below rows earlier Reached.Root = omega arith
 reached_below rows earlier (Reached.Part {i = i} {k = k} {r = r} h e m) =
-    let l = part_below i r k (below_parts i r (earlier i r e)) m in
+    let l = part_below i r (earlier i r e) k m in
     omega (arith, l, reached_below rows earlier h)
 
 module _ (old nodes : List Node) (none : length old ≡ 0) (table : IsTable nodes) (p : ℕ) (c : Contract) (stands : Stands nodes p c) (reached : AddsReached old nodes p) where

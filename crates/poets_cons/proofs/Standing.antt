@@ -1,13 +1,13 @@
 -- What stands in a table stays where rows are added.
 use Rattle.std.proofs.Common.{◌≡◌, ℕ, ◌+◌, ◌<◌, ◌≤◌, arith, List, [], ◌∷◌, ◌++◌, length, get_or, slice_get, Some, map, refl, sym, ◌∙◌, ap, subst, append_assoc, append-nil, length-append}
-use Rattle.std.specs.List.{All}
 use Rattle.std.proofs.lemmas.List.{length-map, map-append}
 use Rattle.std.proofs.lemmas.Option.{get_or_from_slice_get, slice_get_within, slice_get-get_or}
 use Rattle.std.proofs.Math.ListN.{get_or-append}
 use Rattle.poets_syntax.specs.Contract.{Contract}
 use Rattle.poets_cons.specs.declared.node.Node.{Node}
-use Rattle.poets_cons.specs.Row.{Row, Success, row_of, parts_of, contract_by}
+use Rattle.poets_cons.specs.Row.{Row, Success, row_of, contract_by, AreBelow}
 use Rattle.poets_cons.specs.Table.{nth, grown, rows_of, contracts_of, contract_at, AreEarlier, IsTable, Stands, Extends}
+use Rattle.poets_cons.proofs.Belows.{part_below}
 use Rattle.poets_cons.proofs.Growing.{length-grown, grown-old, grown-append, grown-at, contract_by-alike}
 
 pub length-contracts : (nodes : List Node) → length (contracts_of nodes) ≡ length nodes
@@ -51,15 +51,15 @@ pub stands_at : (nodes : List Node) → AreEarlier (rows_of nodes) → (i : ℕ)
     Stands nodes i (contract_by (contract_at nodes) r)
 stands_at nodes earlier i r e = let start : i ≡ 0 + i = omega arith in record {
   within = omega (arith, slice_get_within (rows_of nodes) i r e, length-map nodes row_of);
-  contract = ap (contract_at nodes) start ∙ grown-at [] (rows_of nodes) i r e (λ k d l. omega (arith, earlier i r e k d l));
+  contract = ap (contract_at nodes) start ∙ grown-at [] (rows_of nodes) i r e (λ k m. omega (arith, part_below i r (earlier i r e) k m));
 }
 
 -- and so by the contracts of an older table that has its parts
 pub stands_by : (old new : List Node) → Extends old new → AreEarlier (rows_of new) → (i : ℕ) (r : Row) → slice_get (rows_of new) i ≡ Some r →
-    All (λ k. k < length old) (parts_of r) → Stands new i (contract_by (contract_at old) r)
+    AreBelow (length old) r → Stands new i (contract_by (contract_at old) r)
 stands_by old new x earlier i r e h =
     let s = stands_at new earlier i r e in
     record {
       within = s.within;
-      contract = s.contract ∙ contract_by-alike (contract_at new) (contract_at old) r (λ k d l. contract_at-later old new x (get_or (parts_of r) k d) (h k d l));
+      contract = s.contract ∙ contract_by-alike (contract_at new) (contract_at old) r (λ k m. contract_at-later old new x k (part_below (length old) r h k m));
     }

@@ -4,3 +4,4 @@ pub mod Hashing
 pub mod Table
 pub mod Parts
 pub mod SameRows
+pub mod Copies

@@ -1,5 +1,5 @@
 -- Rows: the nodes of a contract, whose parts are numbers of rows.
-use Rattle.std.specs.Prelude.{◌≡◌, ◌<◌, ◌⊎◌, ℕ, List, [], ◌∷◌, map}
+use Rattle.std.specs.Prelude.{◌≡◌, ◌<◌, ◌⊎◌, ℕ, List, map}
 use Rattle.poets_value.specs.declared.value.Name.{Name}
 use Rattle.poets_expr.specs.Expression.{Expression, expression_of}
 use Rattle.poets_syntax.specs.declared.term.Binders.{Binders}
@@ -27,14 +27,6 @@ row_of (N.Plus a b) = Plus a b
 row_of (N.Par a b) = Par a b
 row_of (N.Seq a b) = Seq a b
 row_of (N.App f args) = App f (map expression_of args.items)
-
--- the numbers that the row names
-abbrev pub parts_of : Row → List ℕ
-parts_of (Transmit b p c) = c ∷ []
-parts_of (Plus a b) = a ∷ b ∷ []
-parts_of (Par a b) = a ∷ b ∷ []
-parts_of (Seq a b) = a ∷ b ∷ []
-parts_of _ = []
 
 -- the contract of a row, from those of its parts
 abbrev pub contract_by : (ℕ → Contract) → Row → Contract

@@ -1,9 +1,9 @@
 -- What a table of rows stands for.
-use Rattle.std.specs.Prelude.{◌≡◌, ℕ, suc, ◌+◌, ◌-◌, ◌<◌, ◌≤◌, List, [], ◌∷◌, ◌++◌, map, length, slice_get, Some, All}
+use Rattle.std.specs.Prelude.{◌≡◌, ◌⊎◌, ℕ, ◌-◌, ◌<◌, ◌≤◌, List, [], ◌∷◌, ◌++◌, map, length, slice_get, Some}
 use Rattle.std.specs.List.{IsDistinct, slice_index_or}
 use Rattle.poets_syntax.specs.Contract.{Contract, Failure}
 use Rattle.poets_cons.specs.declared.node.Node.{Node}
-use Rattle.poets_cons.specs.Row.{Row, row_of, parts_of, contract_by, IsPart}
+use Rattle.poets_cons.specs.Row.{Row, row_of, contract_by, IsPart, AreBelow}
 use Rattle.poets_cons.specs.Same.{same_row}
 
 -- the contract with that number; `Failure` past the end
@@ -27,7 +27,7 @@ contract_at nodes i = nth (contracts_of nodes) i
 
 -- each row names earlier ones alone
 abbrev pub AreEarlier : List Row → Type 0
-AreEarlier rows = (i : ℕ) (r : Row) → slice_get rows i ≡ Some r → All (λ k. k < i) (parts_of r)
+AreEarlier rows = (i : ℕ) (r : Row) → slice_get rows i ≡ Some r → AreBelow i r
 
 -- no two rows are equal
 abbrev pub AreDistinct : List Row → Type 0
@@ -64,3 +64,7 @@ Extends old new = (more : List Node) × (new ≡ old ++ more)
 -- each new row is reached from the root
 abbrev pub AddsReached : List Node → List Node → ℕ → Type 0
 AddsReached old new root = (k : ℕ) → length old ≤ k → k < length new → Reached (rows_of new) root k
+
+-- each new row is reached from one of two
+abbrev pub AddsReachedBoth : List Node → List Node → ℕ → ℕ → Type 0
+AddsReachedBoth old new a b = (k : ℕ) → length old ≤ k → k < length new → Reached (rows_of new) a k ⊎ Reached (rows_of new) b k

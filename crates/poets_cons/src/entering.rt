@@ -2,7 +2,7 @@
 ghost use Rattle.std.specs.Prelude.{◌≡◌, map, IfOk};
 ghost use Rattle.poets_expr.specs.Expression.{expression_of};
 ghost use Rattle.poets_syntax.specs.Contract.{contract_of};
-ghost use Rattle.poets_cons.specs.Table.{Stands, Extends, AddsReached};
+ghost use Rattle.poets_cons.specs.Table.{Stands, Extends, AddsReached, AddsReachedBoth};
 
 use crate::arena::Arena;
 use crate::node::Node;
@@ -23,6 +23,7 @@ pub(crate) fn copy_args(alloc: Global, args: &List<Expr>) -> Result<List<Expr>, 
 }
 
 /// The number of the row of this contract, which is added with its parts where it is not there.
+#[cycle(enter)]
 pub fn enter(alloc: Global, arena: &mut Arena, term: &Term) -> Result<usize, Memory>
     ensures grows { Extends arena.old arena.new }
     ensures stands { IfOk result (λ p. Stands arena.new p (contract_of term.now)) }
@@ -45,18 +46,15 @@ pub fn enter(alloc: Global, arena: &mut Arena, term: &Term) -> Result<usize, Mem
             })
         }
         Term::Plus(a, b) => {
-            let a = enter(alloc, arena, a)?;
-            let b = enter(alloc, arena, b)?;
+            let (a, b) = enter_both(alloc, arena, a, b)?;
             arena.add(Node::Plus(a, b))
         }
         Term::Par(a, b) => {
-            let a = enter(alloc, arena, a)?;
-            let b = enter(alloc, arena, b)?;
+            let (a, b) = enter_both(alloc, arena, a, b)?;
             arena.add(Node::Par(a, b))
         }
         Term::Seq(a, b) => {
-            let a = enter(alloc, arena, a)?;
-            let b = enter(alloc, arena, b)?;
+            let (a, b) = enter_both(alloc, arena, a, b)?;
             arena.add(Node::Seq(a, b))
         }
         Term::App { name, args } => {
@@ -64,4 +62,22 @@ pub fn enter(alloc: Global, arena: &mut Arena, term: &Term) -> Result<usize, Mem
             arena.add(Node::App { name: *name, args })
         }
     }
+}
+
+// The numbers of the rows of two contracts.
+#[cycle(enter)]
+fn enter_both(
+    alloc: Global,
+    arena: &mut Arena,
+    a: &Term,
+    b: &Term,
+) -> Result<(usize, usize), Memory>
+    ensures grows { Extends arena.old arena.new }
+    ensures first { IfOk result (λ p. Stands arena.new p.0 (contract_of a.now)) }
+    ensures second { IfOk result (λ p. Stands arena.new p.1 (contract_of b.now)) }
+    ensures reached { IfOk result (λ p. AddsReachedBoth arena.old arena.new p.0 p.1) }
+{
+    let first = enter(alloc, arena, a)?;
+    let second = enter(alloc, arena, b)?;
+    Ok((first, second))
 }

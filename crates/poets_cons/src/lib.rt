@@ -2,6 +2,7 @@
 #![tactic(auto)]
 
 mod arena;
+mod copying;
 mod entering;
 mod equality;
 mod hashing;
@@ -11,6 +12,7 @@ mod rows;
 mod tests;
 
 pub use arena::Arena;
+pub use copying::copy_row;
 pub use entering::enter;
 pub use node::Node;
-pub use rows::{Rows, of_term, term_at, to_term};
+pub use rows::{Rows, of_term, rows_at, term_at, to_term};

@@ -5,6 +5,7 @@ ghost use Rattle.poets_cons.specs.Parts.{subterm_count};
 ghost use Rattle.poets_cons.specs.Table.{contract_at, contract_of_rows, IsTable, IsRooted};
 
 use crate::arena::Arena;
+use crate::copying::copy_row;
 use crate::entering::{copy_args, enter};
 use crate::node::Node;
 use poets_expr::copy;
@@ -71,6 +72,17 @@ pub fn of_term(alloc: Global, term: &Term) -> Result<Rows, Memory>
     let _root = enter(alloc, &mut arena, term)?;
     let _table = arena.len();
     Ok(Rows { arena })
+}
+
+/// The rows of the contract of one row of a table. No tree is made on the way.
+pub fn rows_at(alloc: Global, arena: &Arena, place: usize) -> Result<Rows, Memory>
+    requires { place < length arena.now }
+    ensures { IfOk result (λ r. contract_of_rows r ≡ contract_at arena.now place) }
+{
+    let mut rows = Arena::new(alloc);
+    let _root = copy_row(alloc, arena, place, &mut rows)?;
+    let _table = rows.len();
+    Ok(Rows { arena: rows })
 }
 
 /// The contract of the row with that number.

@@ -1,6 +1,6 @@
 //! Rows of contracts worked out by hand.
 
-use crate::{Rows, of_term, to_term};
+use crate::{Arena, Rows, copy_row, enter, of_term, rows_at, to_term};
 use poets_expr::{Expr, Op, build as make};
 use poets_syntax::{Binders, Term, build, copy, same};
 use poets_value::{List, Memory, Name, push};
@@ -69,5 +69,30 @@ fn equal_applications_are_one_row(rt: HostRuntime) -> Result<(), Memory> {
     let (count, is_same) = rows_of(rt.alloc(), &term)?;
     assert_eq!(rt; count, 3);
     assert!(rt; is_same);
+    Ok(())
+}
+
+#[test]
+fn the_rows_of_one_row_are_those_that_it_reaches(rt: HostRuntime) -> Result<(), Memory> {
+    let mut arena = Arena::new(rt.alloc());
+    let ways = two_ways(rt.alloc())?;
+    let root = enter(rt.alloc(), &mut arena, &ways)?;
+    let usd = of_kind(rt.alloc(), USD, Term::Success)?;
+    let place = enter(rt.alloc(), &mut arena, &usd)?;
+    assert_eq!(rt; arena.len(), 6);
+    assert_eq!(rt; rows_at(rt.alloc(), &arena, root)?.count(), 6);
+    assert_eq!(rt; rows_at(rt.alloc(), &arena, place)?.count(), 2);
+    Ok(())
+}
+
+#[test]
+fn rows_of_two_tables_are_joined(rt: HostRuntime) -> Result<(), Memory> {
+    let mut arena = Arena::new(rt.alloc());
+    let usd = of_kind(rt.alloc(), USD, Term::Success)?;
+    let place = enter(rt.alloc(), &mut arena, &usd)?;
+    let rows = of_term(rt.alloc(), &usd)?;
+    let copy = copy_row(rt.alloc(), rows.arena(), rows.root(), &mut arena)?;
+    assert_eq!(rt; copy, place);
+    assert_eq!(rt; arena.len(), 2);
     Ok(())
 }

@@ -1,9 +1,7 @@
 use Rattle.std.proofs.Common.{◌≡◌, ◌∙◌, subst, sym, length, map}
-use Rattle.std.specs.List.{All}
 use Rattle.indexmap.specs.IndexSet.{insert_key}
-use Rattle.poets_cons.specs.Row.{row_of, parts_of, contract_by}
+use Rattle.poets_cons.specs.Row.{row_of}
 use Rattle.poets_cons.specs.Table.{rows_of, contract_at, IsTable, Stands, Extends}
-use Rattle.poets_cons.proofs.Belows.{parts_below}
 use Rattle.poets_cons.proofs.Adding.{same_node, added_grows, added_table, added_reached, row_found}
 use Rattle.poets_cons.proofs.Standing.{stands_by}
 use Rattle.poets_cons.proofs.arena.Arena.add.Goals as goal
@@ -16,20 +14,20 @@ returns-clause-row c =
 pub invariant_of-self-2 : goal.invariant_of-self-2
 invariant_of-self-2 c =
     added_table c.self.inside.nodes.keys c.insert_full.new.self.keys c.args.node c.self.invariant
-    (rw c.self.view_is (parts_below (length c.args.self.now) (row_of c.args.node) c.requires)) c.in-Ok.ensures.keys c.insert_full.ensures.unique
+    (rw c.self.view_is c.requires) c.in-Ok.ensures.keys c.insert_full.ensures.unique
 
 pub returns-clause-stands : goal.returns-clause-stands
 returns-clause-stands c =
     let new = c.insert_full.new.self.keys in
     let made : new ≡ insert_key same_node c.args.self.now c.args.node = rw c.self.view_is at c.in-Ok.ensures.keys in
     let table : IsTable c.args.self.now = rw c.self.view_is at c.self.invariant in
-    let grows = added_grows c.args.self.now new c.args.node table (parts_below (length c.args.self.now) (row_of c.args.node) c.requires) made c.insert_full.ensures.unique in
-    let all = added_table c.args.self.now new c.args.node table (parts_below (length c.args.self.now) (row_of c.args.node) c.requires) made c.insert_full.ensures.unique in
-    stands_by c.args.self.now new grows all.earlier c.in-Ok.place (row_of c.args.node) (returns-clause-row c) (parts_below (length c.args.self.now) (row_of c.args.node) c.requires)
+    let grows = added_grows c.args.self.now new c.args.node table c.requires made c.insert_full.ensures.unique in
+    let all = added_table c.args.self.now new c.args.node table c.requires made c.insert_full.ensures.unique in
+    stands_by c.args.self.now new grows all.earlier c.in-Ok.place (row_of c.args.node) (returns-clause-row c) c.requires
 
 pub returns-clause-reached : goal.returns-clause-reached
 returns-clause-reached c =
     let new = c.insert_full.new.self.keys in
     let made : new ≡ insert_key same_node c.args.self.now c.args.node = rw c.self.view_is at c.in-Ok.ensures.keys in
     let table : IsTable c.args.self.now = rw c.self.view_is at c.self.invariant in
-    added_reached c.args.self.now new c.args.node table (parts_below (length c.args.self.now) (row_of c.args.node) c.requires) made c.insert_full.ensures.unique c.in-Ok.place (returns-clause-row c)
+    added_reached c.args.self.now new c.args.node table c.requires made c.insert_full.ensures.unique c.in-Ok.place (returns-clause-row c)
