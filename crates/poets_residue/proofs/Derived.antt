@@ -15,10 +15,11 @@ use Rattle.poets_syntax.specs.Width.{size, width}
 use Rattle.poets_norm.specs.Questions.{questions, operated}
 use Rattle.poets_cons.specs.declared.node.Node.{Node}
 use Rattle.poets_cons.specs.Table.{contract_at, Stands, Extends}
-use Rattle.poets_cons.proofs.Reaching.{one_ok}
+use Rattle.poets_cons.proofs.Reaching.{both_ok, one_ok}
 use Rattle.poets_cons.proofs.Standing.{contract_at-later, length-extends, stands_later}
 use Rattle.poets_residue.specs.Notes.{AreNotes, IsDerived, AsksInWidth}
 use Rattle.poets_residue.specs.Unfolding.{IsStudied}
+use Rattle.poets_residue.proofs.Kept.{after_at-failure}
 use Rattle.poets_residue.proofs.Noted.{notes_later, noted_stands, noted_notes, known_stands, plus_stands, par_stands, seq_stands, over_stands}
 use Rattle.poets_residue.proofs.Widths.{width-plus, width-par, width-seq, width-first, size-width, asks-unfolding, asks-unfolded}
 
@@ -49,11 +50,21 @@ module _ (book : Definitions) (marks : Marks) (e : Event) where
   pub noted_derived : (old new : List Node) → Extends old new → (place next : ℕ) → place < length old → (notes more : ℕ → Option ℕ) →
       IsDerived book marks e new notes (contract_at old place) next → {E : Type 0} (r : Result ℕ E) → IfOk r (λ p. p ≡ next) →
       IfOk r (λ _. (k : ℕ) → more k ≡ cond (nat_eq place k) (Some next) (notes k)) → IfOk r (IsDerived book marks e new more (contract_at old place))
-  noted_derived old new x place next l notes more d (Ok p) same all = record {
-    notes = noted_notes book marks e old new x place next l d.stands (Ok p) notes more d.notes all;
-    stands = noted_stands book marks e old new x place next l d.stands (Ok p) same;
+  noted_derived old new x place next l notes more d r same all =
+      both_ok (λ p. Stands new p (after book marks e (contract_at old place))) (λ _. AreNotes book marks e new more) (IsDerived book marks e new more (contract_at old place)) r
+      (λ p s n. record { notes = n; stands = s }) (noted_stands book marks e old new x place next l d.stands r same)
+      (noted_notes book marks e old new x place next l d.stands r notes more d.notes all)
+
+  -- `Failure` is its own residual
+  pub failure_derived : (nodes : List Node) (memo : ℕ → Option ℕ) → AreNotes book marks e nodes memo → (place : ℕ) → place < length nodes →
+      contract_at nodes place ≡ Failure → IsDerived book marks e nodes memo (contract_at nodes place) place
+  failure_derived nodes memo all place l whole = record {
+    notes = all;
+    stands = record {
+      within = l;
+      contract = whole ∙ sym (after_at-failure (length book.templates) book marks e) ∙ ap (after book marks e) (sym whole);
+    };
   }
-  noted_derived old new x place next l notes more d (Err w) same all = tt
 
   -- one that was made while the notes stayed
   pub made_derived : (old new : List Node) → Extends old new → (notes : ℕ → Option ℕ) → AreNotes book marks e old notes → (c d : Contract) → d ≡ after book marks e c →
@@ -131,7 +142,7 @@ module _ (book : Definitions) (marks : Marks) where
 
       pub seq_asked : nullable marks a ≡ true → AsksInWidth book marks (Seq a b) x z
       seq_asked h =
-          let whole = rw h at width-seq book marks a b in
+          let whole = rw h at (width-seq book marks a b) in
           omega (arith, first, second, whole)
 
   -- each part is less wide than the whole
@@ -140,7 +151,7 @@ module _ (book : Definitions) (marks : Marks) where
 
   pub second_narrower : (a b : Contract) → nullable marks a ≡ true → width book marks b < width book marks (Seq a b)
   second_narrower a b h =
-      let whole = rw h at width-seq book marks a b in
+      let whole = rw h at (width-seq book marks a b) in
       omega (arith, whole)
 
 -- contracts with one residual

@@ -1,7 +1,6 @@
 -- Transmits and applications that stand ready.
 use Rattle.std.proofs.Common.{◌≡◌, ℕ, zero, suc, ◌+◌, ◌≤◌, ◌<◌, Bool, true, false, not, ◌||◌, arith, List, [], ◌∷◌, ◌++◌, length, refl, sym, ◌∙◌, ap, ap₂, subst, Some, None, inl, inr, ◌⊎◌, if◌then◌else◌}
-use Rattle.std.specs.Prelude.{list_any}
-use Rattle.std.specs.List.{IsDistinct, AllByRecursion}
+use Rattle.std.specs.List.{IsDistinct, AllByRecursion, list_any}
 use Rattle.std.proofs.lemmas.List.Folds.{list_any-append}
 use Rattle.std.proofs.lemmas.Map.Keys.{IsDistinct-cons, IsDistinct-head, IsDistinct-tail}
 use Rattle.poets_value.specs.declared.value.Name.{Name}
@@ -195,7 +194,7 @@ module _ (book : Definitions) (marks : Marks) where
         elim (among_two d (ready_by u marks a) (if nullable marks a then ready_by u marks b else []) m) [
           | inl n ↦ omega (arith, width-first book marks a b, narrow_by u w a h.0 d n)
           | inr n ↦ elim (truth (nullable marks a)) [
-            | inl k ↦ (let whole = rw k at width-seq book marks a b in omega (arith, whole, narrow_by u w b h.1 d (rw k at n)))
+            | inl k ↦ (let whole = rw k at (width-seq book marks a b) in omega (arith, whole, narrow_by u w b h.1 d (rw k at n)))
             | inr k ↦ (let none = rw k at n in absurd cc)
           ]
         ]
@@ -212,7 +211,7 @@ module _ (book : Definitions) (marks : Marks) where
           | inl none ↦ (let z : IsAmong x [] = rw (none, ready_at-failure n) at y in absurd cc)
           | inr t ↦ (
               let z : IsAmong x (ready_at n book marks (body_of book marks (Some t.0) args)) = rw t.1 at y in
-              let fits : CountsFit book (body_of book marks (Some t.0) args) = rw t.1 at CountsFit-body book marks study.fit f args in
+              let fits : CountsFit book (body_of book marks (Some t.0) args) = rw t.1 at (CountsFit-body book marks study.fit f args) in
               omega (arith, narrow n (body_of book marks (Some t.0) args) fits x z, body-smaller book marks study f args t.0 t.1 k)
               )
         ]) c h d m
@@ -231,5 +230,5 @@ module _ (book : Definitions) (marks : Marks) where
         -- an application is not ready in its own body
         pub app_not_in_body : IsAmong (App f args) (ready book marks (body_of book marks (Some t) args)) → ⊥
         app_not_in_body m =
-            let fits : CountsFit book (body_of book marks (Some t) args) = rw q at CountsFit-body book marks study.fit f args in
+            let fits : CountsFit book (body_of book marks (Some t) args) = rw q at (CountsFit-body book marks study.fit f args) in
             absurd (omega (arith, narrow (length book.templates) (body_of book marks (Some t) args) fits (App f args) m, body-smaller book marks study f args t q h))

@@ -10,6 +10,7 @@ use Rattle.poets_syntax.specs.Book.{Definitions, template_in}
 use Rattle.poets_syntax.specs.Marks.{Marks, nullable}
 use Rattle.poets_syntax.specs.Residual.{body_of}
 use Rattle.poets_syntax.specs.Width.{body_in}
+use Rattle.poets_norm.specs.Questions.{operated}
 
 -- the transmits and applications in unguarded positions, where `unfolded` gives those of an application's body
 abbrev pub ready_by : (Name → List Expression → List Contract) → Marks → Contract → List Contract
@@ -30,10 +31,11 @@ ready_at (suc d) book marks c = ready_by (λ f args. ready_at d book marks (body
 abbrev pub ready : Definitions → Marks → Contract → List Contract
 ready book marks c = ready_at (length book.templates) book marks c
 
--- what one of them asks at most: a transmit its predicate and the arguments of its continuation, an application those of its template's body
+-- what one of them asks at most: a transmit its predicate and the arguments of its continuation, an application its own
+-- arguments that are neither literals nor names, and the arguments of its template's body
 abbrev pub asked_of : Definitions → Contract → ℕ
 asked_of book (Transmit b p c) = 1 + arguments c
-asked_of book (App f args) = body_in (template_in book.templates f) arguments
+asked_of book (App f args) = sum_by operated args + body_in (template_in book.templates f) arguments
 asked_of book _ = 0
 
 -- the sum over the different ones

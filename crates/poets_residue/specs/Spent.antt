@@ -1,6 +1,6 @@
 -- What a call that derives a contract asks, by the transmits and applications that it begins.
-use Rattle.std.specs.Prelude.{◌≡◌, ◌+◌, ◌≤◌, ℕ, true, List, list_any, sum_by, Option, Some, Result, IfOk}
-use Rattle.std.specs.List.{IsDistinct}
+use Rattle.std.specs.Prelude.{◌≡◌, ◌+◌, ◌≤◌, ◌⊎◌, ℕ, true, List, sum_by, Option, Some, Result, IfOk}
+use Rattle.std.specs.List.{IsDistinct, list_any}
 use Rattle.poets_syntax.specs.Contract.{Contract}
 use Rattle.poets_syntax.specs.Same.{same_contract}
 use Rattle.poets_syntax.specs.Book.{Definitions}
@@ -16,6 +16,10 @@ IsAmong c cs = list_any (same_contract c) cs ≡ true
 -- the residual of the contract is noted
 abbrev pub IsNoted : List Node → (ℕ → Option ℕ) → Contract → Type 0
 IsNoted nodes memo c = (k : ℕ) × (v : ℕ) × (memo k ≡ Some v) × (contract_at nodes k ≡ c)
+
+-- or it is the contract itself
+abbrev pub IsNotedBut : Contract → List Node → (ℕ → Option ℕ) → Contract → Type 0
+IsNotedBut c nodes memo d = (d ≡ c) ⊎ IsNoted nodes memo d
 
 -- different transmits and applications that stand ready in the contract and were not noted before the call pay for what it asks;
 -- where it has a result they are noted after it, beside those that were

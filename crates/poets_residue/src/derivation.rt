@@ -1,5 +1,5 @@
 //! Residuals of contracts as rows, each different row derived once.
-ghost use Rattle.std.specs.Prelude.{◌≡◌, ◌+◌, ◌≤◌, ◌<◌, IfOk, length, nat_eq};
+ghost use Rattle.std.specs.Prelude.{◌≡◌, ◌+◌, ◌≤◌, ◌<◌, IfOk, None, length, nat_eq};
 ghost use Rattle.indexmap.specs.IndexMap.{get};
 ghost use Rattle.poets_syntax.specs.Applied.{CountsFit};
 ghost use Rattle.poets_syntax.specs.Book.{definitions_of};
@@ -9,13 +9,16 @@ ghost use Rattle.poets_syntax.specs.Studied.{marks_of};
 ghost use Rattle.poets_syntax.specs.Width.{width};
 ghost use Rattle.poets_cons.specs.Table.{contract_at, contract_of_rows, Extends};
 ghost use Rattle.poets_residue.specs.Notes.{AreNotes, IsDerived, AsksInWidth};
+ghost use Rattle.poets_residue.specs.Once.{once as once_lem};
+ghost use Rattle.poets_residue.specs.Spent.{IsNoted, IsNotedBut, IsSpent};
 ghost use Rattle.poets_residue.specs.Unfolding.{IsStudied};
 
 use crate::bodies::unfold;
 use crate::joining::{either, failure, seq};
-use crate::shared::{is_joined, may_end_at, note, sides, transmit_at};
+use crate::shared::{is_joined, may_end_at, note, sides};
+use crate::transmits::transmit_at;
 use indexmap::IndexMap;
-use poets_cons::{Arena, Node, Rows, enter, of_term, term_at, to_term};
+use poets_cons::{Arena, Node, Rows, copy_row, enter, rows_at};
 use poets_expr::Asks;
 use poets_syntax::Studied;
 use poets_value::{Event, Memory};
@@ -40,6 +43,7 @@ fn derive<L>(
     ensures derived { IfOk result (IsDerived (definitions_of studied.now.book) (marks_of studied.now) event.now arena.new (get nat_eq memo.new) (contract_at arena.old place)) }
     ensures rises { asks.old ≤ asks.new }
     ensures asks { AsksInWidth (definitions_of studied.now.book) (marks_of studied.now) (contract_at arena.old place) asks.old asks.new }
+    ensures once { IsSpent (definitions_of studied.now.book) (marks_of studied.now) (contract_at arena.old place) (IsNoted arena.old (get nat_eq memo.old)) (IsNoted arena.new (get nat_eq memo.new)) asks.old asks.new result }
 {
     if let Some(known) = memo.get(&place) {
         return Ok(*known);
@@ -63,13 +67,16 @@ fn derive_anew<L>(
     requires within { place < length arena.old }
     requires fits { CountsFit (definitions_of studied.now.book) (contract_at arena.old place) }
     requires notes { AreNotes (definitions_of studied.now.book) (marks_of studied.now) event.now arena.old (get nat_eq memo.old) }
+    requires new { get nat_eq memo.old place ≡ None }
     ensures grows { Extends arena.old arena.new }
     ensures derived { IfOk result (IsDerived (definitions_of studied.now.book) (marks_of studied.now) event.now arena.new (get nat_eq memo.new) (contract_at arena.old place)) }
     ensures rises { asks.old ≤ asks.new }
     ensures asks { AsksInWidth (definitions_of studied.now.book) (marks_of studied.now) (contract_at arena.old place) asks.old asks.new }
+    ensures once { IsSpent (definitions_of studied.now.book) (marks_of studied.now) (contract_at arena.old place) (IsNoted arena.old (get nat_eq memo.old)) (IsNotedBut (contract_at arena.old place) arena.new (get nat_eq memo.new)) asks.old asks.new result }
 {
     match arena.node(place) {
-        Node::Success | Node::Failure => failure(arena),
+        Node::Success => failure(arena),
+        Node::Failure => Ok(place),
         Node::Transmit {
             binders,
             when,
@@ -125,6 +132,7 @@ fn derive_plus<L>(
     ensures derived { IfOk result (IsDerived (definitions_of studied.now.book) (marks_of studied.now) event.now arena.new (get nat_eq memo.new) (Plus (contract_at arena.old a) (contract_at arena.old b))) }
     ensures rises { asks.old ≤ asks.new }
     ensures asks { AsksInWidth (definitions_of studied.now.book) (marks_of studied.now) (Plus (contract_at arena.old a) (contract_at arena.old b)) asks.old asks.new }
+    ensures once { IsSpent (definitions_of studied.now.book) (marks_of studied.now) (Plus (contract_at arena.old a) (contract_at arena.old b)) (IsNoted arena.old (get nat_eq memo.old)) (IsNoted arena.new (get nat_eq memo.new)) asks.old asks.new result }
 {
     let after_a = derive(alloc, studied, event, arena, memo, a, asks)?;
     let after_b = derive(alloc, studied, event, arena, memo, b, asks)?;
@@ -154,6 +162,7 @@ fn derive_par<L>(
     ensures derived { IfOk result (IsDerived (definitions_of studied.now.book) (marks_of studied.now) event.now arena.new (get nat_eq memo.new) (Par (contract_at arena.old a) (contract_at arena.old b))) }
     ensures rises { asks.old ≤ asks.new }
     ensures asks { AsksInWidth (definitions_of studied.now.book) (marks_of studied.now) (Par (contract_at arena.old a) (contract_at arena.old b)) asks.old asks.new }
+    ensures once { IsSpent (definitions_of studied.now.book) (marks_of studied.now) (Par (contract_at arena.old a) (contract_at arena.old b)) (IsNoted arena.old (get nat_eq memo.old)) (IsNoted arena.new (get nat_eq memo.new)) asks.old asks.new result }
 {
     let after_a = derive(alloc, studied, event, arena, memo, a, asks)?;
     let after_b = derive(alloc, studied, event, arena, memo, b, asks)?;
@@ -181,6 +190,7 @@ fn derive_seq<L>(
     ensures derived { IfOk result (IsDerived (definitions_of studied.now.book) (marks_of studied.now) event.now arena.new (get nat_eq memo.new) (Seq (contract_at arena.old a) (contract_at arena.old b))) }
     ensures rises { asks.old ≤ asks.new }
     ensures asks { AsksInWidth (definitions_of studied.now.book) (marks_of studied.now) (Seq (contract_at arena.old a) (contract_at arena.old b)) asks.old asks.new }
+    ensures once { IsSpent (definitions_of studied.now.book) (marks_of studied.now) (Seq (contract_at arena.old a) (contract_at arena.old b)) (IsNoted arena.old (get nat_eq memo.old)) (IsNoted arena.new (get nat_eq memo.new)) asks.old asks.new result }
 {
     let after_a = derive(alloc, studied, event, arena, memo, a, asks)?;
     let first = seq(arena, after_a, b)?;
@@ -204,14 +214,15 @@ pub fn residual_rows<L>(
     ensures residual { IfOk result (λ r. contract_of_rows r ≡ after (definitions_of studied.now.book) (marks_of studied.now) event.now (contract_of_rows rows.now)) }
     ensures rises { asks.old ≤ asks.new }
     ensures asks { asks.new ≤ asks.old + width (definitions_of studied.now.book) (marks_of studied.now) (contract_of_rows rows.now) }
+    ensures once { asks.new ≤ asks.old + once_lem (definitions_of studied.now.book) (marks_of studied.now) (contract_of_rows rows.now) }
 {
     // The book is checked and guarded, and the marks are right.
     let _book = studied.book();
-    let term = to_term(alloc, rows)?;
+    let table = rows.arena();
+    let root = rows.root();
     let mut arena = Arena::new(alloc);
-    let root = enter(alloc, &mut arena, &term)?;
+    let start = copy_row(alloc, table, root, &mut arena)?;
     let mut memo = IndexMap::new(alloc);
-    let place = derive(alloc, studied, event, &mut arena, &mut memo, root, asks)?;
-    let left = term_at(alloc, &arena, place)?;
-    of_term(alloc, &left)
+    let place = derive(alloc, studied, event, &mut arena, &mut memo, start, asks)?;
+    rows_at(alloc, &arena, place)
 }

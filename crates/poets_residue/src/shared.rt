@@ -1,10 +1,8 @@
-//! Residuals of contracts as rows.
-ghost use Rattle.std.specs.Prelude.{◌≡◌, ◌+◌, ◌≤◌, ◌<◌, ◌↔◌, ℕ, IfOk, IsTrue, length, nat_eq, Some, cond, []};
+//! Contracts as rows that may end, and the joined residuals of their parts.
+ghost use Rattle.std.specs.Prelude.{◌≡◌, ◌<◌, ◌↔◌, ℕ, IfOk, IsTrue, length, nat_eq, Some, cond, []};
 ghost use Rattle.indexmap.specs.IndexMap.{get};
-ghost use Rattle.poets_expr.specs.Expression.{expression_of};
 ghost use Rattle.poets_syntax.specs.Applied.{CountsFit};
 ghost use Rattle.poets_syntax.specs.Book.{definitions_of};
-ghost use Rattle.poets_syntax.specs.Contract.{contract_of, Transmit};
 ghost use Rattle.poets_syntax.specs.Marks.{nullable as nullable_lem};
 ghost use Rattle.poets_syntax.specs.Normal.{plus as plus_lem, par as par_lem};
 ghost use Rattle.poets_syntax.specs.Perf.{Perf};
@@ -12,18 +10,14 @@ ghost use Rattle.poets_syntax.specs.Residual.{after};
 ghost use Rattle.poets_syntax.specs.Studied.{marks_of};
 ghost use Rattle.poets_value.specs.declared.event.Event.{Event as TheEvent};
 ghost use Rattle.poets_norm.specs.Choices.{IsDistinctChoice};
-ghost use Rattle.poets_norm.specs.Questions.{questions};
 ghost use Rattle.poets_cons.specs.Table.{contract_at, contract_of_rows, Stands, Extends};
 
 use crate::endings::is_marked;
 use crate::joining::{either, par};
-use crate::residuals::{holds, taken_on};
 use indexmap::IndexMap;
-use poets_cons::{Arena, Node, Rows, term_at};
-use poets_expr::{Asks, Expr};
-use poets_syntax::{Binders, Studied, Term};
-use poets_value::{Event, Memory};
-use std::alloc::Global;
+use poets_cons::{Arena, Node, Rows};
+use poets_syntax::Studied;
+use poets_value::Memory;
 
 /// Whether the empty trace performs the contract of the rows.
 pub fn may_end_rows(studied: &Studied, rows: &Rows) -> bool
@@ -73,29 +67,6 @@ pub(crate) fn note(memo: &mut IndexMap<usize, usize>, place: usize, next: usize)
         return Err(Memory);
     };
     Ok(next)
-}
-
-// The residual of a transmission whose continuation is a row.
-pub(crate) fn transmit_at<L>(
-    alloc: Global,
-    studied: &Studied,
-    event: &Event,
-    arena: &Arena,
-    binders: &Binders,
-    when: &Expr,
-    then: usize,
-    asks: &mut Asks<L>,
-) -> Result<Term, Memory>
-    requires { then < length arena.now }
-    ensures residual { IfOk result (λ r. contract_of r ≡ after (definitions_of studied.now.book) (marks_of studied.now) event.now (Transmit binders.now (expression_of when.now) (contract_at arena.now then))) }
-    ensures rises { asks.old ≤ asks.new }
-    ensures asks { asks.new ≤ asks.old + questions (Transmit binders.now (expression_of when.now) (contract_at arena.now then)) }
-{
-    if !holds(&studied.book().decls, binders, when, event, asks) {
-        return Ok(Term::Failure);
-    }
-    let then = term_at(alloc, arena, then)?;
-    taken_on(alloc, studied, binders, &then, event, asks)
 }
 
 // The event went to the first part, or to the second.

@@ -3,13 +3,14 @@ use Rattle.poets_expr.specs.Env.{declared_of}
 use Rattle.poets_expr.specs.Expression.{expression_of}
 use Rattle.poets_expr.specs.Val.{val}
 use Rattle.poets_syntax.specs.Book.{definitions_of, taken}
+use Rattle.poets_syntax.specs.Arguments.{arguments}
 use Rattle.poets_syntax.specs.Contract.{contract_of}
 use Rattle.poets_syntax.specs.Residual.{is_true}
 use Rattle.poets_syntax.specs.Studied.{marks_of}
 use Rattle.poets_norm.specs.Questions.{questions}
 use Rattle.poets_cons.specs.Table.{contract_at}
 use Rattle.poets_residue.proofs.Equations.{after-transmit}
-use Rattle.poets_residue.proofs.shared.transmit_at.Goals as goal
+use Rattle.poets_residue.proofs.transmits.transmit_at.Goals as goal
 
 pub returns-clause-residual : goal.returns-clause-residual
 returns-clause-residual g c =
@@ -27,3 +28,8 @@ pub returns-clause-asks : goal.returns-clause-asks
 returns-clause-asks g c =
     let q = ap questions c.in_ok-then.ensures in
     omega (arith, c.taken_on.ensures.asks, c.holds.ensures.asks, q)
+
+pub returns-clause-once : goal.returns-clause-once
+returns-clause-once g c =
+    let q = ap arguments c.in_ok-then.ensures in
+    omega (arith, c.taken_on.ensures.arguments, c.holds.ensures.asks, q)
