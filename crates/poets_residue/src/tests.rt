@@ -258,14 +258,16 @@ fn without_a_template_an_application_takes_nothing(rt: HostRuntime) -> Result<()
     Ok(())
 }
 
-// transmit(a, b, r, t | kind(r) = kind). then
+// transmit(a, b, r, t | kind(r) = kind([1 kind])). then, where no name is declared
 fn of_kind(alloc: Global, kind: Name, then: Term) -> Result<Term, Memory>
     requires { CountsFit (counting_lem BINDERS F N) (contract_of then) }
     ensures { IfOk result (λ c. CountsFit (counting_lem BINDERS F N) (contract_of c)) }
 {
     let found = Expr::KindOf(make::boxed(alloc, Expr::Name(R))?);
     let found = make::boxed(alloc, found)?;
-    let when = Expr::Op(Op::Eq, found, make::boxed(alloc, Expr::Name(kind))?);
+    let wanted = make::boxed(alloc, Expr::Res(Resource { kind, amount: 1 }))?;
+    let wanted = Expr::KindOf(wanted);
+    let when = Expr::Op(Op::Eq, found, make::boxed(alloc, wanted)?);
     build::transmit(alloc, BINDERS, when, then)
 }
 
@@ -354,15 +356,15 @@ fn width_of(alloc: Global, term: &Term) -> Result<u64, Memory>
 #[test]
 fn the_width_of_rows_is_cut(rt: HostRuntime) -> Result<(), Memory> {
     let both = both_want_oil(rt.alloc())?;
-    // Six nodes of O. Success, eleven of O. U. Success, and their node.
-    assert_eq!(rt; width_of(rt.alloc(), &both)?, 18);
+    // Seven nodes of O. Success, thirteen of O. U. Success, and their node.
+    assert_eq!(rt; width_of(rt.alloc(), &both)?, 21);
     // One node and those of the body, as its mark says.
     let counted = counted(rt.alloc(), Expr::Int(1))?;
     assert_eq!(rt; width_of(rt.alloc(), &counted)?, 13);
-    // Seven nodes for each but the first.
-    let many = side_by_side(rt.alloc(), 143)?;
-    assert_eq!(rt; width_of(rt.alloc(), &many)?, 1000);
-    let more = side_by_side(rt.alloc(), 144)?;
+    // Seven nodes of each, and one less of those between them.
+    let many = side_by_side(rt.alloc(), 125)?;
+    assert_eq!(rt; width_of(rt.alloc(), &many)?, 999);
+    let more = side_by_side(rt.alloc(), 126)?;
     assert_eq!(rt; width_of(rt.alloc(), &more)?, 1001);
     Ok(())
 }
