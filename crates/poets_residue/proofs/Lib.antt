@@ -11,5 +11,4 @@ pub mod Joined
 pub mod Arguments
 pub mod StudiedExample
 pub mod TypedResiduals
-pub mod RowChoices
 pub mod Noted

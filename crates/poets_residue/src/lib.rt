@@ -3,7 +3,7 @@
 
 mod bodies;
 mod endings;
-mod joining;
+
 pub mod laws;
 mod residuals;
 mod shared;

@@ -16,7 +16,7 @@ ghost use Rattle.poets_norm.specs.Questions.{questions};
 ghost use Rattle.poets_cons.specs.Table.{contract_at, contract_of_rows, Stands, Extends};
 
 use crate::endings::is_marked;
-use crate::joining::{either, par};
+use poets_norm::joining::{either, par};
 use crate::residuals::{holds, taken_on};
 use indexmap::IndexMap;
 use poets_cons::{Arena, Node, Rows, term_at};
