@@ -11,7 +11,6 @@ pub mod Joined
 pub mod Arguments
 pub mod StudiedExample
 pub mod TypedResiduals
-pub mod RowChoices
 pub mod Noted
 mod Derived
 mod Ready

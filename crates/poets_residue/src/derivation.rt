@@ -14,12 +14,12 @@ ghost use Rattle.poets_residue.specs.Spent.{IsNoted, IsNotedBut, IsSpent};
 ghost use Rattle.poets_residue.specs.Unfolding.{IsStudied};
 
 use crate::bodies::unfold;
-use crate::joining::{either, failure, seq};
 use crate::shared::{is_joined, may_end_at, note, sides};
 use crate::transmits::transmit_at;
 use indexmap::IndexMap;
 use poets_cons::{Arena, Node, Rows, copy_row, enter, rows_at};
 use poets_expr::Asks;
+use poets_norm::joining::{either, failure, seq};
 use poets_syntax::Studied;
 use poets_value::{Event, Memory};
 use std::alloc::Global;

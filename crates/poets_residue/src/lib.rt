@@ -4,7 +4,6 @@
 mod bodies;
 mod derivation;
 mod endings;
-mod joining;
 pub mod laws;
 mod residuals;
 mod row_widths;

@@ -13,9 +13,9 @@ ghost use Rattle.poets_norm.specs.Choices.{IsDistinctChoice};
 ghost use Rattle.poets_cons.specs.Table.{contract_at, contract_of_rows, Stands, Extends};
 
 use crate::endings::is_marked;
-use crate::joining::{either, par};
 use indexmap::IndexMap;
 use poets_cons::{Arena, Node, Rows};
+use poets_norm::joining::{either, par};
 use poets_syntax::Studied;
 use poets_value::Memory;
 

@@ -5,8 +5,8 @@ use Rattle.poets_norm.specs.Choices.{distinct_choice}
 use Rattle.poets_cons.specs.Row.{row_of, contract_by}
 use Rattle.poets_cons.specs.Table.{contract_at, Stands, Extends}
 use Rattle.poets_cons.proofs.Reaching.{one_ok}
-use Rattle.poets_residue.proofs.RowChoices.{first_distinct, second_distinct, either_stands}
-use Rattle.poets_residue.proofs.joining.+distinct_choice.Goals as goal
+use Rattle.poets_norm.proofs.RowChoices.{first_distinct, second_distinct, either_stands}
+use Rattle.poets_norm.proofs.joining.+distinct_choice.Goals as goal
 
 pub merge-requires-clause-first : goal.merge-requires-clause-first
 merge-requires-clause-first t c =

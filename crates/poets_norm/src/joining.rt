@@ -1,4 +1,4 @@
-//! The builders of normal forms over tables of rows.
+//! The builders of normal forms in tables of rows. Alternatives are compared by the numbers of their rows.
 ghost use Rattle.std.specs.Prelude.{◌≡◌, ◌<◌, IfOk, IsTrue, length, if◌then◌else◌};
 ghost use Rattle.poets_syntax.specs.Contract.{Failure, Plus};
 ghost use Rattle.poets_syntax.specs.Normal.{alternatives, plus as plus_lem, par as par_lem, seq as seq_lem};
@@ -8,16 +8,16 @@ ghost use Rattle.poets_cons.specs.Table.{contract_at, Stands, Extends};
 use poets_cons::{Arena, Node};
 use poets_value::Memory;
 
-// The row of `Failure`.
-pub(crate) fn failure(arena: &mut Arena) -> Result<usize, Memory>
+/// The row of `Failure`.
+pub fn failure(arena: &mut Arena) -> Result<usize, Memory>
     ensures grows { Extends arena.old arena.new }
     ensures stands { IfOk result (λ p. Stands arena.new p Failure) }
 {
     arena.add(Node::Failure)
 }
 
-// Both rows side by side: `Failure` where one is, and the other where one is `Success`.
-pub(crate) fn par(arena: &mut Arena, a: usize, b: usize) -> Result<usize, Memory>
+/// Both rows side by side: `Failure` where one is, and the other where one is `Success`.
+pub fn par(arena: &mut Arena, a: usize, b: usize) -> Result<usize, Memory>
     requires first { a < length arena.old }
     requires second { b < length arena.old }
     ensures grows { Extends arena.old arena.new }
@@ -32,8 +32,8 @@ pub(crate) fn par(arena: &mut Arena, a: usize, b: usize) -> Result<usize, Memory
     }
 }
 
-// One row and then the other: `Failure` where one is, and the other where one is `Success`.
-pub(crate) fn seq(arena: &mut Arena, a: usize, b: usize) -> Result<usize, Memory>
+/// One row and then the other: `Failure` where one is, and the other where one is `Success`.
+pub fn seq(arena: &mut Arena, a: usize, b: usize) -> Result<usize, Memory>
     requires first { a < length arena.old }
     requires second { b < length arena.old }
     ensures grows { Extends arena.old arena.new }
@@ -74,9 +74,9 @@ fn add(arena: &mut Arena, choice: usize, last: usize, is_known: bool) -> Result<
     arena.add(Node::Plus(choice, last))
 }
 
-// The choice of two choices of distinct alternatives: the first as it stands, and after it
-// those alternatives of the second that it has not.
-pub(crate) fn merge(arena: &mut Arena, a: usize, b: usize) -> Result<usize, Memory>
+/// The choice of two choices of distinct alternatives: the first as it stands, and after it
+/// those alternatives of the second that it has not.
+pub fn merge(arena: &mut Arena, a: usize, b: usize) -> Result<usize, Memory>
     requires within_first { a < length arena.old }
     requires within_second { b < length arena.old }
     requires first { IsDistinctChoice (contract_at arena.old a) }
@@ -101,8 +101,8 @@ pub(crate) fn merge(arena: &mut Arena, a: usize, b: usize) -> Result<usize, Memo
     }
 }
 
-// The choice of the distinct alternatives of a row.
-pub(crate) fn distinct_choice(arena: &mut Arena, place: usize) -> Result<usize, Memory>
+/// The choice of the distinct alternatives of a row.
+pub fn distinct_choice(arena: &mut Arena, place: usize) -> Result<usize, Memory>
     requires { place < length arena.old }
     ensures grows { Extends arena.old arena.new }
     ensures stands { IfOk result (λ p. Stands arena.new p (distinct_choice_lem (contract_at arena.old place))) }
@@ -132,8 +132,8 @@ fn as_choice(arena: &mut Arena, place: usize, is_known: bool) -> Result<usize, M
     distinct_choice(arena, place)
 }
 
-// The choice of two rows, which may be known to be choices of distinct alternatives.
-pub(crate) fn either(
+/// The choice of two rows, which may be known to be choices of distinct alternatives.
+pub fn either(
     arena: &mut Arena,
     a: usize,
     is_a_known: bool,

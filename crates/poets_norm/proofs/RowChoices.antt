@@ -4,11 +4,14 @@ use Rattle.std.specs.Cmp.{both_ways}
 use Rattle.std.proofs.lemmas.List.{length-map}
 use borrow.Author.Tests.{eqb-true}
 use Rattle.poets_syntax.specs.Contract.{Contract, Failure, Plus}
+use Rattle.poets_syntax.specs.Book.{Definitions}
+use Rattle.poets_syntax.specs.Marks.{Marks}
 use Rattle.poets_syntax.specs.Same.{same_contract}
-use Rattle.poets_syntax.specs.Normal.{alternatives, plus}
+use Rattle.poets_syntax.specs.Normal.{alternatives, plus, normal}
 use Rattle.poets_syntax.proofs.SameContracts.{contract_one, contract_itself}
 use Rattle.poets_norm.specs.Choices.{distinct_choice, holds_equal, IsDistinctChoice}
 use Rattle.poets_norm.proofs.Alternatives.{IsOne, alternatives-one, front_of, plus-front, plus-one, plus-distinct, distinct_choice-twice}
+use Rattle.poets_norm.proofs.NormalForms.{normal_is_distinct}
 use Rattle.poets_cons.specs.declared.node.Node.{Node}
 use Rattle.poets_cons.specs.declared.node.Node.TheVariants as N
 use Rattle.poets_cons.specs.Row.{row_of, contract_by}
@@ -108,3 +111,8 @@ single part _ h = refl
 pub single_at : (nodes : List Node) (i : ℕ) (n : Node) → contract_at nodes i ≡ contract_by (contract_at nodes) (row_of n) → ((a b : ℕ) → n ≡ N.Plus a b → ⊥) →
     contract_at nodes i ≡ distinct_choice (contract_at nodes i)
 single_at nodes i n here h = here ∙ single (contract_at nodes) n h ∙ ap distinct_choice (sym here)
+
+-- the row of a normal form is a choice of distinct alternatives
+pub normal_distinct : (book : Definitions) (marks : Marks) (nodes : List Node) (p : ℕ) (c : Contract) → Stands nodes p (normal book marks c) →
+    IsDistinctChoice (contract_at nodes p)
+normal_distinct book marks nodes p c s = subst IsDistinctChoice (sym s.contract) (normal_is_distinct book marks c)

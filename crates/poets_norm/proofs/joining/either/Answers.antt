@@ -4,8 +4,8 @@ use Rattle.poets_norm.specs.Choices.{distinct_choice, IsDistinctChoice}
 use Rattle.poets_cons.specs.Table.{contract_at, Stands, Extends}
 use Rattle.poets_cons.proofs.Reaching.{one_ok}
 use Rattle.poets_cons.proofs.Standing.{contract_at-later}
-use Rattle.poets_residue.proofs.RowChoices.{first_distinct, second_distinct, either_stands}
-use Rattle.poets_residue.proofs.joining.either.Goals as goal
+use Rattle.poets_norm.proofs.RowChoices.{first_distinct, second_distinct, either_stands}
+use Rattle.poets_norm.proofs.joining.either.Goals as goal
 
 pub as_choice-requires-2-clause-known : goal.as_choice-requires-2-clause-known
 as_choice-requires-2-clause-known c = λ h.

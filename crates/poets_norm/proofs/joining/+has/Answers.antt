@@ -1,5 +1,5 @@
-use Rattle.poets_residue.proofs.RowChoices.{has_other}
-use Rattle.poets_residue.proofs.joining.+has.Goals as goal
+use Rattle.poets_norm.proofs.RowChoices.{has_other}
+use Rattle.poets_norm.proofs.joining.+has.Goals as goal
 
 pub returns-in_default : goal.returns-in_default
 returns-in_default t c =

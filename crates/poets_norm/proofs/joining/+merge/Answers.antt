@@ -7,8 +7,8 @@ use Rattle.poets_cons.specs.Row.{row_of, contract_by}
 use Rattle.poets_cons.specs.Table.{contract_at, Stands, Extends}
 use Rattle.poets_cons.proofs.Reaching.{one_ok}
 use Rattle.poets_cons.proofs.Standing.{extends_twice}
-use Rattle.poets_residue.proofs.RowChoices.{some_at, one_at, front_distinct, merge_front, merge_one}
-use Rattle.poets_residue.proofs.joining.+merge.Goals as goal
+use Rattle.poets_norm.proofs.RowChoices.{some_at, one_at, front_distinct, merge_front, merge_one}
+use Rattle.poets_norm.proofs.joining.+merge.Goals as goal
 
 pub merge-requires : goal.merge-requires
 merge-requires t c =
