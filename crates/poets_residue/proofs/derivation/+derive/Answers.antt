@@ -67,7 +67,7 @@ derive_anew-returns-in-Failure-clause-once g t c =
     let here = contract_at old c.args.place in
     let more : (d : Contract) → IsNoted old memo d → IsNotedBut here old memo d = λ d h. inr h in
     none_spent (definitions_of c.args.studied.now.book) (marks_of c.args.studied.now) here (IsNoted old memo) (IsNotedBut here old memo)
-    c.args.asks.now c.args.asks.now (omega arith) _ (always _ more)
+    c.args.asks.now c.args.asks.now (omega arith) _ more
 
 pub derive_anew-returns-in_default-clause-derived : goal.derive_anew-returns-in_default-clause-derived
 derive_anew-returns-in_default-clause-derived g t c =
@@ -382,7 +382,7 @@ derive-returns-in-Some-clause-once g t c =
     let old = c.args.arena.now in
     let memo = get nat_eq c.args.memo.now in
     let same : (d : Contract) → IsNoted old memo d → IsNoted old memo d = λ d h. h in
-    none_spent book marks (contract_at old c.args.place) (IsNoted old memo) (IsNoted old memo) c.args.asks.now c.args.asks.now (omega arith) _ (always _ same)
+    none_spent book marks (contract_at old c.args.place) (IsNoted old memo) (IsNoted old memo) c.args.asks.now c.args.asks.now (omega arith) _ same
 
 pub derive-returns-in_err-next-clause-once : goal.derive-returns-in_err-next-clause-once
 derive-returns-in_err-next-clause-once g t c =
