@@ -3,7 +3,6 @@
 
 mod bodies;
 mod endings;
-
 pub mod laws;
 mod residuals;
 mod shared;
