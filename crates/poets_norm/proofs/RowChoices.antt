@@ -20,7 +20,7 @@ use Rattle.poets_cons.proofs.Places.{one_place}
 use Rattle.poets_cons.proofs.Standing.{contract_at-later}
 
 -- places are equal where the contracts at them are
-same_place : (nodes : List Node) → IsTable nodes → (i j : ℕ) → i < length nodes → j < length nodes → nat_eq i j ≡ same_contract (contract_at nodes i) (contract_at nodes j)
+pub same_place : (nodes : List Node) → IsTable nodes → (i j : ℕ) → i < length nodes → j < length nodes → nat_eq i j ≡ same_contract (contract_at nodes i) (contract_at nodes j)
 same_place nodes table i j a b =
     let n = length-map nodes row_of in
     both_ways (nat_eq i j) (same_contract (contract_at nodes i) (contract_at nodes j))
@@ -41,7 +41,7 @@ some_of : (part : ℕ → Contract) (n : Node) → (n ≡ N.Failure → ⊥) →
 some_of part N.Failure h e = h refl
 some_of part _ h e = cc
 
-or_none : (b : Bool) → b ≡ (b || false)
+pub or_none : (b : Bool) → b ≡ (b || false)
 or_none true = refl
 or_none false = refl
 

@@ -48,13 +48,18 @@ pub fn seq(arena: &mut Arena, a: usize, b: usize) -> Result<usize, Memory>
     }
 }
 
-// Whether a row is an alternative of the choice at another.
+// Whether a row is an alternative of the choice at another. Alternatives stand no later than their
+// choice, so a row that was added after it is none of them, and nothing is compared.
 fn has(arena: &Arena, choice: usize, place: usize) -> bool
     requires choice { choice < length arena.now }
     requires place { place < length arena.now }
     ensures { result ≡ holds_equal (alternatives (contract_at arena.now choice)) (contract_at arena.now place) }
 {
-    match arena.node(choice) {
+    let node = arena.node(choice);
+    if choice < place {
+        return false;
+    }
+    match node {
         Node::Failure => false,
         Node::Plus(front, last) => has(arena, *last, place) || has(arena, *front, place),
         _ => choice == place,
