@@ -1,5 +1,5 @@
 -- What may be asked: folding answers it, replacing names keeps it, and it is no more than the size.
-use Rattle.std.proofs.Common.{◌≡◌, ℕ, ◌+◌, ◌≤◌, List, [], ◌∷◌, map, refl, sym, ◌∙◌, ap₂, Option, Some, None, inl, inr, arith, sum_by}
+use Rattle.std.proofs.Common.{◌≡◌, ℕ, ◌+◌, ◌≤◌, List, [], ◌∷◌, map, refl, sym, ◌∙◌, ap₂, Option, Some, None, inl, inr, arith, length, sum_by}
 use Rattle.std.proofs.lemmas.List.Sums.{sum_by-cons}
 use Rattle.poets_value.specs.declared.value.Name.{Name}
 use Rattle.poets_value.specs.declared.value.Ty.{Ty}
@@ -71,6 +71,20 @@ operated-le (If a b c) = omega arith
 pub operated_of_all-le : (args : List Expression) → sum_by operated args ≤ nodes_of_all args
 operated_of_all-le [] = omega arith
 operated_of_all-le (a ∷ args) = omega (arith, sum_by-cons operated a args, operated-le a, operated_of_all-le args)
+
+-- no more than one of each argument
+operated-one : (e : Expression) → operated e ≤ 1
+operated-one (Literal v) = omega arith
+operated-one (Undefined t) = omega arith
+operated-one (Named x) = omega arith
+operated-one (Unary o a) = omega arith
+operated-one (Make a b) = omega arith
+operated-one (Binary o a b) = omega arith
+operated-one (If a b c) = omega arith
+
+pub operated_of_all-one : (args : List Expression) → sum_by operated args ≤ length args
+operated_of_all-one [] = omega arith
+operated_of_all-one (a ∷ args) = omega (arith, sum_by-cons operated a args, operated-one a, operated_of_all-one args)
 
 pub questions-le : (c : Contract) → questions c ≤ size c
 questions-le Success = omega arith

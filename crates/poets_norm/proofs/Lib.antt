@@ -16,3 +16,5 @@ pub mod StudiedBooks
 pub mod StudiedExample
 pub mod WholeNormals
 pub mod TypedNormals
+pub mod RowChoices
+pub mod EarlierRows

@@ -3,8 +3,10 @@
 
 mod applications;
 mod choices;
+pub mod joining;
 pub mod laws;
 mod normals;
+mod row_normals;
 #[cfg(test)]
 mod template_tests;
 #[cfg(test)]
@@ -14,4 +16,5 @@ mod widths;
 pub use applications::app;
 pub use choices::{distinct_choice, merge, plus};
 pub use normals::{normal, par, send, seq};
+pub use row_normals::{enter_normal, normal_rows};
 pub use widths::wide;

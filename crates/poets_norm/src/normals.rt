@@ -1,6 +1,7 @@
 //! Normal forms and their builders.
 ghost use Rattle.std.specs.Prelude.{◌≡◌, ◌+◌, ◌≤◌, IfOk};
 ghost use Rattle.poets_expr.specs.Expression.{expression_of};
+ghost use Rattle.poets_syntax.specs.Arguments.{arguments};
 ghost use Rattle.poets_syntax.specs.Book.{definitions_of};
 ghost use Rattle.poets_syntax.specs.Contract.{contract_of};
 ghost use Rattle.poets_syntax.specs.Normal.{par as par_lem, seq as seq_lem, send as send_lem, normal as normal_lem};
@@ -61,6 +62,7 @@ pub fn normal<L>(
     ensures asks { asks.new ≤ asks.old + questions (contract_of term.now) }
     ensures questions { IfOk result (λ r. asks.new + questions (contract_of r) ≤ asks.old + questions (contract_of term.now)) }
     ensures size { asks.new ≤ asks.old + size (contract_of term.now) }
+    ensures arguments { asks.new ≤ asks.old + arguments (contract_of term.now) }
 {
     match term {
         Term::Success => Ok(Term::Success),

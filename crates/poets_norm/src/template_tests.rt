@@ -7,7 +7,8 @@ ghost use Rattle.poets_syntax.specs.Studied.{marks_of};
 ghost use Rattle.poets_syntax.specs.Applied.{CountsFit};
 ghost use Rattle.poets_norm.specs.Examples.{anything as anything_lem, book_of, marks as marks_lem};
 
-use crate::{app, normal, wide};
+use crate::{app, normal, normal_rows, wide};
+use poets_cons::to_term;
 use poets_expr::{Asks, Decls, Expr, Op, build as make};
 use poets_syntax::build::{plus, transmit};
 use poets_syntax::{Binders, Book, Mark, Param, Studied, Template, Term, same};
@@ -130,6 +131,32 @@ fn closed_arguments_are_folded_and_hopeless_templates_fail(rt: HostRuntime) -> R
     let wanted = applied(rt.alloc(), F, Expr::Int(2))?;
     assert!(rt; same(&made, &wanted));
     assert_eq!(rt; asks.count(), 1);
+    Ok(())
+}
+
+#[test]
+fn the_rows_of_a_normal_form_give_it_back(rt: HostRuntime) -> Result<(), Memory> {
+    let studied = studied(rt.alloc())?;
+    let mut asks = Asks::new(());
+    let term = dead_or_two(rt.alloc())?;
+    let rows = normal_rows(rt.alloc(), &studied, &term, &mut asks)?;
+    let made = to_term(rt.alloc(), &rows)?;
+    let wanted = applied(rt.alloc(), F, Expr::Int(2))?;
+    assert!(rt; same(&made, &wanted));
+    assert_eq!(rt; rows.count(), 1);
+    assert_eq!(rt; asks.count(), 1);
+    Ok(())
+}
+
+#[test]
+fn equal_alternatives_are_one_row(rt: HostRuntime) -> Result<(), Memory> {
+    let studied = studied(rt.alloc())?;
+    let mut asks = Asks::new(());
+    let first = anything(rt.alloc())?;
+    let twice = plus(rt.alloc(), first, anything(rt.alloc())?)?;
+    let thrice = plus(rt.alloc(), twice, anything(rt.alloc())?)?;
+    let rows = normal_rows(rt.alloc(), &studied, &thrice, &mut asks)?;
+    assert_eq!(rt; rows.count(), 2);
     Ok(())
 }
 

@@ -11,3 +11,7 @@ pub mod Joined
 pub mod Arguments
 pub mod StudiedExample
 pub mod TypedResiduals
+pub mod Noted
+mod Derived
+mod Ready
+mod Spending

@@ -3,6 +3,7 @@ ghost use Rattle.std.specs.Prelude.{◌≡◌, ◌+◌, ◌≤◌, IfOk, Some, m
 ghost use Rattle.poets_expr.specs.Env.{declared_of, itself};
 ghost use Rattle.poets_expr.specs.Expression.{expression_of};
 ghost use Rattle.poets_expr.specs.Val.{val};
+ghost use Rattle.poets_syntax.specs.Arguments.{arguments as arguments_lem};
 ghost use Rattle.poets_syntax.specs.Book.{definition_of, definitions_of};
 ghost use Rattle.poets_syntax.specs.Contract.{contract_of};
 ghost use Rattle.poets_syntax.specs.Residual.{argument_givens, body_of};
@@ -80,6 +81,7 @@ pub(crate) fn unfold<L>(
     ensures body { IfOk result (λ r. contract_of r ≡ body_of (definitions_of studied.now.book) (marks_of studied.now) (Some (definition_of template.now)) (map expression_of args.now)) }
     ensures rises { asks.old ≤ asks.new }
     ensures asks { asks.new ≤ asks.old + sum_by operated (map expression_of args.now) + questions (contract_of template.now.body) }
+    ensures arguments { asks.new ≤ asks.old + sum_by operated (map expression_of args.now) + arguments_lem (contract_of template.now.body) }
     ensures questions { IfOk result (λ r. asks.new + questions (contract_of r) ≤ asks.old + sum_by operated (map expression_of args.now) + questions (contract_of template.now.body)) }
 {
     let decls = &studied.book().decls;

@@ -21,7 +21,7 @@ pub fn may_end(studied: &Studied, term: &Term) -> bool
 }
 
 // Whether the mark of the template says that its body may end.
-fn is_marked(studied: &Studied, name: Name) -> bool
+pub(crate) fn is_marked(studied: &Studied, name: Name) -> bool
     ensures { result ≡ (marks_of studied.now).nullable name }
 {
     studied

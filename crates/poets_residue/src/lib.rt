@@ -2,11 +2,18 @@
 #![tactic(auto)]
 
 mod bodies;
+mod derivation;
 mod endings;
 pub mod laws;
 mod residuals;
+mod row_widths;
+mod shared;
 #[cfg(test)]
 mod tests;
+mod transmits;
 
+pub use derivation::residual_rows;
 pub use endings::may_end;
 pub use residuals::residual;
+pub use row_widths::wide_rows;
+pub use shared::may_end_rows;

@@ -6,7 +6,8 @@ ghost use Rattle.poets_syntax.specs.Book.{definition_of, definitions_of};
 ghost use Rattle.poets_syntax.specs.Contract.{contract_of, App};
 ghost use Rattle.poets_residue.specs.Examples.{of_amount as of_amount_lem, one_more as one_more_lem, counting as counting_lem, marks as marks_lem};
 
-use crate::{may_end, residual};
+use crate::{may_end, may_end_rows, residual, residual_rows, wide_rows};
+use poets_cons::{of_term, to_term};
 use poets_expr::{Asks, Decls, Expr, Op, build as make};
 use poets_syntax::{Binders, Book, Mark, Param, Studied, Template, Term, build, same};
 use poets_value::{Day, Event, List, Memory, Name, Resource, Ty, push};
@@ -32,6 +33,8 @@ const ANN: Name = Name { id: 6 };
 const BOB: Name = Name { id: 7 };
 
 const OIL: Name = Name { id: 8 };
+
+const USD: Name = Name { id: 9 };
 
 // transmit(a, b, r, t | amount(r) = number). then
 fn of_amount(alloc: Global, number: Expr, then: Term) -> Result<Term, Memory>
@@ -252,5 +255,116 @@ fn without_a_template_an_application_takes_nothing(rt: HostRuntime) -> Result<()
     assert!(rt; !ends(rt.alloc(), &applied)?);
     let (left, _) = after(rt.alloc(), &applied, 1)?;
     assert!(rt; matches!(left, Term::Failure));
+    Ok(())
+}
+
+// transmit(a, b, r, t | kind(r) = kind([1 kind])). then, where no name is declared
+fn of_kind(alloc: Global, kind: Name, then: Term) -> Result<Term, Memory>
+    requires { CountsFit (counting_lem BINDERS F N) (contract_of then) }
+    ensures { IfOk result (λ c. CountsFit (counting_lem BINDERS F N) (contract_of c)) }
+{
+    let found = Expr::KindOf(make::boxed(alloc, Expr::Name(R))?);
+    let found = make::boxed(alloc, found)?;
+    let wanted = make::boxed(alloc, Expr::Res(Resource { kind, amount: 1 }))?;
+    let wanted = Expr::KindOf(wanted);
+    let when = Expr::Op(Op::Eq, found, make::boxed(alloc, wanted)?);
+    build::transmit(alloc, BINDERS, when, then)
+}
+
+// O. Success || O. U. Success
+fn both_want_oil(alloc: Global) -> Result<Term, Memory>
+    ensures { IfOk result (λ c. CountsFit (counting_lem BINDERS F N) (contract_of c)) }
+{
+    let first = of_kind(alloc, OIL, Term::Success)?;
+    let then = of_kind(alloc, USD, Term::Success)?;
+    build::par(alloc, first, of_kind(alloc, OIL, then)?)
+}
+
+// O. U. Success + O. Success || U. Success
+fn two_ways(alloc: Global) -> Result<Term, Memory> {
+    let then = of_kind(alloc, USD, Term::Success)?;
+    let first = of_kind(alloc, OIL, then)?;
+    let oil = of_kind(alloc, OIL, Term::Success)?;
+    let second = build::par(alloc, oil, of_kind(alloc, USD, Term::Success)?)?;
+    build::plus(alloc, first, second)
+}
+
+// O. Success so many times side by side
+fn side_by_side(alloc: Global, count: u64) -> Result<Term, Memory>
+    ensures { IfOk result (λ c. CountsFit (counting_lem BINDERS F N) (contract_of c)) }
+{
+    let last = of_kind(alloc, OIL, Term::Success)?;
+    if count <= 1 {
+        return Ok(last);
+    }
+    let others = side_by_side(alloc, count - 1)?;
+    build::par(alloc, others, last)
+}
+
+#[test]
+fn an_event_that_both_sides_take_leaves_two_ways(rt: HostRuntime) -> Result<(), Memory> {
+    let contract = both_want_oil(rt.alloc())?;
+    let (left, asked) = after(rt.alloc(), &contract, 1)?;
+    assert_eq!(rt; asked, 2);
+    let rows = of_term(rt.alloc(), &left)?;
+    assert_eq!(rt; rows.count(), 6);
+    let again = to_term(rt.alloc(), &rows)?;
+    let wanted = two_ways(rt.alloc())?;
+    assert!(rt; same(&again, &wanted));
+    Ok(())
+}
+
+#[test]
+fn equal_parts_are_asked_once(rt: HostRuntime) -> Result<(), Memory> {
+    let contract = side_by_side(rt.alloc(), 10)?;
+    let (left, asked) = after(rt.alloc(), &contract, 1)?;
+    assert_eq!(rt; asked, 1);
+    let wanted = side_by_side(rt.alloc(), 9)?;
+    assert!(rt; same(&left, &wanted));
+    Ok(())
+}
+
+// The number of rows of the residual by one unit of oil, and whether it may end.
+fn rows_after(alloc: Global, term: &Term) -> Result<(u64, bool), Memory>
+    requires { CountsFit (counting_lem BINDERS F N) (contract_of term.now) }
+{
+    let studied = studied(alloc)?;
+    let rows = of_term(alloc, term)?;
+    let mut asks = Asks::new(());
+    let left = residual_rows(alloc, &studied, &rows, &given(1), &mut asks)?;
+    Ok((left.count(), may_end_rows(&studied, &rows)))
+}
+
+#[test]
+fn rows_are_derived_to_rows(rt: HostRuntime) -> Result<(), Memory> {
+    let contract = both_want_oil(rt.alloc())?;
+    let (count, may_end) = rows_after(rt.alloc(), &contract)?;
+    assert_eq!(rt; count, 6);
+    assert!(rt; !may_end);
+    Ok(())
+}
+
+// The width of the rows of a contract.
+fn width_of(alloc: Global, term: &Term) -> Result<u64, Memory>
+    requires { CountsFit (counting_lem BINDERS F N) (contract_of term.now) }
+{
+    let studied = studied(alloc)?;
+    let rows = of_term(alloc, term)?;
+    Ok(wide_rows(&studied, &rows))
+}
+
+#[test]
+fn the_width_of_rows_is_cut(rt: HostRuntime) -> Result<(), Memory> {
+    let both = both_want_oil(rt.alloc())?;
+    // Seven nodes of O. Success, thirteen of O. U. Success, and their node.
+    assert_eq!(rt; width_of(rt.alloc(), &both)?, 21);
+    // One node and those of the body, as its mark says.
+    let counted = counted(rt.alloc(), Expr::Int(1))?;
+    assert_eq!(rt; width_of(rt.alloc(), &counted)?, 13);
+    // Seven nodes of each, and one less of those between them.
+    let many = side_by_side(rt.alloc(), 125)?;
+    assert_eq!(rt; width_of(rt.alloc(), &many)?, 999);
+    let more = side_by_side(rt.alloc(), 126)?;
+    assert_eq!(rt; width_of(rt.alloc(), &more)?, 1001);
     Ok(())
 }

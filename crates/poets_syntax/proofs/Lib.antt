@@ -4,6 +4,7 @@ pub mod Granting
 pub mod Alike
 pub mod Replacing
 pub mod SameContracts
+pub mod Arguments
 pub mod Givens
 pub mod WellFormedness
 pub mod Shapes

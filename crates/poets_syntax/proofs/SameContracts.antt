@@ -8,7 +8,7 @@ use Rattle.poets_syntax.specs.declared.term.Binders.{Binders}
 use Rattle.poets_syntax.specs.Contract.{Contract, Success, Failure, Transmit, Plus, Par, Seq, App}
 use Rattle.poets_syntax.specs.Same.{same_binders, same_args, same_contract}
 
-binders_one : (a b : Binders) → same_binders a b ≡ true → a ≡ b
+pub binders_one : (a b : Binders) → same_binders a b ≡ true → a ≡ b
 binders_one a b e =
     let h = both_true (same_name a.sender b.sender && same_name a.receiver b.receiver && same_name a.what b.what) (same_name a.day b.day) e in
     let k = both_true (same_name a.sender b.sender && same_name a.receiver b.receiver) (same_name a.what b.what) h.0 in
@@ -19,7 +19,7 @@ binders_one a b e =
     let d = name_one a.day b.day h.1 in
     λ i. record { sender = s i; receiver = r i; what = w i; day = d i }
 
-args_one : (xs ys : List Expression) → same_args xs ys ≡ true → xs ≡ ys
+pub args_one : (xs ys : List Expression) → same_args xs ys ≡ true → xs ≡ ys
 args_one [] [] e = refl
 args_one (a ∷ xs) (b ∷ ys) e =
     let h = both_true (same a b) (same_args xs ys) e in
@@ -49,15 +49,15 @@ contract_one _ _ e = absurd cc
 nat_itself : (n : ℕ) → nat_eq n n ≡ true
 nat_itself n = eq-eqb n n refl
 
-binders_itself : (b : Binders) → same_binders b b ≡ true
+pub binders_itself : (b : Binders) → same_binders b b ≡ true
 binders_itself b = rw (nat_itself b.sender.id, nat_itself b.receiver.id, nat_itself b.what.id, nat_itself b.day.id) refl
 
-args_itself : (args : List Expression) → same_args args args ≡ true
+pub args_itself : (args : List Expression) → same_args args args ≡ true
 args_itself [] = refl
 args_itself (a ∷ args) = rw (same_itself a, args_itself args) refl
 
 -- a contract is equal to itself by the test
-contract_itself : (c : Contract) → same_contract c c ≡ true
+pub contract_itself : (c : Contract) → same_contract c c ≡ true
 contract_itself Success = refl
 contract_itself Failure = refl
 contract_itself (Transmit b p c) = rw (binders_itself b, same_itself p, contract_itself c) refl

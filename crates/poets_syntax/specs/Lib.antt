@@ -15,6 +15,7 @@ pub mod Normal
 pub mod Residual
 pub mod Exposed
 pub mod Width
+pub mod Arguments
 pub mod Plain
 pub mod TypeOf
 pub mod OfType

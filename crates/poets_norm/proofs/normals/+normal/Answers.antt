@@ -1,13 +1,14 @@
 use Rattle.std.proofs.Common.{◌≡◌, ◌+◌, ◌≤◌, arith, map, ap, sum_by}
 use Rattle.std.proofs.lemmas.Result.{IfOk-weaker}
 use Rattle.poets_expr.specs.Expression.{expression_of}
+use Rattle.poets_syntax.specs.Arguments.{arguments}
 use Rattle.poets_syntax.specs.Book.{definitions_of}
 use Rattle.poets_syntax.specs.Contract.{contract_of}
 use Rattle.poets_syntax.specs.Normal.{plus}
 use Rattle.poets_syntax.specs.Studied.{marks_of}
 use Rattle.poets_syntax.specs.Width.{size}
 use Rattle.poets_norm.specs.Questions.{operated, questions}
-use Rattle.poets_norm.proofs.Asked.{operated_of_all-le, questions-measure}
+use Rattle.poets_norm.proofs.Asked.{operated_of_all-le, operated_of_all-one, questions-measure}
 use Rattle.poets_norm.proofs.Measures.{plus-le}
 use Rattle.poets_norm.proofs.NormalForms.{normal_is_distinct}
 use Rattle.poets_norm.proofs.normals.+normal.Goals as goal
@@ -39,3 +40,9 @@ returns-in-App-clause-size g t c =
     let args = ap (λ xs. sum_by operated (map expression_of xs)) c.as_slice.ensures in
     let whole = ap (λ t. size (contract_of t)) c.in-App.is in
     omega (arith, args, whole, operated_of_all-le (map expression_of c.in-App.args.items))
+
+pub returns-in-App-clause-arguments : goal.returns-in-App-clause-arguments
+returns-in-App-clause-arguments g t c =
+    let args = ap (λ xs. sum_by operated (map expression_of xs)) c.as_slice.ensures in
+    let whole = ap (λ t. arguments (contract_of t)) c.in-App.is in
+    omega (arith, args, whole, operated_of_all-one (map expression_of c.in-App.args.items))

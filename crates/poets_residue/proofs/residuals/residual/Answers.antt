@@ -1,13 +1,26 @@
-use Rattle.std.proofs.Common.{arith}
+use Rattle.std.proofs.Common.{◌≡◌, ◌∙◌, ap, sym, subst}
+use Rattle.poets_syntax.specs.Applied.{CountsFit}
 use Rattle.poets_syntax.specs.Book.{definitions_of}
-use Rattle.poets_syntax.specs.Contract.{contract_of}
-use Rattle.poets_norm.proofs.Asked.{questions-le}
-use Rattle.poets_residue.proofs.Studies.{IsStudied-book}
+use Rattle.poets_syntax.specs.Residual.{after}
+use Rattle.poets_syntax.specs.Studied.{marks_of}
 use Rattle.poets_residue.proofs.residuals.residual.Goals as goal
 
-pub residual_of-requires-clause-studied : goal.residual_of-requires-clause-studied
-residual_of-requires-clause-studied g c =
-    IsStudied-book (definitions_of c.args.studied.now.book) c.args.studied.now.marks c.book-book.ensures.studied
+pub residual_rows-requires : goal.residual_rows-requires
+residual_rows-requires g c = subst (CountsFit (definitions_of c.args.studied.now.book)) (sym c.in_ok-rows.ensures) c.requires
+
+pub returns-in_err-left-clause-asks : goal.returns-in_err-left-clause-asks
+returns-in_err-left-clause-asks g c = rw c.in_ok-rows.ensures at c.in_err-left.ensures.asks
+
+pub returns-in_err-left-clause-once : goal.returns-in_err-left-clause-once
+returns-in_err-left-clause-once g c = rw c.in_ok-rows.ensures at c.in_err-left.ensures.once
+
+pub returns-clause-residual : goal.returns-clause-residual
+returns-clause-residual g c =
+    let residual = c.in_ok-left.ensures.residual ∙ ap (after (definitions_of c.args.studied.now.book) (marks_of c.args.studied.now) c.args.event.now) c.in_ok-rows.ensures in
+    rw residual at c.to_term.ensures
 
 pub returns-clause-asks : goal.returns-clause-asks
-returns-clause-asks g c = omega (arith, c.residual_of.ensures.asks, questions-le (contract_of c.args.term.now))
+returns-clause-asks g c = rw c.in_ok-rows.ensures at c.in_ok-left.ensures.asks
+
+pub returns-clause-once : goal.returns-clause-once
+returns-clause-once g c = rw c.in_ok-rows.ensures at c.in_ok-left.ensures.once

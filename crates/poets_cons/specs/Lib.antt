@@ -1,0 +1,7 @@
+pub mod Row
+pub mod Same
+pub mod Hashing
+pub mod Table
+pub mod Parts
+pub mod SameRows
+pub mod Copies

@@ -1,0 +1,82 @@
+//! Tables of rows that grow.
+ghost use Rattle.std.specs.Prelude.{◌≡◌, ◌+◌, ◌<◌, ◌^◌, [], length, slice_get, Some, All, IfOk, OnErr, option_map};
+ghost use Rattle.poets_cons.specs.Row.{row_of, contract_by, AreBelow};
+ghost use Rattle.poets_cons.specs.Table.{rows_of, contract_at, IsTable, Stands, Extends, AddsReached};
+
+use crate::node::Node;
+use indexmap::IndexSet;
+use poets_value::Memory;
+use std::alloc::Global;
+use std::marker::Model;
+
+/// Rows that name earlier ones alone, and of which no two are equal.
+#[derive(Drop)]
+pub struct Arena {
+    nodes: IndexSet<Node>,
+}
+
+impl Model for Arena {
+    ghost use Rattle.std.specs.Prelude.{List};
+    ghost use Rattle.poets_cons.specs.declared.node.Node.{Node as TheNode};
+
+    ghost Value = { List TheNode };
+
+    ghost use Rattle.poets_expr.specs.contracts.expr.Expr as e;
+    ghost use Rattle.std.specs.Coded.{codes};
+
+    ghost coded = { Prim.hlevel (codes, e.the_row.coded) };
+
+    ghost use Rattle.poets_cons.specs.Table.{IsTable};
+
+    ghost view = { λ a. a.nodes.keys };
+
+    ghost invariant = { λ a. IsTable a.nodes.keys };
+}
+
+impl Arena {
+    /// The empty table.
+    pub fn new(alloc: Global) -> Arena
+        ensures { result ≡ [] }
+    {
+        Arena {
+            nodes: IndexSet::new(alloc),
+        }
+    }
+
+    /// The number of rows.
+    pub fn len(&self) -> usize
+        ensures len { result ≡ length self.now }
+        ensures table { IsTable self.now }
+        ensures small { result < 2 ^ 63 }
+    {
+        self.nodes.len()
+    }
+
+    /// The row with that number.
+    pub fn node(&self, place: usize) -> &Node
+        requires { place < length self.now }
+        ensures node { slice_get self.now place ≡ Some result.now }
+        ensures contract { contract_at self.now place ≡ contract_by (contract_at self.now) (row_of result.now) }
+        ensures below { AreBelow place (row_of result.now) }
+        ensures table { IsTable self.now }
+    {
+        match self.nodes.get_index(place) {
+            Some(node) => node,
+            None => unreachable!(),
+        }
+    }
+
+    /// The number of the row of this node, which is added where it is not there.
+    pub fn add(&mut self, node: Node) -> Result<usize, Memory>
+        requires { AreBelow (length self.old) (row_of node) }
+        ensures grows { Extends self.old self.new }
+        ensures row { IfOk result (λ p. slice_get (rows_of self.new) p ≡ Some (row_of node)) }
+        ensures stands { IfOk result (λ p. Stands self.new p (contract_by (contract_at self.old) (row_of node))) }
+        ensures reached { IfOk result (λ p. AddsReached self.old self.new p) }
+    {
+        let Ok((place, _)) = self.nodes.insert_full(node) else {
+            return Err(Memory);
+        };
+        Ok(place)
+    }
+}

@@ -1,0 +1,18 @@
+//! Contracts as rows of nodes, in which equal parts are one row.
+#![tactic(auto)]
+
+mod arena;
+mod copying;
+mod entering;
+mod equality;
+mod hashing;
+mod node;
+mod rows;
+#[cfg(test)]
+mod tests;
+
+pub use arena::Arena;
+pub use copying::copy_row;
+pub use entering::enter;
+pub use node::Node;
+pub use rows::{Rows, of_term, rows_at, term_at, to_term};

@@ -1,0 +1,133 @@
+//! The rows of one contract.
+ghost use Rattle.std.specs.Prelude.{◌≡◌, ◌+◌, ◌<◌, length, IfOk};
+ghost use Rattle.poets_syntax.specs.Contract.{contract_of};
+ghost use Rattle.poets_cons.specs.Parts.{subterm_count};
+ghost use Rattle.poets_cons.specs.Table.{contract_at, contract_of_rows, IsTable, IsRooted};
+
+use crate::arena::Arena;
+use crate::copying::copy_row;
+use crate::entering::{copy_args, enter};
+use crate::node::Node;
+use poets_expr::copy;
+use poets_syntax::Term;
+use poets_syntax::build::{par, plus, seq, transmit};
+use poets_value::Memory;
+use std::alloc::Global;
+use std::marker::Model;
+
+/// One contract as rows. No two are equal, and each is reached from the last one, the root.
+#[derive(Drop)]
+pub struct Rows {
+    arena: Arena,
+}
+
+impl Model for Rows {
+    ghost use Rattle.std.specs.Prelude.{List};
+    ghost use Rattle.poets_cons.specs.declared.node.Node.{Node as TheNode};
+
+    ghost Value = { List TheNode };
+
+    ghost use Rattle.poets_expr.specs.contracts.expr.Expr as e;
+    ghost use Rattle.std.specs.Coded.{codes};
+
+    ghost coded = { Prim.hlevel (codes, e.the_row.coded) };
+
+    ghost use Rattle.poets_cons.specs.Table.{IsRooted};
+
+    ghost view = { λ r. r.arena };
+
+    ghost invariant = { λ r. IsRooted r.arena };
+}
+
+impl Rows {
+    /// The rows, as a table.
+    pub fn arena(&self) -> &Arena
+        ensures rows { result.now ≡ self.now }
+        ensures rooted { IsRooted self.now }
+    {
+        &self.arena
+    }
+
+    /// The number of the last row, which is the root.
+    pub fn root(&self) -> usize
+        ensures root { result + 1 ≡ length self.now }
+        ensures contract { contract_at self.now result ≡ contract_of_rows self.now }
+    {
+        self.arena.len() - 1
+    }
+
+    /// The number of different subterms of the contract.
+    pub fn count(&self) -> u64
+        ensures { result ≡ subterm_count (contract_of_rows self.now) }
+    {
+        self.arena.len() as u64
+    }
+}
+
+/// The rows of a contract.
+pub fn of_term(alloc: Global, term: &Term) -> Result<Rows, Memory>
+    ensures { IfOk result (λ r. contract_of_rows r ≡ contract_of term.now) }
+{
+    let mut arena = Arena::new(alloc);
+    let _root = enter(alloc, &mut arena, term)?;
+    let _table = arena.len();
+    Ok(Rows { arena })
+}
+
+/// The rows of the contract of one row of a table. No tree is made on the way.
+pub fn rows_at(alloc: Global, arena: &Arena, place: usize) -> Result<Rows, Memory>
+    requires { place < length arena.now }
+    ensures { IfOk result (λ r. contract_of_rows r ≡ contract_at arena.now place) }
+{
+    let mut rows = Arena::new(alloc);
+    let _root = copy_row(alloc, arena, place, &mut rows)?;
+    let _table = rows.len();
+    Ok(Rows { arena: rows })
+}
+
+/// The contract of the row with that number.
+pub fn term_at(alloc: Global, arena: &Arena, place: usize) -> Result<Term, Memory>
+    requires { place < length arena.now }
+    ensures { IfOk result (λ t. contract_of t ≡ contract_at arena.now place) }
+{
+    match arena.node(place) {
+        Node::Success => Ok(Term::Success),
+        Node::Failure => Ok(Term::Failure),
+        Node::Transmit {
+            binders,
+            when,
+            then,
+        } => {
+            let then = term_at(alloc, arena, *then)?;
+            let when = copy(alloc, when)?;
+            transmit(alloc, *binders, when, then)
+        }
+        Node::Plus(a, b) => {
+            let a = term_at(alloc, arena, *a)?;
+            let b = term_at(alloc, arena, *b)?;
+            plus(alloc, a, b)
+        }
+        Node::Par(a, b) => {
+            let a = term_at(alloc, arena, *a)?;
+            let b = term_at(alloc, arena, *b)?;
+            par(alloc, a, b)
+        }
+        Node::Seq(a, b) => {
+            let a = term_at(alloc, arena, *a)?;
+            let b = term_at(alloc, arena, *b)?;
+            seq(alloc, a, b)
+        }
+        Node::App { name, args } => Ok(Term::App {
+            name: *name,
+            args: copy_args(alloc, args)?,
+        }),
+    }
+}
+
+/// The contract of the rows.
+pub fn to_term(alloc: Global, rows: &Rows) -> Result<Term, Memory>
+    ensures { IfOk result (λ t. contract_of t ≡ contract_of_rows rows.now) }
+{
+    let root = rows.root();
+    term_at(alloc, rows.arena(), root)
+}

@@ -1,0 +1,118 @@
+-- Choices at the rows of a table.
+use Rattle.std.proofs.Common.{◌≡◌, ℕ, ◌<◌, Bool, true, false, nat_eq, arith, List, [], ◌∷◌, length, refl, sym, ◌∙◌, ap, ap₂, subst, eq-eqb, if◌then◌else◌, ◌||◌}
+use Rattle.std.specs.Cmp.{both_ways}
+use Rattle.std.proofs.lemmas.List.{length-map}
+use borrow.Author.Tests.{eqb-true}
+use Rattle.poets_syntax.specs.Contract.{Contract, Failure, Plus}
+use Rattle.poets_syntax.specs.Book.{Definitions}
+use Rattle.poets_syntax.specs.Marks.{Marks}
+use Rattle.poets_syntax.specs.Same.{same_contract}
+use Rattle.poets_syntax.specs.Normal.{alternatives, plus, normal}
+use Rattle.poets_syntax.proofs.SameContracts.{contract_one, contract_itself}
+use Rattle.poets_norm.specs.Choices.{distinct_choice, holds_equal, IsDistinctChoice}
+use Rattle.poets_norm.proofs.Alternatives.{IsOne, alternatives-one, front_of, plus-front, plus-one, plus-distinct, distinct_choice-twice}
+use Rattle.poets_norm.proofs.NormalForms.{normal_is_distinct}
+use Rattle.poets_cons.specs.declared.node.Node.{Node}
+use Rattle.poets_cons.specs.declared.node.Node.TheVariants as N
+use Rattle.poets_cons.specs.Row.{row_of, contract_by}
+use Rattle.poets_cons.specs.Table.{rows_of, contract_at, IsTable, Stands, Extends}
+use Rattle.poets_cons.proofs.Places.{one_place}
+use Rattle.poets_cons.proofs.Standing.{contract_at-later}
+
+-- places are equal where the contracts at them are
+pub same_place : (nodes : List Node) → IsTable nodes → (i j : ℕ) → i < length nodes → j < length nodes → nat_eq i j ≡ same_contract (contract_at nodes i) (contract_at nodes j)
+same_place nodes table i j a b =
+    let n = length-map nodes row_of in
+    both_ways (nat_eq i j) (same_contract (contract_at nodes i) (contract_at nodes j))
+    (λ e. rw (eqb-true i j e) (contract_itself (contract_at nodes j)))
+    (λ e. eq-eqb i j (one_place (rows_of nodes) table.earlier table.distinct i j (omega arith) (omega arith)
+    (contract_one (contract_at nodes i) (contract_at nodes j) e)))
+
+-- a node that is no choice
+abbrev pub IsOther : Node → Type 0
+IsOther n = (n ≡ N.Failure → ⊥) × ((a b : ℕ) → n ≡ N.Plus a b → ⊥)
+
+one_of : (part : ℕ → Contract) (n : Node) → IsOther n → IsOne (contract_by part (row_of n))
+one_of part N.Failure h = h.0 refl
+one_of part (N.Plus a b) h = h.1 a b refl
+one_of part _ h = tt
+
+some_of : (part : ℕ → Contract) (n : Node) → (n ≡ N.Failure → ⊥) → contract_by part (row_of n) ≡ Failure → ⊥
+some_of part N.Failure h e = h refl
+some_of part _ h e = cc
+
+pub or_none : (b : Bool) → b ≡ (b || false)
+or_none true = refl
+or_none false = refl
+
+module _ (nodes : List Node) (i : ℕ) (n : Node) (here : contract_at nodes i ≡ contract_by (contract_at nodes) (row_of n)) where
+  pub some_at : (n ≡ N.Failure → ⊥) → contract_at nodes i ≡ Failure → ⊥
+  some_at h e = some_of (contract_at nodes) n h (sym here ∙ e)
+
+  pub one_at : IsOther n → IsOne (contract_at nodes i)
+  one_at h = subst IsOne (sym here) (one_of (contract_at nodes) n h)
+
+  pub has_other : IsTable nodes → (j : ℕ) → i < length nodes → j < length nodes → IsOther n →
+      nat_eq i j ≡ holds_equal (alternatives (contract_at nodes i)) (contract_at nodes j)
+  has_other table j a b h =
+      same_place nodes table i j a b ∙ or_none (same_contract (contract_at nodes i) (contract_at nodes j))
+      ∙ sym (ap (λ cs. holds_equal cs (contract_at nodes j)) (alternatives-one (contract_at nodes i) (one_at h)))
+
+pub front_distinct : (nodes : List Node) (b front last : ℕ) → contract_at nodes b ≡ Plus (contract_at nodes front) (contract_at nodes last) →
+    IsDistinctChoice (contract_at nodes b) → IsDistinctChoice (contract_at nodes front)
+front_distinct nodes b front last whole second = front_of (contract_at nodes front) (contract_at nodes last) (subst IsDistinctChoice whole second)
+
+-- the second choice is taken apart from its end
+module _ (old mid new : List Node) (x : Extends old mid) (a b front last choice p : ℕ) (known : Bool)
+    (whole : contract_at old b ≡ Plus (contract_at old front) (contract_at old last)) (within : last < length old)
+    (first : IsDistinctChoice (contract_at old a)) (some : contract_at old a ≡ Failure → ⊥) (second : IsDistinctChoice (contract_at old b))
+    (k : known ≡ holds_equal (alternatives (contract_at old a)) (contract_at old last)) where
+  pub merge_front : Stands mid choice (plus (contract_at old a) (contract_at old front)) →
+      Stands new p (if known then contract_at mid choice else Plus (contract_at mid choice) (contract_at mid last)) →
+      Stands new p (plus (contract_at old a) (contract_at old b))
+  merge_front s t =
+      let same : contract_at mid last ≡ contract_at old last = contract_at-later old mid x last within in
+      let e = plus-front (contract_at old a) (contract_at old front) (contract_at old last) first some (subst IsDistinctChoice whole second) in
+      let all : (if known then contract_at mid choice else Plus (contract_at mid choice) (contract_at mid last)) ≡ plus (contract_at old a) (contract_at old b) =
+      rw (k, s.contract, same) (e ∙ ap (plus (contract_at old a)) (sym whole)) in
+      subst (Stands new p) all t
+
+pub merge_one : (old new : List Node) (a b p : ℕ) (known : Bool) → IsDistinctChoice (contract_at old a) → (contract_at old a ≡ Failure → ⊥) →
+    IsOne (contract_at old b) → known ≡ holds_equal (alternatives (contract_at old a)) (contract_at old b) →
+    Stands new p (if known then contract_at old a else Plus (contract_at old a) (contract_at old b)) → Stands new p (plus (contract_at old a) (contract_at old b))
+merge_one old new a b p known first some one k t =
+    let e = plus-one (contract_at old a) (contract_at old b) first some one in
+    let all : (if known then contract_at old a else Plus (contract_at old a) (contract_at old b)) ≡ plus (contract_at old a) (contract_at old b) = rw k e in
+    subst (Stands new p) all t
+
+-- two choices that were made distinct, one after the other
+module _ (old n₁ n₂ : List Node) (x : Extends old n₁) (y : Extends n₁ n₂) (a b : ℕ) (within : b < length old) (f g : ℕ)
+    (s : Stands n₁ f (distinct_choice (contract_at old a))) (t : Stands n₂ g (distinct_choice (contract_at n₁ b))) where
+  first_is : contract_at n₂ f ≡ distinct_choice (contract_at old a)
+  first_is = contract_at-later n₁ n₂ y f s.within ∙ s.contract
+
+  second_is : contract_at n₂ g ≡ distinct_choice (contract_at old b)
+  second_is = t.contract ∙ ap distinct_choice (contract_at-later old n₁ x b within)
+
+  pub first_distinct : IsDistinctChoice (contract_at n₂ f)
+  first_distinct = subst IsDistinctChoice (sym first_is) (distinct_choice-twice (contract_at old a))
+
+  pub second_distinct : IsDistinctChoice (contract_at n₂ g)
+  second_distinct = subst IsDistinctChoice (sym second_is) (distinct_choice-twice (contract_at old b))
+
+  pub either_stands : (new : List Node) (p : ℕ) → Stands new p (plus (contract_at n₂ f) (contract_at n₂ g)) → Stands new p (plus (contract_at old a) (contract_at old b))
+  either_stands new p h = subst (Stands new p) (ap₂ plus first_is second_is ∙ plus-distinct (contract_at old a) (contract_at old b)) h
+
+-- what is no choice is its own
+single : (part : ℕ → Contract) (n : Node) → ((a b : ℕ) → n ≡ N.Plus a b → ⊥) → contract_by part (row_of n) ≡ distinct_choice (contract_by part (row_of n))
+single part (N.Plus a b) h = absurd (h a b refl)
+single part _ h = refl
+
+pub single_at : (nodes : List Node) (i : ℕ) (n : Node) → contract_at nodes i ≡ contract_by (contract_at nodes) (row_of n) → ((a b : ℕ) → n ≡ N.Plus a b → ⊥) →
+    contract_at nodes i ≡ distinct_choice (contract_at nodes i)
+single_at nodes i n here h = here ∙ single (contract_at nodes) n h ∙ ap distinct_choice (sym here)
+
+-- the row of a normal form is a choice of distinct alternatives
+pub normal_distinct : (book : Definitions) (marks : Marks) (nodes : List Node) (p : ℕ) (c : Contract) → Stands nodes p (normal book marks c) →
+    IsDistinctChoice (contract_at nodes p)
+normal_distinct book marks nodes p c s = subst IsDistinctChoice (sym s.contract) (normal_is_distinct book marks c)

@@ -1,0 +1,132 @@
+//! Normal forms of contracts as rows.
+ghost use Rattle.std.specs.Prelude.{◌≡◌, ◌+◌, ◌≤◌, ◌<◌, IfOk, OnOk, length};
+ghost use Rattle.poets_expr.specs.Expression.{expression_of};
+ghost use Rattle.poets_syntax.specs.Arguments.{arguments};
+ghost use Rattle.poets_syntax.specs.Book.{definitions_of};
+ghost use Rattle.poets_syntax.specs.Contract.{contract_of};
+ghost use Rattle.poets_syntax.specs.Normal.{normal as normal_lem, send as send_lem};
+ghost use Rattle.poets_syntax.specs.Studied.{marks_of};
+ghost use Rattle.poets_syntax.specs.Width.{size};
+ghost use Rattle.poets_norm.specs.Questions.{questions};
+ghost use Rattle.poets_cons.specs.Table.{contract_at, contract_of_rows, Stands, Extends};
+
+use crate::applications::app;
+use crate::joining::{failure, merge, par, seq};
+use poets_cons::{Arena, Node, Rows, enter, rows_at};
+use poets_expr::{Asks, Expr, copy};
+use poets_syntax::{Binders, Studied, Term};
+use poets_value::Memory;
+use std::alloc::Global;
+
+/// The rows of the normal form of a contract.
+pub fn normal_rows<L>(
+    alloc: Global,
+    studied: &Studied,
+    term: &Term,
+    asks: &mut Asks<L>,
+) -> Result<Rows, Memory>
+    ensures normal { IfOk result (λ r. contract_of_rows r ≡ normal_lem (definitions_of studied.now.book) (marks_of studied.now) (contract_of term.now)) }
+    ensures rises { asks.old ≤ asks.new }
+    ensures asks { asks.new ≤ asks.old + questions (contract_of term.now) }
+    ensures size { asks.new ≤ asks.old + size (contract_of term.now) }
+    ensures arguments { asks.new ≤ asks.old + arguments (contract_of term.now) }
+{
+    let mut arena = Arena::new(alloc);
+    let root = enter_normal(alloc, studied, &mut arena, term, asks)?;
+    rows_at(alloc, &arena, root)
+}
+
+/// The number of the row of the normal form of a contract, which is entered in the table. Equal
+/// alternatives are found by the numbers of their rows, and no two trees are compared.
+#[cycle(enter_normal)]
+pub fn enter_normal<L>(
+    alloc: Global,
+    studied: &Studied,
+    arena: &mut Arena,
+    term: &Term,
+    asks: &mut Asks<L>,
+) -> Result<usize, Memory>
+    ensures grows { Extends arena.old arena.new }
+    ensures normal { IfOk result (λ p. Stands arena.new p (normal_lem (definitions_of studied.now.book) (marks_of studied.now) (contract_of term.now))) }
+    ensures rises { asks.old ≤ asks.new }
+    ensures asks { asks.new ≤ asks.old + questions (contract_of term.now) }
+    ensures questions { OnOk result (asks.new + questions (normal_lem (definitions_of studied.now.book) (marks_of studied.now) (contract_of term.now)) ≤ asks.old + questions (contract_of term.now)) }
+    ensures size { asks.new ≤ asks.old + size (contract_of term.now) }
+    ensures arguments { asks.new ≤ asks.old + arguments (contract_of term.now) }
+{
+    match term {
+        Term::Success => arena.add(Node::Success),
+        Term::Failure => failure(arena),
+        Term::Transmit {
+            binders,
+            when,
+            then,
+        } => {
+            let then = enter_normal(alloc, studied, arena, then, asks)?;
+            send(alloc, arena, *binders, when, then)
+        }
+        Term::Plus(a, b) => {
+            let (a, b) = enter_both(alloc, studied, arena, a, b, asks)?;
+            merge(arena, a, b)
+        }
+        Term::Par(a, b) => {
+            let (a, b) = enter_both(alloc, studied, arena, a, b, asks)?;
+            par(arena, a, b)
+        }
+        Term::Seq(a, b) => {
+            let (a, b) = enter_both(alloc, studied, arena, a, b, asks)?;
+            seq(arena, a, b)
+        }
+        Term::App { name, args } => {
+            let term = app(alloc, studied, *name, args.as_slice(), asks)?;
+            enter(alloc, arena, &term)
+        }
+    }
+}
+
+// A transmission before a row: `Failure` where that is.
+fn send(
+    alloc: Global,
+    arena: &mut Arena,
+    binders: Binders,
+    when: &Expr,
+    then: usize,
+) -> Result<usize, Memory>
+    requires { then < length arena.old }
+    ensures grows { Extends arena.old arena.new }
+    ensures stands { IfOk result (λ p. Stands arena.new p (send_lem binders (expression_of when.now) (contract_at arena.old then))) }
+{
+    if matches!(arena.node(then), Node::Failure) {
+        return Ok(then);
+    }
+    let when = copy(alloc, when)?;
+    arena.add(Node::Transmit {
+        binders,
+        when,
+        then,
+    })
+}
+
+// The numbers of the rows of two normal forms.
+#[cycle(enter_normal)]
+fn enter_both<L>(
+    alloc: Global,
+    studied: &Studied,
+    arena: &mut Arena,
+    a: &Term,
+    b: &Term,
+    asks: &mut Asks<L>,
+) -> Result<(usize, usize), Memory>
+    ensures grows { Extends arena.old arena.new }
+    ensures first { IfOk result (λ p. Stands arena.new p.0 (normal_lem (definitions_of studied.now.book) (marks_of studied.now) (contract_of a.now))) }
+    ensures second { IfOk result (λ p. Stands arena.new p.1 (normal_lem (definitions_of studied.now.book) (marks_of studied.now) (contract_of b.now))) }
+    ensures rises { asks.old ≤ asks.new }
+    ensures asks { asks.new ≤ asks.old + questions (contract_of a.now) + questions (contract_of b.now) }
+    ensures questions { OnOk result (asks.new + questions (normal_lem (definitions_of studied.now.book) (marks_of studied.now) (contract_of a.now)) + questions (normal_lem (definitions_of studied.now.book) (marks_of studied.now) (contract_of b.now)) ≤ asks.old + questions (contract_of a.now) + questions (contract_of b.now)) }
+    ensures size { asks.new ≤ asks.old + size (contract_of a.now) + size (contract_of b.now) }
+    ensures arguments { asks.new ≤ asks.old + arguments (contract_of a.now) + arguments (contract_of b.now) }
+{
+    let first = enter_normal(alloc, studied, arena, a, asks)?;
+    let second = enter_normal(alloc, studied, arena, b, asks)?;
+    Ok((first, second))
+}

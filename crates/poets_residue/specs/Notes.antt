@@ -1,0 +1,25 @@
+-- What is noted of the rows that were derived.
+use Rattle.std.specs.Prelude.{◌≡◌, ◌+◌, ◌≤◌, ◌<◌, ℕ, List, length, Option, Some}
+use Rattle.poets_value.specs.declared.event.Event.{Event}
+use Rattle.poets_syntax.specs.Contract.{Contract}
+use Rattle.poets_syntax.specs.Book.{Definitions}
+use Rattle.poets_syntax.specs.Marks.{Marks}
+use Rattle.poets_syntax.specs.Residual.{after}
+use Rattle.poets_syntax.specs.Width.{size, width}
+use Rattle.poets_norm.specs.Questions.{questions}
+use Rattle.poets_cons.specs.declared.node.Node.{Node}
+use Rattle.poets_cons.specs.Table.{contract_at, Stands}
+
+-- each row that is noted has its residual at the row with the number noted
+abbrev pub AreNotes : Definitions → Marks → Event → List Node → (ℕ → Option ℕ) → Type 0
+AreNotes book marks e nodes notes =
+    (k v : ℕ) → notes k ≡ Some v → (k < length nodes) × Stands nodes v (after book marks e (contract_at nodes k))
+
+-- the row with that number is the residual of the contract, and the notes are right
+pub record IsDerived (book : Definitions) (marks : Marks) (e : Event) (nodes : List Node) (memo : ℕ → Option ℕ) (c : Contract) (place : ℕ) : Type 0 where
+  pub notes : AreNotes book marks e nodes memo
+  pub stands : Stands nodes place (after book marks e c)
+
+-- what the contract asks counts, and the width of the bodies that it exposes
+abbrev pub AsksInWidth : Definitions → Marks → Contract → ℕ → ℕ → Type 0
+AsksInWidth book marks c old new = new + size c ≤ old + questions c + width book marks c

@@ -1,0 +1,228 @@
+//! Residuals of contracts as rows, each different row derived once.
+ghost use Rattle.std.specs.Prelude.{◌≡◌, ◌+◌, ◌≤◌, ◌<◌, IfOk, None, length, nat_eq};
+ghost use Rattle.indexmap.specs.IndexMap.{get};
+ghost use Rattle.poets_syntax.specs.Applied.{CountsFit};
+ghost use Rattle.poets_syntax.specs.Book.{definitions_of};
+ghost use Rattle.poets_syntax.specs.Contract.{Plus, Par, Seq};
+ghost use Rattle.poets_syntax.specs.Residual.{after};
+ghost use Rattle.poets_syntax.specs.Studied.{marks_of};
+ghost use Rattle.poets_syntax.specs.Width.{width};
+ghost use Rattle.poets_cons.specs.Table.{contract_at, contract_of_rows, Extends};
+ghost use Rattle.poets_residue.specs.Notes.{AreNotes, IsDerived, AsksInWidth};
+ghost use Rattle.poets_residue.specs.Once.{once as once_lem};
+ghost use Rattle.poets_residue.specs.Spent.{IsNoted, IsNotedBut, IsSpent};
+ghost use Rattle.poets_residue.specs.Unfolding.{IsStudied};
+
+use crate::bodies::unfold;
+use crate::shared::{is_joined, may_end_at, note, sides};
+use crate::transmits::transmit_at;
+use indexmap::IndexMap;
+use poets_cons::{Arena, Node, Rows, copy_row, enter, rows_at};
+use poets_expr::Asks;
+use poets_norm::joining::{either, failure, seq};
+use poets_syntax::Studied;
+use poets_value::{Event, Memory};
+use std::alloc::Global;
+
+// The number of the row of the residual of a row, which is derived once.
+#[cycle(derive)]
+fn derive<L>(
+    alloc: Global,
+    studied: &Studied,
+    event: &Event,
+    arena: &mut Arena,
+    memo: &mut IndexMap<usize, usize>,
+    place: usize,
+    asks: &mut Asks<L>,
+) -> Result<usize, Memory>
+    requires studied { IsStudied (definitions_of studied.now.book) (marks_of studied.now) }
+    requires within { place < length arena.old }
+    requires fits { CountsFit (definitions_of studied.now.book) (contract_at arena.old place) }
+    requires notes { AreNotes (definitions_of studied.now.book) (marks_of studied.now) event.now arena.old (get nat_eq memo.old) }
+    ensures grows { Extends arena.old arena.new }
+    ensures derived { IfOk result (IsDerived (definitions_of studied.now.book) (marks_of studied.now) event.now arena.new (get nat_eq memo.new) (contract_at arena.old place)) }
+    ensures rises { asks.old ≤ asks.new }
+    ensures asks { AsksInWidth (definitions_of studied.now.book) (marks_of studied.now) (contract_at arena.old place) asks.old asks.new }
+    ensures once { IsSpent (definitions_of studied.now.book) (marks_of studied.now) (contract_at arena.old place) (IsNoted arena.old (get nat_eq memo.old)) (IsNoted arena.new (get nat_eq memo.new)) asks.old asks.new result }
+{
+    if let Some(known) = memo.get(&place) {
+        return Ok(*known);
+    }
+    let next = derive_anew(alloc, studied, event, arena, memo, place, asks)?;
+    note(memo, place, next)
+}
+
+// The residual of a row that is not noted.
+#[cycle(derive)]
+fn derive_anew<L>(
+    alloc: Global,
+    studied: &Studied,
+    event: &Event,
+    arena: &mut Arena,
+    memo: &mut IndexMap<usize, usize>,
+    place: usize,
+    asks: &mut Asks<L>,
+) -> Result<usize, Memory>
+    requires studied { IsStudied (definitions_of studied.now.book) (marks_of studied.now) }
+    requires within { place < length arena.old }
+    requires fits { CountsFit (definitions_of studied.now.book) (contract_at arena.old place) }
+    requires notes { AreNotes (definitions_of studied.now.book) (marks_of studied.now) event.now arena.old (get nat_eq memo.old) }
+    requires new { get nat_eq memo.old place ≡ None }
+    ensures grows { Extends arena.old arena.new }
+    ensures derived { IfOk result (IsDerived (definitions_of studied.now.book) (marks_of studied.now) event.now arena.new (get nat_eq memo.new) (contract_at arena.old place)) }
+    ensures rises { asks.old ≤ asks.new }
+    ensures asks { AsksInWidth (definitions_of studied.now.book) (marks_of studied.now) (contract_at arena.old place) asks.old asks.new }
+    ensures once { IsSpent (definitions_of studied.now.book) (marks_of studied.now) (contract_at arena.old place) (IsNoted arena.old (get nat_eq memo.old)) (IsNotedBut (contract_at arena.old place) arena.new (get nat_eq memo.new)) asks.old asks.new result }
+{
+    match arena.node(place) {
+        Node::Success => failure(arena),
+        Node::Failure => Ok(place),
+        Node::Transmit {
+            binders,
+            when,
+            then,
+        } => {
+            let left = transmit_at(alloc, studied, event, arena, binders, when, *then, asks)?;
+            enter(alloc, arena, &left)
+        }
+        Node::Plus(a, b) => {
+            let a = *a;
+            let b = *b;
+            derive_plus(alloc, studied, event, arena, memo, a, b, asks)
+        }
+        Node::Par(a, b) => {
+            let a = *a;
+            let b = *b;
+            derive_par(alloc, studied, event, arena, memo, a, b, asks)
+        }
+        Node::Seq(a, b) => {
+            let a = *a;
+            let b = *b;
+            derive_seq(alloc, studied, event, arena, memo, a, b, asks)
+        }
+        Node::App { name, args } => {
+            let Some((template, _)) = studied.template(*name) else {
+                return failure(arena);
+            };
+            let body = unfold(alloc, studied, template, args.as_slice(), asks)?;
+            let start = enter(alloc, arena, &body)?;
+            derive(alloc, studied, event, arena, memo, start, asks)
+        }
+    }
+}
+
+// The residual of one of two rows.
+#[cycle(derive)]
+fn derive_plus<L>(
+    alloc: Global,
+    studied: &Studied,
+    event: &Event,
+    arena: &mut Arena,
+    memo: &mut IndexMap<usize, usize>,
+    a: usize,
+    b: usize,
+    asks: &mut Asks<L>,
+) -> Result<usize, Memory>
+    requires studied { IsStudied (definitions_of studied.now.book) (marks_of studied.now) }
+    requires first { a < length arena.old }
+    requires second { b < length arena.old }
+    requires fits { CountsFit (definitions_of studied.now.book) (Plus (contract_at arena.old a) (contract_at arena.old b)) }
+    requires notes { AreNotes (definitions_of studied.now.book) (marks_of studied.now) event.now arena.old (get nat_eq memo.old) }
+    ensures grows { Extends arena.old arena.new }
+    ensures derived { IfOk result (IsDerived (definitions_of studied.now.book) (marks_of studied.now) event.now arena.new (get nat_eq memo.new) (Plus (contract_at arena.old a) (contract_at arena.old b))) }
+    ensures rises { asks.old ≤ asks.new }
+    ensures asks { AsksInWidth (definitions_of studied.now.book) (marks_of studied.now) (Plus (contract_at arena.old a) (contract_at arena.old b)) asks.old asks.new }
+    ensures once { IsSpent (definitions_of studied.now.book) (marks_of studied.now) (Plus (contract_at arena.old a) (contract_at arena.old b)) (IsNoted arena.old (get nat_eq memo.old)) (IsNoted arena.new (get nat_eq memo.new)) asks.old asks.new result }
+{
+    let after_a = derive(alloc, studied, event, arena, memo, a, asks)?;
+    let after_b = derive(alloc, studied, event, arena, memo, b, asks)?;
+    let is_a_known = is_joined(studied, arena, a);
+    let is_b_known = is_joined(studied, arena, b);
+    either(arena, after_a, is_a_known, after_b, is_b_known)
+}
+
+// The residual of two rows side by side.
+#[cycle(derive)]
+fn derive_par<L>(
+    alloc: Global,
+    studied: &Studied,
+    event: &Event,
+    arena: &mut Arena,
+    memo: &mut IndexMap<usize, usize>,
+    a: usize,
+    b: usize,
+    asks: &mut Asks<L>,
+) -> Result<usize, Memory>
+    requires studied { IsStudied (definitions_of studied.now.book) (marks_of studied.now) }
+    requires first { a < length arena.old }
+    requires second { b < length arena.old }
+    requires fits { CountsFit (definitions_of studied.now.book) (Par (contract_at arena.old a) (contract_at arena.old b)) }
+    requires notes { AreNotes (definitions_of studied.now.book) (marks_of studied.now) event.now arena.old (get nat_eq memo.old) }
+    ensures grows { Extends arena.old arena.new }
+    ensures derived { IfOk result (IsDerived (definitions_of studied.now.book) (marks_of studied.now) event.now arena.new (get nat_eq memo.new) (Par (contract_at arena.old a) (contract_at arena.old b))) }
+    ensures rises { asks.old ≤ asks.new }
+    ensures asks { AsksInWidth (definitions_of studied.now.book) (marks_of studied.now) (Par (contract_at arena.old a) (contract_at arena.old b)) asks.old asks.new }
+    ensures once { IsSpent (definitions_of studied.now.book) (marks_of studied.now) (Par (contract_at arena.old a) (contract_at arena.old b)) (IsNoted arena.old (get nat_eq memo.old)) (IsNoted arena.new (get nat_eq memo.new)) asks.old asks.new result }
+{
+    let after_a = derive(alloc, studied, event, arena, memo, a, asks)?;
+    let after_b = derive(alloc, studied, event, arena, memo, b, asks)?;
+    sides(arena, a, b, after_a, after_b)
+}
+
+// The residual of a row before another.
+#[cycle(derive)]
+fn derive_seq<L>(
+    alloc: Global,
+    studied: &Studied,
+    event: &Event,
+    arena: &mut Arena,
+    memo: &mut IndexMap<usize, usize>,
+    a: usize,
+    b: usize,
+    asks: &mut Asks<L>,
+) -> Result<usize, Memory>
+    requires studied { IsStudied (definitions_of studied.now.book) (marks_of studied.now) }
+    requires first { a < length arena.old }
+    requires second { b < length arena.old }
+    requires fits { CountsFit (definitions_of studied.now.book) (Seq (contract_at arena.old a) (contract_at arena.old b)) }
+    requires notes { AreNotes (definitions_of studied.now.book) (marks_of studied.now) event.now arena.old (get nat_eq memo.old) }
+    ensures grows { Extends arena.old arena.new }
+    ensures derived { IfOk result (IsDerived (definitions_of studied.now.book) (marks_of studied.now) event.now arena.new (get nat_eq memo.new) (Seq (contract_at arena.old a) (contract_at arena.old b))) }
+    ensures rises { asks.old ≤ asks.new }
+    ensures asks { AsksInWidth (definitions_of studied.now.book) (marks_of studied.now) (Seq (contract_at arena.old a) (contract_at arena.old b)) asks.old asks.new }
+    ensures once { IsSpent (definitions_of studied.now.book) (marks_of studied.now) (Seq (contract_at arena.old a) (contract_at arena.old b)) (IsNoted arena.old (get nat_eq memo.old)) (IsNoted arena.new (get nat_eq memo.new)) asks.old asks.new result }
+{
+    let after_a = derive(alloc, studied, event, arena, memo, a, asks)?;
+    let first = seq(arena, after_a, b)?;
+    if !may_end_at(studied, arena, a) {
+        return Ok(first);
+    }
+    let after_b = derive(alloc, studied, event, arena, memo, b, asks)?;
+    let is_b_known = is_joined(studied, arena, b);
+    either(arena, first, false, after_b, is_b_known)
+}
+
+/// The residual of a contract as rows by an event. Each different row is derived once.
+pub fn residual_rows<L>(
+    alloc: Global,
+    studied: &Studied,
+    rows: &Rows,
+    event: &Event,
+    asks: &mut Asks<L>,
+) -> Result<Rows, Memory>
+    requires { CountsFit (definitions_of studied.now.book) (contract_of_rows rows.now) }
+    ensures residual { IfOk result (λ r. contract_of_rows r ≡ after (definitions_of studied.now.book) (marks_of studied.now) event.now (contract_of_rows rows.now)) }
+    ensures rises { asks.old ≤ asks.new }
+    ensures asks { asks.new ≤ asks.old + width (definitions_of studied.now.book) (marks_of studied.now) (contract_of_rows rows.now) }
+    ensures once { asks.new ≤ asks.old + once_lem (definitions_of studied.now.book) (marks_of studied.now) (contract_of_rows rows.now) }
+{
+    // The book is checked and guarded, and the marks are right.
+    let _book = studied.book();
+    let table = rows.arena();
+    let root = rows.root();
+    let mut arena = Arena::new(alloc);
+    let start = copy_row(alloc, table, root, &mut arena)?;
+    let mut memo = IndexMap::new(alloc);
+    let place = derive(alloc, studied, event, &mut arena, &mut memo, start, asks)?;
+    rows_at(alloc, &arena, place)
+}

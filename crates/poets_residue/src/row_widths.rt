@@ -1,0 +1,137 @@
+//! The width of contracts as rows. No more nodes are looked at than the cut has units.
+ghost use Rattle.std.specs.Prelude.{◌≡◌, ◌+◌, ◌-◌, ◌≤◌, ◌<◌, false, length, map, min};
+ghost use Rattle.poets_expr.specs.Expression.{expression_of};
+ghost use Rattle.poets_expr.specs.Size.{nodes_of_all};
+ghost use Rattle.poets_syntax.specs.Applied.{CountsFit};
+ghost use Rattle.poets_syntax.specs.Book.{definitions_of, template_in};
+ghost use Rattle.poets_syntax.specs.Marks.{nullable as nullable_lem};
+ghost use Rattle.poets_syntax.specs.Studied.{marks_of};
+ghost use Rattle.poets_syntax.specs.Width.{size, body_in, wide_by, width};
+ghost use Rattle.poets_cons.specs.Table.{contract_at, contract_of_rows};
+
+use poets_cons::{Arena, Node, Rows};
+use poets_expr::Expr;
+use poets_syntax::Studied;
+
+// One more than the greatest width that a kept residual has.
+const CUT: u64 = 1001;
+
+// What is left of a number when the width of a row is taken off; where something is, also
+// whether the empty trace performs the row.
+#[derive(Clone, Copy)]
+struct Measured {
+    left: u64,
+    nullable: bool,
+}
+
+// What is left when the sizes of the expressions are taken off.
+fn less_args(args: &[Expr], left: u64) -> u64
+    ensures { result ≡ left - nodes_of_all (map expression_of args.now) }
+{
+    let mut left = left;
+    for arg in args {
+        left = left.saturating_sub(poets_expr::size(arg));
+    }
+    left
+}
+
+// What is left when the size of a row is taken off.
+fn less_size(arena: &Arena, place: usize, left: u64) -> u64
+    requires { place < length arena.now }
+    ensures { result ≡ left - size (contract_at arena.now place) }
+{
+    if left == 0 {
+        return 0;
+    }
+    match arena.node(place) {
+        Node::Success | Node::Failure => left - 1,
+        Node::Transmit { when, then, .. } => {
+            let left = (left - 1).saturating_sub(poets_expr::size(when));
+            less_size(arena, *then, left)
+        }
+        Node::Plus(a, b) | Node::Par(a, b) | Node::Seq(a, b) => {
+            let left = less_size(arena, *a, left - 1);
+            less_size(arena, *b, left)
+        }
+        Node::App { args, .. } => less_args(args.as_slice(), left - 1),
+    }
+}
+
+// A row that exposes no application, and is not nullable.
+fn unexposed(arena: &Arena, place: usize, left: u64) -> Measured
+    requires { place < length arena.now }
+    ensures left { result.left ≡ left - size (contract_at arena.now place) }
+    ensures nullable { result.nullable ≡ false }
+{
+    Measured {
+        left: less_size(arena, place, left),
+        nullable: false,
+    }
+}
+
+// Measures a row. The body of a template counts as its mark says.
+fn measure(studied: &Studied, arena: &Arena, place: usize, left: u64) -> Measured
+    requires within { place < length arena.now }
+    requires cut { left ≤ 1001 }
+    ensures left { result.left ≡ left - wide_by (λ f. body_in (template_in (definitions_of studied.now.book).templates f) (width (definitions_of studied.now.book) (marks_of studied.now))) (marks_of studied.now) (contract_at arena.now place) }
+    ensures nullable { 0 < result.left → result.nullable ≡ nullable_lem (marks_of studied.now) (contract_at arena.now place) }
+{
+    if left == 0 {
+        return unexposed(arena, place, left);
+    }
+    match arena.node(place) {
+        Node::Success => Measured {
+            left: left - 1,
+            nullable: true,
+        },
+        Node::Failure | Node::Transmit { .. } => unexposed(arena, place, left),
+        Node::Plus(a, b) => {
+            let first = measure(studied, arena, *a, left - 1);
+            let second = measure(studied, arena, *b, first.left);
+            Measured {
+                left: second.left,
+                nullable: first.nullable || second.nullable,
+            }
+        }
+        Node::Par(a, b) => {
+            let first = measure(studied, arena, *a, left - 1);
+            let second = measure(studied, arena, *b, first.left);
+            Measured {
+                left: second.left,
+                nullable: first.nullable && second.nullable,
+            }
+        }
+        Node::Seq(a, b) => {
+            let first = measure(studied, arena, *a, left - 1);
+            if first.nullable {
+                return measure(studied, arena, *b, first.left);
+            }
+            unexposed(arena, *b, first.left)
+        }
+        Node::App { name, args } => {
+            let left = less_args(args.as_slice(), left - 1);
+            match studied.template(*name) {
+                Some((_, mark)) => Measured {
+                    left: left.saturating_sub(mark.wide),
+                    nullable: mark.nullable,
+                },
+                None => Measured {
+                    left,
+                    nullable: false,
+                },
+            }
+        }
+    }
+}
+
+/// The width of the contract of the rows, cut at 1,001.
+pub fn wide_rows(studied: &Studied, rows: &Rows) -> u64
+    requires { CountsFit (definitions_of studied.now.book) (contract_of_rows rows.now) }
+    ensures { result ≡ min (width (definitions_of studied.now.book) (marks_of studied.now) (contract_of_rows rows.now)) 1001 }
+{
+    // The book is checked and guarded, and the marks are right.
+    let _book = studied.book();
+    let root = rows.root();
+    let arena = rows.arena();
+    CUT - measure(studied, arena, root, CUT).left
+}

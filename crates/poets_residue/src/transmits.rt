@@ -1,0 +1,121 @@
+//! Transmissions that take an event or refuse it.
+ghost use Rattle.std.specs.Prelude.{◌≡◌, ◌+◌, ◌≤◌, ◌<◌, IfOk, length, reverse, []};
+ghost use Rattle.poets_expr.specs.Env.{declared_of};
+ghost use Rattle.poets_expr.specs.Expression.{expression_of};
+ghost use Rattle.poets_expr.specs.Val.{val};
+ghost use Rattle.poets_syntax.specs.Arguments.{arguments};
+ghost use Rattle.poets_syntax.specs.Book.{definitions_of, taken};
+ghost use Rattle.poets_syntax.specs.Contract.{contract_of, Transmit};
+ghost use Rattle.poets_syntax.specs.Normal.{normal as normal_lem};
+ghost use Rattle.poets_syntax.specs.Replace.{replace};
+ghost use Rattle.poets_syntax.specs.Residual.{event_givens as event_givens_lem, after, is_true};
+ghost use Rattle.poets_syntax.specs.Studied.{marks_of};
+ghost use Rattle.poets_norm.specs.Questions.{questions};
+ghost use Rattle.poets_cons.specs.Table.{contract_at};
+
+use poets_cons::{Arena, term_at};
+use poets_expr::{Asks, Decls, Env, Expr, Given, eval};
+use poets_norm::normal;
+use poets_syntax::{Binders, Studied, Term, subst};
+use poets_value::{Event, Memory, Name, Ty, Value};
+use std::alloc::Global;
+
+// What the binders stand for once the event is taken, the newest last.
+fn event_givens(binders: &Binders, event: &Event) -> [(Name, Given); 4]
+    ensures { reverse result ≡ event_givens_lem binders.now event.now }
+{
+    let sender = Given {
+        value: Some(Value::Agent(event.sender)),
+        ty: Ty::Agent,
+    };
+    let receiver = Given {
+        value: Some(Value::Agent(event.receiver)),
+        ty: Ty::Agent,
+    };
+    let what = Given {
+        value: Some(Value::Resource(event.what)),
+        ty: Ty::Resource,
+    };
+    let day = Given {
+        value: Some(Value::Day(event.day)),
+        ty: Ty::Day,
+    };
+    [
+        (binders.sender, sender),
+        (binders.receiver, receiver),
+        (binders.what, what),
+        (binders.day, day),
+    ]
+}
+
+// Whether the predicate holds of the event.
+fn holds<L>(
+    decls: &Decls,
+    binders: &Binders,
+    when: &Expr,
+    event: &Event,
+    asks: &mut Asks<L>,
+) -> bool
+    ensures value { result ≡ is_true (val (declared_of decls.now.names) (taken binders.now event.now []) (expression_of when.now)) }
+    ensures rises { asks.old ≤ asks.new }
+    ensures asks { asks.new ≤ asks.old + 1 }
+{
+    let pairs = [
+        (binders.sender, Some(Value::Agent(event.sender))),
+        (binders.receiver, Some(Value::Agent(event.receiver))),
+        (binders.what, Some(Value::Resource(event.what))),
+        (binders.day, Some(Value::Day(event.day))),
+    ];
+    let env = Env {
+        decls,
+        pairs: &pairs,
+    };
+    // The count that was handed in is at most the greatest `u64`.
+    let _count = asks.count();
+    match eval(&env, when, asks) {
+        Some(Value::Bool(answer)) => answer,
+        _ => false,
+    }
+}
+
+// What a transmission that took the event leads to.
+fn taken_on<L>(
+    alloc: Global,
+    studied: &Studied,
+    binders: &Binders,
+    then: &Term,
+    event: &Event,
+    asks: &mut Asks<L>,
+) -> Result<Term, Memory>
+    ensures residual { IfOk result (λ r. contract_of r ≡ normal_lem (definitions_of studied.now.book) (marks_of studied.now) (replace (event_givens_lem binders.now event.now) (contract_of then.now))) }
+    ensures rises { asks.old ≤ asks.new }
+    ensures asks { asks.new ≤ asks.old + questions (contract_of then.now) }
+    ensures arguments { asks.new ≤ asks.old + arguments (contract_of then.now) }
+{
+    let replaced = subst(alloc, then, &event_givens(binders, event))?;
+    normal(alloc, studied, &replaced, asks)
+}
+
+// The residual of a transmission whose continuation is a row.
+pub(crate) fn transmit_at<L>(
+    alloc: Global,
+    studied: &Studied,
+    event: &Event,
+    arena: &Arena,
+    binders: &Binders,
+    when: &Expr,
+    then: usize,
+    asks: &mut Asks<L>,
+) -> Result<Term, Memory>
+    requires { then < length arena.now }
+    ensures residual { IfOk result (λ r. contract_of r ≡ after (definitions_of studied.now.book) (marks_of studied.now) event.now (Transmit binders.now (expression_of when.now) (contract_at arena.now then))) }
+    ensures rises { asks.old ≤ asks.new }
+    ensures asks { asks.new ≤ asks.old + questions (Transmit binders.now (expression_of when.now) (contract_at arena.now then)) }
+    ensures once { asks.new ≤ asks.old + 1 + arguments (contract_at arena.now then) }
+{
+    if !holds(&studied.book().decls, binders, when, event, asks) {
+        return Ok(Term::Failure);
+    }
+    let then = term_at(alloc, arena, then)?;
+    taken_on(alloc, studied, binders, &then, event, asks)
+}
