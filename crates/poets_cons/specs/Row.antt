@@ -1,5 +1,6 @@
 -- Rows: the nodes of a contract, whose parts are numbers of rows.
 use Rattle.std.specs.Prelude.{◌≡◌, ◌<◌, ◌⊎◌, ℕ, List, map}
+use Rattle.std.specs.Arc.{arc_value}
 use Rattle.poets_value.specs.declared.value.Name.{Name}
 use Rattle.poets_expr.specs.Expression.{Expression, expression_of}
 use Rattle.poets_syntax.specs.declared.term.Binders.{Binders}
@@ -22,11 +23,11 @@ pub data Row : Type 0 where
 abbrev pub row_of : Node → Row
 row_of N.Success = Success
 row_of N.Failure = Failure
-row_of (N.Transmit b e c) = Transmit b (expression_of e) c
+row_of (N.Transmit b e c) = Transmit b (expression_of (arc_value e)) c
 row_of (N.Plus a b) = Plus a b
 row_of (N.Par a b) = Par a b
 row_of (N.Seq a b) = Seq a b
-row_of (N.App f args) = App f (map expression_of args.items)
+row_of (N.App f args) = App f (map expression_of (arc_value args).items)
 
 -- the contract of a row, from those of its parts
 abbrev pub contract_by : (ℕ → Contract) → Row → Contract

@@ -9,6 +9,25 @@ use poets_value::Memory;
 use std::alloc::Global;
 use std::marker::Model;
 
+// The node at a place.
+fn nth(nodes: &[Node], place: usize) -> &Node
+    requires { place < length nodes.now }
+    ensures { slice_get nodes.now place ≡ Some result.now }
+{
+    &nodes[place]
+}
+
+/// The row with that number.
+pub fn node_at(nodes: &[Node], place: usize) -> &Node
+    requires table { IsTable nodes.now }
+    requires within { place < length nodes.now }
+    ensures node { slice_get nodes.now place ≡ Some result.now }
+    ensures contract { contract_at nodes.now place ≡ contract_by (contract_at nodes.now) (row_of result.now) }
+    ensures below { AreBelow place (row_of result.now) }
+{
+    nth(nodes, place)
+}
+
 /// Rows that name earlier ones alone, and of which no two are equal.
 #[derive(Drop)]
 pub struct Arena {
@@ -50,6 +69,14 @@ impl Arena {
         ensures small { result < 2 ^ 63 }
     {
         self.nodes.len()
+    }
+
+    /// All rows, in order.
+    pub fn nodes(&self) -> &[Node]
+        ensures nodes { result.now ≡ self.now }
+        ensures table { IsTable self.now }
+    {
+        self.nodes.as_slice()
     }
 
     /// The row with that number.

@@ -5,12 +5,11 @@ ghost use Rattle.poets_cons.specs.Copies.{AreCopies};
 ghost use Rattle.poets_cons.specs.Table.{contract_at, Stands, Extends, AddsReached, AddsReachedBoth};
 
 use crate::arena::Arena;
-use crate::entering::copy_args;
 use crate::node::Node;
 use indexmap::IndexMap;
-use poets_expr::copy;
 use poets_value::Memory;
 use std::alloc::Global;
+use std::sync::Arc;
 
 /// The number of the row in `into` that stands for a row of `from`. It is added, with all that it
 /// reaches, where it is not there. Each row of `from` is looked at once.
@@ -77,7 +76,7 @@ fn copy_anew(
             then,
         } => {
             let then = copy_once(alloc, from, *then, into, copies)?;
-            let when = copy(alloc, when)?;
+            let when = Arc::try_clone(when)?;
             into.add(Node::Transmit {
                 binders: *binders,
                 when,
@@ -97,7 +96,7 @@ fn copy_anew(
             into.add(Node::Seq(a, b))
         }
         Node::App { name, args } => {
-            let args = copy_args(alloc, args)?;
+            let args = Arc::try_clone(args)?;
             into.add(Node::App { name: *name, args })
         }
     }

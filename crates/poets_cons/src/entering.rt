@@ -10,6 +10,7 @@ use poets_expr::{Expr, copy};
 use poets_syntax::Term;
 use poets_value::{List, Memory, push};
 use std::alloc::Global;
+use std::sync::Arc;
 
 // The same expressions, in a list of their own.
 pub(crate) fn copy_args(alloc: Global, args: &List<Expr>) -> Result<List<Expr>, Memory>
@@ -38,7 +39,7 @@ pub fn enter(alloc: Global, arena: &mut Arena, term: &Term) -> Result<usize, Mem
             then,
         } => {
             let then = enter(alloc, arena, then)?;
-            let when = copy(alloc, when)?;
+            let when = Arc::new(alloc, copy(alloc, when)?)?;
             arena.add(Node::Transmit {
                 binders: *binders,
                 when,
@@ -58,7 +59,7 @@ pub fn enter(alloc: Global, arena: &mut Arena, term: &Term) -> Result<usize, Mem
             arena.add(Node::Seq(a, b))
         }
         Term::App { name, args } => {
-            let args = copy_args(alloc, args)?;
+            let args = Arc::new(alloc, copy_args(alloc, args)?)?;
             arena.add(Node::App { name: *name, args })
         }
     }

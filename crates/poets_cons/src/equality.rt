@@ -47,7 +47,7 @@ fn same_nodes(a: &Node, b: &Node) -> bool
                 when: q,
                 then: d,
             },
-        ) => x == y && same(p, q) && c == d,
+        ) => x == y && same(&**p, &**q) && c == d,
         (Node::Plus(x, v), Node::Plus(y, w)) => x == y && v == w,
         (Node::Par(x, v), Node::Par(y, w)) => x == y && v == w,
         (Node::Seq(x, v), Node::Seq(y, w)) => x == y && v == w,

@@ -148,7 +148,7 @@ pub(crate) fn feed<H: Hasher>(node: &Node, state: &mut H)
         Node::Transmit { when, then, .. } => {
             state.write_u8(2);
             state.write_usize(*then);
-            feed_expression(when, state);
+            feed_expression(&**when, state);
         }
         Node::Plus(a, b) => feed_places(3, *a, *b, state),
         Node::Par(a, b) => feed_places(4, *a, *b, state),

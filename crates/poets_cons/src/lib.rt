@@ -7,12 +7,14 @@ mod entering;
 mod equality;
 mod hashing;
 mod node;
+mod replacing;
 mod rows;
 #[cfg(test)]
 mod tests;
 
-pub use arena::Arena;
+pub use arena::{Arena, node_at};
 pub use copying::copy_row;
 pub use entering::enter;
 pub use node::Node;
-pub use rows::{Rows, of_term, rows_at, term_at, to_term};
+pub use replacing::replaced_at;
+pub use rows::{Rows, of_term, rows_at, to_term};

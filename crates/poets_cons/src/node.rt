@@ -3,8 +3,9 @@
 use poets_expr::Expr;
 use poets_syntax::Binders;
 use poets_value::{List, Name};
+use std::sync::Arc;
 
-/// One node of a contract. Its parts are numbers of earlier rows.
+/// One node of a contract. Its parts are numbers of earlier rows, and tables share its expressions.
 #[derive(Drop)]
 pub enum Node {
     /// Nothing is left to do.
@@ -14,7 +15,7 @@ pub enum Node {
     /// An event of which `when` is true, and then the row `then`.
     Transmit {
         binders: Binders,
-        when: Expr,
+        when: Arc<Expr>,
         then: usize,
     },
     /// One of the two.
@@ -26,6 +27,6 @@ pub enum Node {
     /// The body of the template, where its parameters have the values of the arguments.
     App {
         name: Name,
-        args: List<Expr>,
+        args: Arc<List<Expr>>,
     },
 }

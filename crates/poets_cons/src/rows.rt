@@ -6,11 +6,9 @@ ghost use Rattle.poets_cons.specs.Table.{contract_at, contract_of_rows, IsTable,
 
 use crate::arena::Arena;
 use crate::copying::copy_row;
-use crate::entering::{copy_args, enter};
-use crate::node::Node;
-use poets_expr::copy;
+use crate::entering::enter;
+use crate::replacing::replaced_at;
 use poets_syntax::Term;
-use poets_syntax::build::{par, plus, seq, transmit};
 use poets_value::Memory;
 use std::alloc::Global;
 use std::marker::Model;
@@ -85,49 +83,10 @@ pub fn rows_at(alloc: Global, arena: &Arena, place: usize) -> Result<Rows, Memor
     Ok(Rows { arena: rows })
 }
 
-/// The contract of the row with that number.
-pub fn term_at(alloc: Global, arena: &Arena, place: usize) -> Result<Term, Memory>
-    requires { place < length arena.now }
-    ensures { IfOk result (λ t. contract_of t ≡ contract_at arena.now place) }
-{
-    match arena.node(place) {
-        Node::Success => Ok(Term::Success),
-        Node::Failure => Ok(Term::Failure),
-        Node::Transmit {
-            binders,
-            when,
-            then,
-        } => {
-            let then = term_at(alloc, arena, *then)?;
-            let when = copy(alloc, when)?;
-            transmit(alloc, *binders, when, then)
-        }
-        Node::Plus(a, b) => {
-            let a = term_at(alloc, arena, *a)?;
-            let b = term_at(alloc, arena, *b)?;
-            plus(alloc, a, b)
-        }
-        Node::Par(a, b) => {
-            let a = term_at(alloc, arena, *a)?;
-            let b = term_at(alloc, arena, *b)?;
-            par(alloc, a, b)
-        }
-        Node::Seq(a, b) => {
-            let a = term_at(alloc, arena, *a)?;
-            let b = term_at(alloc, arena, *b)?;
-            seq(alloc, a, b)
-        }
-        Node::App { name, args } => Ok(Term::App {
-            name: *name,
-            args: copy_args(alloc, args)?,
-        }),
-    }
-}
-
 /// The contract of the rows.
 pub fn to_term(alloc: Global, rows: &Rows) -> Result<Term, Memory>
     ensures { IfOk result (λ t. contract_of t ≡ contract_of_rows rows.now) }
 {
     let root = rows.root();
-    term_at(alloc, rows.arena(), root)
+    replaced_at(alloc, rows.arena().nodes(), root, &[])
 }

@@ -7,7 +7,7 @@ mod examples;
 pub mod laws;
 mod sizes;
 mod studied;
-mod substitution;
+pub mod substitution;
 mod term;
 #[cfg(test)]
 mod tests;

@@ -21,8 +21,8 @@ fn binds(binders: &Binders, name: Name) -> bool
         || binders.sender == name
 }
 
-// What is replaced below the binders.
-fn below(
+/// What is replaced below the binders: all pairs but those of their names, in order.
+pub fn below(
     alloc: Global,
     binders: &Binders,
     pairs: &[(Name, Given)],
@@ -38,8 +38,8 @@ fn below(
     Ok(kept)
 }
 
-// The expressions with their names replaced.
-fn subst_args(
+/// The expressions with their names replaced by literals.
+pub fn subst_args(
     alloc: Global,
     args: &List<Expr>,
     pairs: &[(Name, Given)],

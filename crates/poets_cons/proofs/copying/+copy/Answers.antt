@@ -1,3 +1,4 @@
+use Rattle.std.specs.Arc.{arc_value}
 use Rattle.std.proofs.Common.{◌≡◌, ℕ, nat_eq, slice_get, Some, refl, inl, inr, rules}
 use Rattle.indexmap.specs.IndexMap.{get}
 use Rattle.poets_expr.specs.Expression.{expression_of}
@@ -23,7 +24,7 @@ copy_anew-returns-in_ok-when-in-Transmit-clause-reached t c =
     let mid = c.copy_once.new.into in
     let new = c.add-in-Transmit.new.self in
     let a = c.in_ok-then-in-Transmit.then in
-    let r = R.Transmit c.in-Transmit.binders (expression_of c.in_ok-when-in-Transmit.when) a in
+    let r = R.Transmit c.in-Transmit.binders (expression_of (arc_value c.in_ok-when-in-Transmit.when)) a in
     both_ok (λ p. slice_get (rows_of new) p ≡ Some r) (AddsReached mid new) (AddsReached old new) c.add-in-Transmit.result
     (reached_one old mid new c.add-in-Transmit.ensures.grows a c.in_ok-then-in-Transmit.ensures.reached r refl)
     c.add-in-Transmit.ensures.row c.add-in-Transmit.ensures.reached

@@ -1,4 +1,0 @@
-use Rattle.poets_cons.proofs.rows.+term_at.Given as goal
-
-abbrev pub decreases-term_at : goal.decreases-term_at
-decreases-term_at l = l.place
