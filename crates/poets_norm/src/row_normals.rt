@@ -13,10 +13,11 @@ ghost use Rattle.poets_cons.specs.Table.{contract_at, contract_of_rows, Stands, 
 use crate::applications::app;
 use crate::joining::{failure, merge, par, seq};
 use poets_cons::{Arena, Node, Rows, enter, rows_at};
-use poets_expr::{Asks, Expr, copy};
-use poets_syntax::{Binders, Studied, Term};
+use poets_expr::{Asks, Expr};
+use poets_syntax::{Binders, Studied, Term, copy};
 use poets_value::Memory;
 use std::alloc::Global;
+use std::sync::Arc;
 
 /// The rows of the normal form of a contract.
 pub fn normal_rows<L>(
@@ -32,7 +33,8 @@ pub fn normal_rows<L>(
     ensures arguments { asks.new ≤ asks.old + arguments (contract_of term.now) }
 {
     let mut arena = Arena::new(alloc);
-    let root = enter_normal(alloc, studied, &mut arena, term, asks)?;
+    let copied = copy(alloc, term)?;
+    let root = enter_normal(alloc, studied, &mut arena, copied, asks)?;
     rows_at(alloc, &arena, root)
 }
 
@@ -43,16 +45,16 @@ pub fn enter_normal<L>(
     alloc: Global,
     studied: &Studied,
     arena: &mut Arena,
-    term: &Term,
+    term: Term,
     asks: &mut Asks<L>,
 ) -> Result<usize, Memory>
     ensures grows { Extends arena.old arena.new }
-    ensures normal { IfOk result (λ p. Stands arena.new p (normal_lem (definitions_of studied.now.book) (marks_of studied.now) (contract_of term.now))) }
+    ensures normal { IfOk result (λ p. Stands arena.new p (normal_lem (definitions_of studied.now.book) (marks_of studied.now) (contract_of term))) }
     ensures rises { asks.old ≤ asks.new }
-    ensures asks { asks.new ≤ asks.old + questions (contract_of term.now) }
-    ensures questions { OnOk result (asks.new + questions (normal_lem (definitions_of studied.now.book) (marks_of studied.now) (contract_of term.now)) ≤ asks.old + questions (contract_of term.now)) }
-    ensures size { asks.new ≤ asks.old + size (contract_of term.now) }
-    ensures arguments { asks.new ≤ asks.old + arguments (contract_of term.now) }
+    ensures asks { asks.new ≤ asks.old + questions (contract_of term) }
+    ensures questions { OnOk result (asks.new + questions (normal_lem (definitions_of studied.now.book) (marks_of studied.now) (contract_of term)) ≤ asks.old + questions (contract_of term)) }
+    ensures size { asks.new ≤ asks.old + size (contract_of term) }
+    ensures arguments { asks.new ≤ asks.old + arguments (contract_of term) }
 {
     match term {
         Term::Success => arena.add(Node::Success),
@@ -62,23 +64,44 @@ pub fn enter_normal<L>(
             when,
             then,
         } => {
-            let then = enter_normal(alloc, studied, arena, then, asks)?;
-            send(alloc, arena, *binders, when, then)
+            let then = enter_normal(alloc, studied, arena, Box::into_inner(then), asks)?;
+            send(alloc, arena, binders, when, then)
         }
         Term::Plus(a, b) => {
-            let (a, b) = enter_both(alloc, studied, arena, a, b, asks)?;
+            let (a, b) = enter_both(
+                alloc,
+                studied,
+                arena,
+                Box::into_inner(a),
+                Box::into_inner(b),
+                asks,
+            )?;
             merge(arena, a, b)
         }
         Term::Par(a, b) => {
-            let (a, b) = enter_both(alloc, studied, arena, a, b, asks)?;
+            let (a, b) = enter_both(
+                alloc,
+                studied,
+                arena,
+                Box::into_inner(a),
+                Box::into_inner(b),
+                asks,
+            )?;
             par(arena, a, b)
         }
         Term::Seq(a, b) => {
-            let (a, b) = enter_both(alloc, studied, arena, a, b, asks)?;
+            let (a, b) = enter_both(
+                alloc,
+                studied,
+                arena,
+                Box::into_inner(a),
+                Box::into_inner(b),
+                asks,
+            )?;
             seq(arena, a, b)
         }
         Term::App { name, args } => {
-            let term = app(alloc, studied, *name, args.as_slice(), asks)?;
+            let term = app(alloc, studied, name, args.as_slice(), asks)?;
             enter(alloc, arena, &term)
         }
     }
@@ -89,17 +112,17 @@ fn send(
     alloc: Global,
     arena: &mut Arena,
     binders: Binders,
-    when: &Expr,
+    when: Expr,
     then: usize,
 ) -> Result<usize, Memory>
     requires { then < length arena.old }
     ensures grows { Extends arena.old arena.new }
-    ensures stands { IfOk result (λ p. Stands arena.new p (send_lem binders (expression_of when.now) (contract_at arena.old then))) }
+    ensures stands { IfOk result (λ p. Stands arena.new p (send_lem binders (expression_of when) (contract_at arena.old then))) }
 {
     if matches!(arena.node(then), Node::Failure) {
         return Ok(then);
     }
-    let when = copy(alloc, when)?;
+    let when = Arc::new(alloc, when)?;
     arena.add(Node::Transmit {
         binders,
         when,
@@ -113,18 +136,18 @@ fn enter_both<L>(
     alloc: Global,
     studied: &Studied,
     arena: &mut Arena,
-    a: &Term,
-    b: &Term,
+    a: Term,
+    b: Term,
     asks: &mut Asks<L>,
 ) -> Result<(usize, usize), Memory>
     ensures grows { Extends arena.old arena.new }
-    ensures first { IfOk result (λ p. Stands arena.new p.0 (normal_lem (definitions_of studied.now.book) (marks_of studied.now) (contract_of a.now))) }
-    ensures second { IfOk result (λ p. Stands arena.new p.1 (normal_lem (definitions_of studied.now.book) (marks_of studied.now) (contract_of b.now))) }
+    ensures first { IfOk result (λ p. Stands arena.new p.0 (normal_lem (definitions_of studied.now.book) (marks_of studied.now) (contract_of a))) }
+    ensures second { IfOk result (λ p. Stands arena.new p.1 (normal_lem (definitions_of studied.now.book) (marks_of studied.now) (contract_of b))) }
     ensures rises { asks.old ≤ asks.new }
-    ensures asks { asks.new ≤ asks.old + questions (contract_of a.now) + questions (contract_of b.now) }
-    ensures questions { OnOk result (asks.new + questions (normal_lem (definitions_of studied.now.book) (marks_of studied.now) (contract_of a.now)) + questions (normal_lem (definitions_of studied.now.book) (marks_of studied.now) (contract_of b.now)) ≤ asks.old + questions (contract_of a.now) + questions (contract_of b.now)) }
-    ensures size { asks.new ≤ asks.old + size (contract_of a.now) + size (contract_of b.now) }
-    ensures arguments { asks.new ≤ asks.old + arguments (contract_of a.now) + arguments (contract_of b.now) }
+    ensures asks { asks.new ≤ asks.old + questions (contract_of a) + questions (contract_of b) }
+    ensures questions { OnOk result (asks.new + questions (normal_lem (definitions_of studied.now.book) (marks_of studied.now) (contract_of a)) + questions (normal_lem (definitions_of studied.now.book) (marks_of studied.now) (contract_of b)) ≤ asks.old + questions (contract_of a) + questions (contract_of b)) }
+    ensures size { asks.new ≤ asks.old + size (contract_of a) + size (contract_of b) }
+    ensures arguments { asks.new ≤ asks.old + arguments (contract_of a) + arguments (contract_of b) }
 {
     let first = enter_normal(alloc, studied, arena, a, asks)?;
     let second = enter_normal(alloc, studied, arena, b, asks)?;

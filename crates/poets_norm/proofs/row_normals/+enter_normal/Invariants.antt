@@ -4,7 +4,7 @@ use Rattle.poets_syntax.specs.Width.{size}
 use Rattle.poets_norm.proofs.row_normals.+enter_normal.Given as goal
 
 abbrev pub decreases-enter_normal : goal.decreases-enter_normal
-decreases-enter_normal g l = 2 * size (contract_of l.term.now)
+decreases-enter_normal g l = 2 * size (contract_of l.term)
 
 abbrev pub decreases-enter_both : goal.decreases-enter_both
-decreases-enter_both g l = 2 * (size (contract_of l.a.now) + size (contract_of l.b.now)) + 1
+decreases-enter_both g l = 2 * (size (contract_of l.a) + size (contract_of l.b)) + 1
