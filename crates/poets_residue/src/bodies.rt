@@ -1,5 +1,5 @@
 //! Applications unfolded.
-ghost use Rattle.std.specs.Prelude.{◌≡◌, ◌+◌, ◌≤◌, IfOk, Some, map, reverse, sum_by, []};
+ghost use Rattle.std.specs.Prelude.{◌≡◌, ◌+◌, ◌≤◌, IfOk, OnOk, Some, map, reverse, sum_by, []};
 ghost use Rattle.poets_expr.specs.Env.{declared_of, itself};
 ghost use Rattle.poets_expr.specs.Expression.{expression_of};
 ghost use Rattle.poets_expr.specs.Val.{val};
@@ -9,10 +9,12 @@ ghost use Rattle.poets_syntax.specs.Contract.{contract_of};
 ghost use Rattle.poets_syntax.specs.Residual.{argument_givens, body_of};
 ghost use Rattle.poets_syntax.specs.Studied.{marks_of};
 ghost use Rattle.poets_norm.specs.Questions.{operated, questions};
+ghost use Rattle.poets_cons.specs.Table.{Stands, Extends};
 
+use poets_cons::Arena;
 use poets_expr::{Asks, Decls, Env, Expr, Given, eval};
-use poets_norm::normal;
-use poets_syntax::{Param, Studied, Template, Term, subst};
+use poets_norm::enter_normal;
+use poets_syntax::{Param, Studied, Template, subst};
 use poets_value::{List, Memory, Name, Ty, Value, push};
 use std::alloc::Global;
 
@@ -70,22 +72,25 @@ fn arguments<L>(
     Ok(pairs)
 }
 
-// The body of a template with its parameters replaced, in normal form. What the arguments and the body ask is not asked again.
+// The number of the row of the body of a template with its parameters replaced, in normal form, which is entered in the
+// table. What the arguments and the body ask is not asked again.
 pub(crate) fn unfold<L>(
     alloc: Global,
     studied: &Studied,
     template: &Template,
     args: &[Expr],
+    arena: &mut Arena,
     asks: &mut Asks<L>,
-) -> Result<Term, Memory>
-    ensures body { IfOk result (λ r. contract_of r ≡ body_of (definitions_of studied.now.book) (marks_of studied.now) (Some (definition_of template.now)) (map expression_of args.now)) }
+) -> Result<usize, Memory>
+    ensures grows { Extends arena.old arena.new }
+    ensures body { IfOk result (λ p. Stands arena.new p (body_of (definitions_of studied.now.book) (marks_of studied.now) (Some (definition_of template.now)) (map expression_of args.now))) }
     ensures rises { asks.old ≤ asks.new }
     ensures asks { asks.new ≤ asks.old + sum_by operated (map expression_of args.now) + questions (contract_of template.now.body) }
     ensures arguments { asks.new ≤ asks.old + sum_by operated (map expression_of args.now) + arguments_lem (contract_of template.now.body) }
-    ensures questions { IfOk result (λ r. asks.new + questions (contract_of r) ≤ asks.old + sum_by operated (map expression_of args.now) + questions (contract_of template.now.body)) }
+    ensures questions { OnOk result (asks.new + questions (body_of (definitions_of studied.now.book) (marks_of studied.now) (Some (definition_of template.now)) (map expression_of args.now)) ≤ asks.old + sum_by operated (map expression_of args.now) + questions (contract_of template.now.body)) }
 {
     let decls = &studied.book().decls;
     let pairs = arguments(alloc, decls, template.params.as_slice(), args, asks)?;
     let body = subst(alloc, &template.body, pairs.as_slice())?;
-    normal(alloc, studied, &body, asks)
+    enter_normal(alloc, studied, arena, body, asks)
 }

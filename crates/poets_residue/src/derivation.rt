@@ -17,12 +17,13 @@ use crate::bodies::unfold;
 use crate::shared::{is_joined, may_end_at, note, sides};
 use crate::transmits::transmit_at;
 use indexmap::IndexMap;
-use poets_cons::{Arena, Node, Rows, copy_row, enter, rows_at};
+use poets_cons::{Arena, Node, Rows, copy_row, rows_at};
 use poets_expr::Asks;
 use poets_norm::joining::{either, failure, seq};
 use poets_syntax::Studied;
 use poets_value::{Event, Memory};
 use std::alloc::Global;
+use std::sync::Arc;
 
 // The number of the row of the residual of a row, which is derived once.
 #[cycle(derive)]
@@ -82,8 +83,10 @@ fn derive_anew<L>(
             when,
             then,
         } => {
-            let left = transmit_at(alloc, studied, event, arena, binders, when, *then, asks)?;
-            enter(alloc, arena, &left)
+            let binders = *binders;
+            let when = Arc::try_clone(when)?;
+            let then = *then;
+            transmit_at(alloc, studied, event, arena, &binders, &*when, then, asks)
         }
         Node::Plus(a, b) => {
             let a = *a;
@@ -104,8 +107,8 @@ fn derive_anew<L>(
             let Some((template, _)) = studied.template(*name) else {
                 return failure(arena);
             };
-            let body = unfold(alloc, studied, template, args.as_slice(), asks)?;
-            let start = enter(alloc, arena, &body)?;
+            let args = Arc::try_clone(args)?;
+            let start = unfold(alloc, studied, template, args.as_slice(), arena, asks)?;
             derive(alloc, studied, event, arena, memo, start, asks)
         }
     }

@@ -59,7 +59,11 @@ pub(crate) fn is_joined(studied: &Studied, arena: &Arena, place: usize) -> bool
 }
 
 // Notes where the residual of a row stands, and hands that on.
-pub(crate) fn note(memo: &mut IndexMap<usize, usize>, place: usize, next: usize) -> Result<usize, Memory>
+pub(crate) fn note(
+    memo: &mut IndexMap<usize, usize>,
+    place: usize,
+    next: usize,
+) -> Result<usize, Memory>
     ensures next { IfOk result (λ p. p ≡ next) }
     ensures notes { IfOk result (λ _. (k : ℕ) → get nat_eq memo.new k ≡ cond (nat_eq place k) (Some next) (get nat_eq memo.old k)) }
 {

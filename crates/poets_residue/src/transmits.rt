@@ -5,18 +5,19 @@ ghost use Rattle.poets_expr.specs.Expression.{expression_of};
 ghost use Rattle.poets_expr.specs.Val.{val};
 ghost use Rattle.poets_syntax.specs.Arguments.{arguments};
 ghost use Rattle.poets_syntax.specs.Book.{definitions_of, taken};
-ghost use Rattle.poets_syntax.specs.Contract.{contract_of, Transmit};
+ghost use Rattle.poets_syntax.specs.Contract.{Transmit};
 ghost use Rattle.poets_syntax.specs.Normal.{normal as normal_lem};
 ghost use Rattle.poets_syntax.specs.Replace.{replace};
 ghost use Rattle.poets_syntax.specs.Residual.{event_givens as event_givens_lem, after, is_true};
 ghost use Rattle.poets_syntax.specs.Studied.{marks_of};
 ghost use Rattle.poets_norm.specs.Questions.{questions};
-ghost use Rattle.poets_cons.specs.Table.{contract_at};
+ghost use Rattle.poets_cons.specs.Table.{contract_at, Stands, Extends};
 
-use poets_cons::{Arena, term_at};
+use poets_cons::{Arena, replaced_at};
 use poets_expr::{Asks, Decls, Env, Expr, Given, eval};
-use poets_norm::normal;
-use poets_syntax::{Binders, Studied, Term, subst};
+use poets_norm::enter_normal;
+use poets_norm::joining::failure;
+use poets_syntax::{Binders, Studied};
 use poets_value::{Event, Memory, Name, Ty, Value};
 use std::alloc::Global;
 
@@ -78,44 +79,48 @@ fn holds<L>(
     }
 }
 
-// What a transmission that took the event leads to.
+// The number of the row of what a transmission that took the event leads to.
 fn taken_on<L>(
     alloc: Global,
     studied: &Studied,
-    binders: &Binders,
-    then: &Term,
     event: &Event,
+    arena: &mut Arena,
+    binders: &Binders,
+    then: usize,
     asks: &mut Asks<L>,
-) -> Result<Term, Memory>
-    ensures residual { IfOk result (λ r. contract_of r ≡ normal_lem (definitions_of studied.now.book) (marks_of studied.now) (replace (event_givens_lem binders.now event.now) (contract_of then.now))) }
+) -> Result<usize, Memory>
+    requires { then < length arena.old }
+    ensures grows { Extends arena.old arena.new }
+    ensures residual { IfOk result (λ p. Stands arena.new p (normal_lem (definitions_of studied.now.book) (marks_of studied.now) (replace (event_givens_lem binders.now event.now) (contract_at arena.old then)))) }
     ensures rises { asks.old ≤ asks.new }
-    ensures asks { asks.new ≤ asks.old + questions (contract_of then.now) }
-    ensures arguments { asks.new ≤ asks.old + arguments (contract_of then.now) }
+    ensures asks { asks.new ≤ asks.old + questions (contract_at arena.old then) }
+    ensures arguments { asks.new ≤ asks.old + arguments (contract_at arena.old then) }
 {
-    let replaced = subst(alloc, then, &event_givens(binders, event))?;
-    normal(alloc, studied, &replaced, asks)
+    let givens = event_givens(binders, event);
+    let replaced = replaced_at(alloc, arena.nodes(), then, &givens)?;
+    enter_normal(alloc, studied, arena, replaced, asks)
 }
 
-// The residual of a transmission whose continuation is a row.
+// The number of the row of the residual of a transmission whose continuation is a row.
 pub(crate) fn transmit_at<L>(
     alloc: Global,
     studied: &Studied,
     event: &Event,
-    arena: &Arena,
+    arena: &mut Arena,
     binders: &Binders,
     when: &Expr,
     then: usize,
     asks: &mut Asks<L>,
-) -> Result<Term, Memory>
-    requires { then < length arena.now }
-    ensures residual { IfOk result (λ r. contract_of r ≡ after (definitions_of studied.now.book) (marks_of studied.now) event.now (Transmit binders.now (expression_of when.now) (contract_at arena.now then))) }
+) -> Result<usize, Memory>
+    requires { then < length arena.old }
+    ensures grows { Extends arena.old arena.new }
+    ensures residual { IfOk result (λ p. Stands arena.new p (after (definitions_of studied.now.book) (marks_of studied.now) event.now (Transmit binders.now (expression_of when.now) (contract_at arena.old then)))) }
     ensures rises { asks.old ≤ asks.new }
-    ensures asks { asks.new ≤ asks.old + questions (Transmit binders.now (expression_of when.now) (contract_at arena.now then)) }
-    ensures once { asks.new ≤ asks.old + 1 + arguments (contract_at arena.now then) }
+    ensures asks { asks.new ≤ asks.old + questions (Transmit binders.now (expression_of when.now) (contract_at arena.old then)) }
+    ensures once { asks.new ≤ asks.old + 1 + arguments (contract_at arena.old then) }
 {
     if !holds(&studied.book().decls, binders, when, event, asks) {
-        return Ok(Term::Failure);
+        return failure(arena);
     }
-    let then = term_at(alloc, arena, then)?;
-    taken_on(alloc, studied, binders, &then, event, asks)
+    taken_on(alloc, studied, event, arena, binders, then, asks)
 }

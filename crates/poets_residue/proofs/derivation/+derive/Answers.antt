@@ -128,9 +128,22 @@ derive_anew-derive-requires g t c κs within =
       body-smaller book marks c.requires.studied c.in-App.name args definition (sym c.in-Some.ensures.template) fits,
     ) in
     let kept : CountsFit book (body_of book marks (Some definition) args) =
-    rw (sym c.in-Some.ensures.template) at (CountsFit-body book marks c.requires.studied.fit c.in-App.name args) in
-    (search (rules, smaller), (within, (c.requires.studied, (c.in_ok-start-in-App.ensures.stands.within, (subst (CountsFit book) (sym here) kept,
-    notes_later book marks c.args.event.now old mid c.in_ok-start-in-App.ensures.grows (get nat_eq c.args.memo.now) c.requires.notes)))))
+    rw (sym c.in-Some.ensures.template) at (CountsFit-body book marks c.requires.studied.fit c.in-App.name args) in (
+      search (rules, smaller),
+      (
+        within,
+        (
+          c.requires.studied,
+          (
+            c.in_ok-start-in-App.ensures.stands.within,
+            (
+              subst (CountsFit book) (sym here) kept,
+              notes_later book marks c.args.event.now old mid c.in_ok-start-in-App.ensures.grows (get nat_eq c.args.memo.now) c.requires.notes,
+            ),
+          ),
+        ),
+      ),
+    )
 
 pub derive_anew-returns-in_ok-left-in-Transmit-clause-derived : goal.derive_anew-returns-in_ok-left-in-Transmit-clause-derived
 derive_anew-returns-in_ok-left-in-Transmit-clause-derived g t c =
@@ -209,9 +222,19 @@ derive_par-derive-requires-2 g t c κs within =
       arith,
       next_width book marks old mid grows c.args.b c.requires.second,
       width-par book marks (contract_at old c.args.a) (contract_at old c.args.b),
-    ) in
-    (search (rules, smaller), (within, (c.requires.studied, (next_within book marks old mid grows c.args.b c.requires.second,
-    (next_fits book marks old mid grows c.args.b c.requires.second c.requires.fits.1, c.in_ok-after_a.ensures.derived.notes)))))
+    ) in (
+      search (rules, smaller),
+      (
+        within,
+        (
+          c.requires.studied,
+          (
+            next_within book marks old mid grows c.args.b c.requires.second,
+            (next_fits book marks old mid grows c.args.b c.requires.second c.requires.fits.1, c.in_ok-after_a.ensures.derived.notes),
+          ),
+        ),
+      ),
+    )
 
 pub derive_par-returns-in_err-after_b-clause-asks : goal.derive_par-returns-in_err-after_b-clause-asks
 derive_par-returns-in_err-after_b-clause-asks g t c =
@@ -254,9 +277,19 @@ derive_plus-derive-requires-2 g t c κs within =
       arith,
       next_width book marks old mid grows c.args.b c.requires.second,
       width-plus book marks (contract_at old c.args.a) (contract_at old c.args.b),
-    ) in
-    (search (rules, smaller), (within, (c.requires.studied, (next_within book marks old mid grows c.args.b c.requires.second,
-    (next_fits book marks old mid grows c.args.b c.requires.second c.requires.fits.1, c.in_ok-after_a.ensures.derived.notes)))))
+    ) in (
+      search (rules, smaller),
+      (
+        within,
+        (
+          c.requires.studied,
+          (
+            next_within book marks old mid grows c.args.b c.requires.second,
+            (next_fits book marks old mid grows c.args.b c.requires.second c.requires.fits.1, c.in_ok-after_a.ensures.derived.notes),
+          ),
+        ),
+      ),
+    )
 
 pub derive_plus-returns-in_err-after_b-clause-asks : goal.derive_plus-returns-in_err-after_b-clause-asks
 derive_plus-returns-in_err-after_b-clause-asks g t c =
@@ -333,10 +366,22 @@ derive_seq-derive-requires-2 g t c κs within =
       arith,
       next_width book marks old mid grows c.args.b c.requires.second,
       second_narrower book marks a b ends,
-    ) in
-    (search (rules, smaller), (within, (c.requires.studied, (next_within book marks old mid grows c.args.b c.requires.second,
-    (next_fits book marks old mid grows c.args.b c.requires.second c.requires.fits.1,
-    notes_later book marks e n₁ mid c.in_ok-first.ensures.grows (get nat_eq c.derive.new.memo) c.in_ok-after_a.ensures.derived.notes)))))
+    ) in (
+      search (rules, smaller),
+      (
+        within,
+        (
+          c.requires.studied,
+          (
+            next_within book marks old mid grows c.args.b c.requires.second,
+            (
+              next_fits book marks old mid grows c.args.b c.requires.second c.requires.fits.1,
+              notes_later book marks e n₁ mid c.in_ok-first.ensures.grows (get nat_eq c.derive.new.memo) c.in_ok-after_a.ensures.derived.notes,
+            ),
+          ),
+        ),
+      ),
+    )
 
 pub derive_seq-returns-in_err-after_b-clause-asks : goal.derive_seq-returns-in_err-after_b-clause-asks
 derive_seq-returns-in_err-after_b-clause-asks g t c =
