@@ -1,5 +1,5 @@
 -- A node added to a table.
-use Rattle.std.proofs.Common.{◌≡◌, ℕ, ◌+◌, ◌<◌, ◌≤◌, true, false, arith, List, [], ◌∷◌, ◌++◌, length, get_or, slice_get, Some, map, refl, sym, ◌∙◌, ap, subst, inl, inr, append-nil, length-append, if◌then◌else◌, Bool, option_map}
+use Rattle.std.proofs.Common.{◌≡◌, ℕ, ◌+◌, ◌<◌, ◌≤◌, true, false, arith, List, [], ◌∷◌, ◌++◌, length, get_or, slice_get, Some, map, refl, sym, ◌∙◌, ap, subst, inl, inr, append-nil, length-append, if◌then◌else◌, Bool, ◌||◌, option_map}
 use Rattle.std.specs.List.{IsDistinct, list_any, AllByRecursion}
 use Rattle.std.specs.Ordering.{on}
 use Rattle.std.proofs.lemmas.Bool.{cases_order, cases_lt}
@@ -13,7 +13,7 @@ use Rattle.poets_cons.specs.declared.node.Node.{Node}
 use Rattle.poets_cons.specs.Row.{Row, Success, row_of, contract_by, AreBelow}
 use Rattle.poets_cons.specs.Same.{same_row}
 use Rattle.poets_cons.specs.SameRows.{row_one}
-use Rattle.poets_cons.specs.Table.{rows_of, contract_at, AreEarlier, AreDistinct, IsTable, Reached, Stands, Extends, AddsReached}
+use Rattle.poets_cons.specs.Table.{rows_of, contract_at, AreEarlier, AreDistinct, IsTable, with_row, Reached, Stands, Extends, AddsReached}
 use Rattle.poets_cons.proofs.Places.{place_of_row, contract-at}
 
 -- the test of two nodes is that of their rows
@@ -41,6 +41,19 @@ earlier-push rows r earlier h i s e =
           let same : s ≡ r = sym v ∙ ap (λ j. get_or (rows ++ r ∷ []) j Success) place ∙ get_or-append_seam rows r [] Success in
           rw place (subst (AreBelow (length rows)) (sym same) h)
           )
+    ]
+
+any-rows : (r : Row) (nodes : List Node) → list_any (λ n. same_row r (row_of n)) nodes ≡ list_any (same_row r) (rows_of nodes)
+any-rows r [] = refl
+any-rows r (n ∷ nodes) = ap (λ b. same_row r (row_of n) || b) (any-rows r nodes)
+
+-- the rows with a node that is inserted
+pub inserted_row : (nodes : List Node) (node : Node) → rows_of (insert_key same_node nodes node) ≡ with_row (row_of node) (rows_of nodes)
+inserted_row nodes node =
+    let same = any-rows (row_of node) nodes in
+    elim (truth (list_any (same_node node) nodes)) [
+      | inl t ↦ rw (t, sym same ∙ t) refl
+      | inr t ↦ rw (t, sym same ∙ t) (map-append row_of nodes (node ∷ []))
     ]
 
 module _ (old new : List Node) (node : Node) (table : IsTable old) (parts : AreBelow (length old) (row_of node))

@@ -8,3 +8,4 @@ pub mod Reaching
 pub mod Copied
 pub mod Rooting
 pub mod Counting
+mod Loading

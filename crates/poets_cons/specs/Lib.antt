@@ -5,3 +5,4 @@ pub mod Table
 pub mod Parts
 pub mod SameRows
 pub mod Copies
+pub mod Notes

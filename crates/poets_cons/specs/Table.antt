@@ -1,6 +1,6 @@
 -- What a table of rows stands for.
-use Rattle.std.specs.Prelude.{◌≡◌, ◌⊎◌, ℕ, ◌-◌, ◌<◌, ◌≤◌, List, [], ◌∷◌, ◌++◌, map, length, slice_get, Some}
-use Rattle.std.specs.List.{IsDistinct, slice_index_or}
+use Rattle.std.specs.Prelude.{◌≡◌, ◌⊎◌, ℕ, ◌-◌, ◌<◌, ◌≤◌, List, [], ◌∷◌, ◌++◌, map, length, slice_get, Some, if◌then◌else◌}
+use Rattle.std.specs.List.{IsDistinct, list_any, slice_index_or}
 use Rattle.poets_syntax.specs.Contract.{Contract, Failure}
 use Rattle.poets_cons.specs.declared.node.Node.{Node}
 use Rattle.poets_cons.specs.Row.{Row, row_of, contract_by, IsPart, AreBelow}
@@ -32,6 +32,10 @@ AreEarlier rows = (i : ℕ) (r : Row) → slice_get rows i ≡ Some r → AreBel
 -- no two rows are equal
 abbrev pub AreDistinct : List Row → Type 0
 AreDistinct rows = IsDistinct same_row rows
+
+-- the rows with one more at the end, unless it is there
+abbrev pub with_row : Row → List Row → List Row
+with_row r rows = if list_any (same_row r) rows then rows else rows ++ r ∷ []
 
 -- a row is reached from the root by way of parts
 pub data Reached (rows : List Row) (root : ℕ) : ℕ → Type 0 where

@@ -1,7 +1,7 @@
 //! Tables of rows that grow.
-ghost use Rattle.std.specs.Prelude.{◌≡◌, ◌+◌, ◌<◌, ◌^◌, [], length, slice_get, Some, All, IfOk, OnErr, option_map};
+ghost use Rattle.std.specs.Prelude.{◌≡◌, ◌+◌, ◌<◌, ◌^◌, [], length, slice_get, Some, All, IfOk, OnErr, OnOk, option_map};
 ghost use Rattle.poets_cons.specs.Row.{row_of, contract_by, AreBelow};
-ghost use Rattle.poets_cons.specs.Table.{rows_of, contract_at, IsTable, Stands, Extends, AddsReached};
+ghost use Rattle.poets_cons.specs.Table.{rows_of, contract_at, IsTable, Stands, Extends, AddsReached, with_row};
 
 use crate::node::Node;
 use indexmap::IndexSet;
@@ -93,10 +93,21 @@ impl Arena {
         }
     }
 
+    /// Makes room for so many further rows.
+    pub fn reserve(&mut self, more: usize) -> Result<(), Memory>
+        ensures { self.new ≡ self.old }
+    {
+        let Ok(()) = self.nodes.reserve(more) else {
+            return Err(Memory);
+        };
+        Ok(())
+    }
+
     /// The number of the row of this node, which is added where it is not there.
     pub fn add(&mut self, node: Node) -> Result<usize, Memory>
         requires { AreBelow (length self.old) (row_of node) }
         ensures grows { Extends self.old self.new }
+        ensures rows { OnOk result (rows_of self.new ≡ with_row (row_of node) (rows_of self.old)) }
         ensures row { IfOk result (λ p. slice_get (rows_of self.new) p ≡ Some (row_of node)) }
         ensures stands { IfOk result (λ p. Stands self.new p (contract_by (contract_at self.old) (row_of node))) }
         ensures reached { IfOk result (λ p. AddsReached self.old self.new p) }

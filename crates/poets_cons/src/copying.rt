@@ -2,7 +2,8 @@
 ghost use Rattle.std.specs.Prelude.{◌≡◌, ◌<◌, ℕ, IfOk, OnOk, Some, cond, length, nat_eq};
 ghost use Rattle.indexmap.specs.IndexMap.{get};
 ghost use Rattle.poets_cons.specs.Copies.{AreCopies};
-ghost use Rattle.poets_cons.specs.Table.{contract_at, Stands, Extends, AddsReached, AddsReachedBoth};
+ghost use Rattle.poets_cons.specs.Row.{row_of};
+ghost use Rattle.poets_cons.specs.Table.{contract_at, rows_of, IsTable, Stands, Extends, AddsReached, AddsReachedBoth};
 
 use crate::arena::Arena;
 use crate::node::Node;
@@ -135,4 +136,43 @@ fn note(copies: &mut IndexMap<usize, usize>, place: usize, copy: usize) -> Resul
         return Err(Memory);
     };
     Ok(copy)
+}
+
+// The same node, which shares its expressions with the other.
+fn copy_node(node: &Node) -> Result<Node, Memory>
+    ensures { IfOk result (λ n. row_of n ≡ row_of node.now) }
+{
+    match node {
+        Node::Success => Ok(Node::Success),
+        Node::Failure => Ok(Node::Failure),
+        Node::Transmit {
+            binders,
+            when,
+            then,
+        } => Ok(Node::Transmit {
+            binders: *binders,
+            when: Arc::try_clone(when)?,
+            then: *then,
+        }),
+        Node::Plus(a, b) => Ok(Node::Plus(*a, *b)),
+        Node::Par(a, b) => Ok(Node::Par(*a, *b)),
+        Node::Seq(a, b) => Ok(Node::Seq(*a, *b)),
+        Node::App { name, args } => Ok(Node::App {
+            name: *name,
+            args: Arc::try_clone(args)?,
+        }),
+    }
+}
+
+/// The same rows with the same numbers, in a table that may grow.
+pub(crate) fn loaded(alloc: Global, nodes: &[Node]) -> Result<Arena, Memory>
+    requires { IsTable nodes.now }
+    ensures { IfOk result (λ a. rows_of a ≡ rows_of nodes.now) }
+{
+    let mut arena = Arena::new(alloc);
+    arena.reserve(nodes.len())?;
+    for node in nodes {
+        arena.add(copy_node(node)?)?;
+    }
+    Ok(arena)
 }

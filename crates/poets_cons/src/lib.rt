@@ -7,6 +7,7 @@ mod entering;
 mod equality;
 mod hashing;
 mod node;
+mod notes;
 mod replacing;
 mod rows;
 #[cfg(test)]
@@ -16,5 +17,6 @@ pub use arena::{Arena, node_at};
 pub use copying::copy_row;
 pub use entering::enter;
 pub use node::Node;
+pub use notes::Notes;
 pub use replacing::replaced_at;
 pub use rows::{Rows, of_term, rows_at, to_term};

@@ -2,11 +2,12 @@
 ghost use Rattle.std.specs.Prelude.{◌≡◌, ◌+◌, ◌<◌, length, IfOk};
 ghost use Rattle.poets_syntax.specs.Contract.{contract_of};
 ghost use Rattle.poets_cons.specs.Parts.{subterm_count};
-ghost use Rattle.poets_cons.specs.Table.{contract_at, contract_of_rows, IsTable, IsRooted};
+ghost use Rattle.poets_cons.specs.Table.{contract_at, contract_of_rows, rows_of, IsTable, IsRooted};
 
 use crate::arena::Arena;
-use crate::copying::copy_row;
+use crate::copying::{copy_row, loaded};
 use crate::entering::enter;
+use crate::node::Node;
 use crate::replacing::replaced_at;
 use poets_syntax::Term;
 use poets_value::Memory;
@@ -38,6 +39,22 @@ impl Model for Rows {
 }
 
 impl Rows {
+    /// The rows in order, of which the last is the root.
+    pub fn nodes(&self) -> &[Node]
+        ensures nodes { result.now ≡ self.now }
+        ensures table { IsTable self.now }
+        ensures rooted { IsRooted self.now }
+    {
+        self.arena.nodes()
+    }
+
+    /// The same rows with the same numbers, in a table that may grow.
+    pub fn table(&self, alloc: Global) -> Result<Arena, Memory>
+        ensures { IfOk result (λ a. rows_of a ≡ rows_of self.now) }
+    {
+        loaded(alloc, self.nodes())
+    }
+
     /// The rows, as a table.
     pub fn arena(&self) -> &Arena
         ensures rows { result.now ≡ self.now }

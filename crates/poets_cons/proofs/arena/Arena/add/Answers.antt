@@ -1,8 +1,8 @@
-use Rattle.std.proofs.Common.{◌≡◌, ◌∙◌, subst, sym, length, map}
+use Rattle.std.proofs.Common.{◌≡◌, ◌∙◌, subst, sym, ap, length, map}
 use Rattle.indexmap.specs.IndexSet.{insert_key}
 use Rattle.poets_cons.specs.Row.{row_of}
 use Rattle.poets_cons.specs.Table.{rows_of, contract_at, IsTable, Stands, Extends}
-use Rattle.poets_cons.proofs.Adding.{same_node, added_grows, added_table, added_reached, row_found}
+use Rattle.poets_cons.proofs.Adding.{same_node, inserted_row, added_grows, added_table, added_reached, row_found}
 use Rattle.poets_cons.proofs.Standing.{stands_by}
 use Rattle.poets_cons.proofs.arena.Arena.add.Goals as goal
 
@@ -31,3 +31,8 @@ returns-clause-reached c =
     let made : new ≡ insert_key same_node c.args.self.now c.args.node = rw c.self.view_is at c.in-Ok.ensures.keys in
     let table : IsTable c.args.self.now = rw c.self.view_is at c.self.invariant in
     added_reached c.args.self.now new c.args.node table c.requires made c.insert_full.ensures.unique c.in-Ok.place (returns-clause-row c)
+
+pub returns-clause-rows : goal.returns-clause-rows
+returns-clause-rows c =
+    let made : c.insert_full.new.self.keys ≡ insert_key same_node c.args.self.now c.args.node = rw c.self.view_is at c.in-Ok.ensures.keys in
+    ap rows_of made ∙ inserted_row c.args.self.now c.args.node
