@@ -1,12 +1,12 @@
 //! Residuals of contracts as rows, each different row derived once.
-ghost use Rattle.std.specs.Prelude.{◌≡◌, ◌+◌, ◌≤◌, ◌<◌, IfOk, None, length, nat_eq};
-ghost use Rattle.indexmap.specs.IndexMap.{get};
+ghost use Rattle.std.specs.Prelude.{◌≡◌, ◌+◌, ◌≤◌, ◌<◌, IfOk, None, length};
 ghost use Rattle.poets_syntax.specs.Applied.{CountsFit};
 ghost use Rattle.poets_syntax.specs.Book.{definitions_of};
 ghost use Rattle.poets_syntax.specs.Contract.{Plus, Par, Seq};
 ghost use Rattle.poets_syntax.specs.Residual.{after};
 ghost use Rattle.poets_syntax.specs.Studied.{marks_of};
 ghost use Rattle.poets_syntax.specs.Width.{width};
+ghost use Rattle.poets_cons.specs.Notes.{noted};
 ghost use Rattle.poets_cons.specs.Table.{contract_at, contract_of_rows, Extends};
 ghost use Rattle.poets_residue.specs.Notes.{AreNotes, IsDerived, AsksInWidth};
 ghost use Rattle.poets_residue.specs.Once.{once as once_lem};
@@ -14,10 +14,9 @@ ghost use Rattle.poets_residue.specs.Spent.{IsNoted, IsNotedBut, IsSpent};
 ghost use Rattle.poets_residue.specs.Unfolding.{IsStudied};
 
 use crate::bodies::unfold;
-use crate::shared::{is_joined, may_end_at, note, sides};
+use crate::shared::{is_joined, may_end_at, sides};
 use crate::transmits::transmit_at;
-use indexmap::IndexMap;
-use poets_cons::{Arena, Node, Rows, copy_row, rows_at};
+use poets_cons::{Arena, Node, Notes, Rows, rows_at};
 use poets_expr::Asks;
 use poets_norm::joining::{either, failure, seq};
 use poets_syntax::Studied;
@@ -32,25 +31,25 @@ fn derive<L>(
     studied: &Studied,
     event: &Event,
     arena: &mut Arena,
-    memo: &mut IndexMap<usize, usize>,
+    memo: &mut Notes,
     place: usize,
     asks: &mut Asks<L>,
 ) -> Result<usize, Memory>
     requires studied { IsStudied (definitions_of studied.now.book) (marks_of studied.now) }
     requires within { place < length arena.old }
     requires fits { CountsFit (definitions_of studied.now.book) (contract_at arena.old place) }
-    requires notes { AreNotes (definitions_of studied.now.book) (marks_of studied.now) event.now arena.old (get nat_eq memo.old) }
+    requires notes { AreNotes (definitions_of studied.now.book) (marks_of studied.now) event.now arena.old (noted memo.old) }
     ensures grows { Extends arena.old arena.new }
-    ensures derived { IfOk result (IsDerived (definitions_of studied.now.book) (marks_of studied.now) event.now arena.new (get nat_eq memo.new) (contract_at arena.old place)) }
+    ensures derived { IfOk result (IsDerived (definitions_of studied.now.book) (marks_of studied.now) event.now arena.new (noted memo.new) (contract_at arena.old place)) }
     ensures rises { asks.old ≤ asks.new }
     ensures asks { AsksInWidth (definitions_of studied.now.book) (marks_of studied.now) (contract_at arena.old place) asks.old asks.new }
-    ensures once { IsSpent (definitions_of studied.now.book) (marks_of studied.now) (contract_at arena.old place) (IsNoted arena.old (get nat_eq memo.old)) (IsNoted arena.new (get nat_eq memo.new)) asks.old asks.new result }
+    ensures once { IsSpent (definitions_of studied.now.book) (marks_of studied.now) (contract_at arena.old place) (IsNoted arena.old (noted memo.old)) (IsNoted arena.new (noted memo.new)) asks.old asks.new result }
 {
-    if let Some(known) = memo.get(&place) {
-        return Ok(*known);
+    if let Some(known) = memo.get(place) {
+        return Ok(known);
     }
     let next = derive_anew(alloc, studied, event, arena, memo, place, asks)?;
-    note(memo, place, next)
+    memo.note(place, next)
 }
 
 // The residual of a row that is not noted.
@@ -60,20 +59,20 @@ fn derive_anew<L>(
     studied: &Studied,
     event: &Event,
     arena: &mut Arena,
-    memo: &mut IndexMap<usize, usize>,
+    memo: &mut Notes,
     place: usize,
     asks: &mut Asks<L>,
 ) -> Result<usize, Memory>
     requires studied { IsStudied (definitions_of studied.now.book) (marks_of studied.now) }
     requires within { place < length arena.old }
     requires fits { CountsFit (definitions_of studied.now.book) (contract_at arena.old place) }
-    requires notes { AreNotes (definitions_of studied.now.book) (marks_of studied.now) event.now arena.old (get nat_eq memo.old) }
-    requires new { get nat_eq memo.old place ≡ None }
+    requires notes { AreNotes (definitions_of studied.now.book) (marks_of studied.now) event.now arena.old (noted memo.old) }
+    requires new { noted memo.old place ≡ None }
     ensures grows { Extends arena.old arena.new }
-    ensures derived { IfOk result (IsDerived (definitions_of studied.now.book) (marks_of studied.now) event.now arena.new (get nat_eq memo.new) (contract_at arena.old place)) }
+    ensures derived { IfOk result (IsDerived (definitions_of studied.now.book) (marks_of studied.now) event.now arena.new (noted memo.new) (contract_at arena.old place)) }
     ensures rises { asks.old ≤ asks.new }
     ensures asks { AsksInWidth (definitions_of studied.now.book) (marks_of studied.now) (contract_at arena.old place) asks.old asks.new }
-    ensures once { IsSpent (definitions_of studied.now.book) (marks_of studied.now) (contract_at arena.old place) (IsNoted arena.old (get nat_eq memo.old)) (IsNotedBut (contract_at arena.old place) arena.new (get nat_eq memo.new)) asks.old asks.new result }
+    ensures once { IsSpent (definitions_of studied.now.book) (marks_of studied.now) (contract_at arena.old place) (IsNoted arena.old (noted memo.old)) (IsNotedBut (contract_at arena.old place) arena.new (noted memo.new)) asks.old asks.new result }
 {
     match arena.node(place) {
         Node::Success => failure(arena),
@@ -121,7 +120,7 @@ fn derive_plus<L>(
     studied: &Studied,
     event: &Event,
     arena: &mut Arena,
-    memo: &mut IndexMap<usize, usize>,
+    memo: &mut Notes,
     a: usize,
     b: usize,
     asks: &mut Asks<L>,
@@ -130,17 +129,17 @@ fn derive_plus<L>(
     requires first { a < length arena.old }
     requires second { b < length arena.old }
     requires fits { CountsFit (definitions_of studied.now.book) (Plus (contract_at arena.old a) (contract_at arena.old b)) }
-    requires notes { AreNotes (definitions_of studied.now.book) (marks_of studied.now) event.now arena.old (get nat_eq memo.old) }
+    requires notes { AreNotes (definitions_of studied.now.book) (marks_of studied.now) event.now arena.old (noted memo.old) }
     ensures grows { Extends arena.old arena.new }
-    ensures derived { IfOk result (IsDerived (definitions_of studied.now.book) (marks_of studied.now) event.now arena.new (get nat_eq memo.new) (Plus (contract_at arena.old a) (contract_at arena.old b))) }
+    ensures derived { IfOk result (IsDerived (definitions_of studied.now.book) (marks_of studied.now) event.now arena.new (noted memo.new) (Plus (contract_at arena.old a) (contract_at arena.old b))) }
     ensures rises { asks.old ≤ asks.new }
     ensures asks { AsksInWidth (definitions_of studied.now.book) (marks_of studied.now) (Plus (contract_at arena.old a) (contract_at arena.old b)) asks.old asks.new }
-    ensures once { IsSpent (definitions_of studied.now.book) (marks_of studied.now) (Plus (contract_at arena.old a) (contract_at arena.old b)) (IsNoted arena.old (get nat_eq memo.old)) (IsNoted arena.new (get nat_eq memo.new)) asks.old asks.new result }
+    ensures once { IsSpent (definitions_of studied.now.book) (marks_of studied.now) (Plus (contract_at arena.old a) (contract_at arena.old b)) (IsNoted arena.old (noted memo.old)) (IsNoted arena.new (noted memo.new)) asks.old asks.new result }
 {
     let after_a = derive(alloc, studied, event, arena, memo, a, asks)?;
     let after_b = derive(alloc, studied, event, arena, memo, b, asks)?;
-    let is_a_known = is_joined(studied, arena, a);
-    let is_b_known = is_joined(studied, arena, b);
+    let is_a_known = is_joined(studied, arena.nodes(), a);
+    let is_b_known = is_joined(studied, arena.nodes(), b);
     either(arena, after_a, is_a_known, after_b, is_b_known)
 }
 
@@ -151,7 +150,7 @@ fn derive_par<L>(
     studied: &Studied,
     event: &Event,
     arena: &mut Arena,
-    memo: &mut IndexMap<usize, usize>,
+    memo: &mut Notes,
     a: usize,
     b: usize,
     asks: &mut Asks<L>,
@@ -160,12 +159,12 @@ fn derive_par<L>(
     requires first { a < length arena.old }
     requires second { b < length arena.old }
     requires fits { CountsFit (definitions_of studied.now.book) (Par (contract_at arena.old a) (contract_at arena.old b)) }
-    requires notes { AreNotes (definitions_of studied.now.book) (marks_of studied.now) event.now arena.old (get nat_eq memo.old) }
+    requires notes { AreNotes (definitions_of studied.now.book) (marks_of studied.now) event.now arena.old (noted memo.old) }
     ensures grows { Extends arena.old arena.new }
-    ensures derived { IfOk result (IsDerived (definitions_of studied.now.book) (marks_of studied.now) event.now arena.new (get nat_eq memo.new) (Par (contract_at arena.old a) (contract_at arena.old b))) }
+    ensures derived { IfOk result (IsDerived (definitions_of studied.now.book) (marks_of studied.now) event.now arena.new (noted memo.new) (Par (contract_at arena.old a) (contract_at arena.old b))) }
     ensures rises { asks.old ≤ asks.new }
     ensures asks { AsksInWidth (definitions_of studied.now.book) (marks_of studied.now) (Par (contract_at arena.old a) (contract_at arena.old b)) asks.old asks.new }
-    ensures once { IsSpent (definitions_of studied.now.book) (marks_of studied.now) (Par (contract_at arena.old a) (contract_at arena.old b)) (IsNoted arena.old (get nat_eq memo.old)) (IsNoted arena.new (get nat_eq memo.new)) asks.old asks.new result }
+    ensures once { IsSpent (definitions_of studied.now.book) (marks_of studied.now) (Par (contract_at arena.old a) (contract_at arena.old b)) (IsNoted arena.old (noted memo.old)) (IsNoted arena.new (noted memo.new)) asks.old asks.new result }
 {
     let after_a = derive(alloc, studied, event, arena, memo, a, asks)?;
     let after_b = derive(alloc, studied, event, arena, memo, b, asks)?;
@@ -179,7 +178,7 @@ fn derive_seq<L>(
     studied: &Studied,
     event: &Event,
     arena: &mut Arena,
-    memo: &mut IndexMap<usize, usize>,
+    memo: &mut Notes,
     a: usize,
     b: usize,
     asks: &mut Asks<L>,
@@ -188,20 +187,20 @@ fn derive_seq<L>(
     requires first { a < length arena.old }
     requires second { b < length arena.old }
     requires fits { CountsFit (definitions_of studied.now.book) (Seq (contract_at arena.old a) (contract_at arena.old b)) }
-    requires notes { AreNotes (definitions_of studied.now.book) (marks_of studied.now) event.now arena.old (get nat_eq memo.old) }
+    requires notes { AreNotes (definitions_of studied.now.book) (marks_of studied.now) event.now arena.old (noted memo.old) }
     ensures grows { Extends arena.old arena.new }
-    ensures derived { IfOk result (IsDerived (definitions_of studied.now.book) (marks_of studied.now) event.now arena.new (get nat_eq memo.new) (Seq (contract_at arena.old a) (contract_at arena.old b))) }
+    ensures derived { IfOk result (IsDerived (definitions_of studied.now.book) (marks_of studied.now) event.now arena.new (noted memo.new) (Seq (contract_at arena.old a) (contract_at arena.old b))) }
     ensures rises { asks.old ≤ asks.new }
     ensures asks { AsksInWidth (definitions_of studied.now.book) (marks_of studied.now) (Seq (contract_at arena.old a) (contract_at arena.old b)) asks.old asks.new }
-    ensures once { IsSpent (definitions_of studied.now.book) (marks_of studied.now) (Seq (contract_at arena.old a) (contract_at arena.old b)) (IsNoted arena.old (get nat_eq memo.old)) (IsNoted arena.new (get nat_eq memo.new)) asks.old asks.new result }
+    ensures once { IsSpent (definitions_of studied.now.book) (marks_of studied.now) (Seq (contract_at arena.old a) (contract_at arena.old b)) (IsNoted arena.old (noted memo.old)) (IsNoted arena.new (noted memo.new)) asks.old asks.new result }
 {
     let after_a = derive(alloc, studied, event, arena, memo, a, asks)?;
     let first = seq(arena, after_a, b)?;
-    if !may_end_at(studied, arena, a) {
+    if !may_end_at(studied, arena.nodes(), a) {
         return Ok(first);
     }
     let after_b = derive(alloc, studied, event, arena, memo, b, asks)?;
-    let is_b_known = is_joined(studied, arena, b);
+    let is_b_known = is_joined(studied, arena.nodes(), b);
     either(arena, first, false, after_b, is_b_known)
 }
 
@@ -221,11 +220,9 @@ pub fn residual_rows<L>(
 {
     // The book is checked and guarded, and the marks are right.
     let _book = studied.book();
-    let table = rows.arena();
-    let root = rows.root();
-    let mut arena = Arena::new(alloc);
-    let start = copy_row(alloc, table, root, &mut arena)?;
-    let mut memo = IndexMap::new(alloc);
+    let mut arena = rows.table(alloc)?;
+    let start = rows.root();
+    let mut memo = Notes::new(alloc);
     let place = derive(alloc, studied, event, &mut arena, &mut memo, start, asks)?;
     rows_at(alloc, &arena, place)
 }

@@ -7,9 +7,9 @@ ghost use Rattle.poets_syntax.specs.Book.{definitions_of, template_in};
 ghost use Rattle.poets_syntax.specs.Marks.{nullable as nullable_lem};
 ghost use Rattle.poets_syntax.specs.Studied.{marks_of};
 ghost use Rattle.poets_syntax.specs.Width.{size, body_in, wide_by, width};
-ghost use Rattle.poets_cons.specs.Table.{contract_at, contract_of_rows};
+ghost use Rattle.poets_cons.specs.Table.{contract_at, contract_of_rows, IsTable};
 
-use poets_cons::{Arena, Node, Rows};
+use poets_cons::{Node, Rows, node_at};
 use poets_expr::Expr;
 use poets_syntax::Studied;
 
@@ -36,77 +36,80 @@ fn less_args(args: &[Expr], left: u64) -> u64
 }
 
 // What is left when the size of a row is taken off.
-fn less_size(arena: &Arena, place: usize, left: u64) -> u64
-    requires { place < length arena.now }
-    ensures { result ≡ left - size (contract_at arena.now place) }
+fn less_size(nodes: &[Node], place: usize, left: u64) -> u64
+    requires table { IsTable nodes.now }
+    requires within { place < length nodes.now }
+    ensures { result ≡ left - size (contract_at nodes.now place) }
 {
     if left == 0 {
         return 0;
     }
-    match arena.node(place) {
+    match node_at(nodes, place) {
         Node::Success | Node::Failure => left - 1,
         Node::Transmit { when, then, .. } => {
             let left = (left - 1).saturating_sub(poets_expr::size(when));
-            less_size(arena, *then, left)
+            less_size(nodes, *then, left)
         }
         Node::Plus(a, b) | Node::Par(a, b) | Node::Seq(a, b) => {
-            let left = less_size(arena, *a, left - 1);
-            less_size(arena, *b, left)
+            let left = less_size(nodes, *a, left - 1);
+            less_size(nodes, *b, left)
         }
         Node::App { args, .. } => less_args(args.as_slice(), left - 1),
     }
 }
 
 // A row that exposes no application, and is not nullable.
-fn unexposed(arena: &Arena, place: usize, left: u64) -> Measured
-    requires { place < length arena.now }
-    ensures left { result.left ≡ left - size (contract_at arena.now place) }
+fn unexposed(nodes: &[Node], place: usize, left: u64) -> Measured
+    requires table { IsTable nodes.now }
+    requires within { place < length nodes.now }
+    ensures left { result.left ≡ left - size (contract_at nodes.now place) }
     ensures nullable { result.nullable ≡ false }
 {
     Measured {
-        left: less_size(arena, place, left),
+        left: less_size(nodes, place, left),
         nullable: false,
     }
 }
 
 // Measures a row. The body of a template counts as its mark says.
-fn measure(studied: &Studied, arena: &Arena, place: usize, left: u64) -> Measured
-    requires within { place < length arena.now }
+fn measure(studied: &Studied, nodes: &[Node], place: usize, left: u64) -> Measured
+    requires table { IsTable nodes.now }
+    requires within { place < length nodes.now }
     requires cut { left ≤ 1001 }
-    ensures left { result.left ≡ left - wide_by (λ f. body_in (template_in (definitions_of studied.now.book).templates f) (width (definitions_of studied.now.book) (marks_of studied.now))) (marks_of studied.now) (contract_at arena.now place) }
-    ensures nullable { 0 < result.left → result.nullable ≡ nullable_lem (marks_of studied.now) (contract_at arena.now place) }
+    ensures left { result.left ≡ left - wide_by (λ f. body_in (template_in (definitions_of studied.now.book).templates f) (width (definitions_of studied.now.book) (marks_of studied.now))) (marks_of studied.now) (contract_at nodes.now place) }
+    ensures nullable { 0 < result.left → result.nullable ≡ nullable_lem (marks_of studied.now) (contract_at nodes.now place) }
 {
     if left == 0 {
-        return unexposed(arena, place, left);
+        return unexposed(nodes, place, left);
     }
-    match arena.node(place) {
+    match node_at(nodes, place) {
         Node::Success => Measured {
             left: left - 1,
             nullable: true,
         },
-        Node::Failure | Node::Transmit { .. } => unexposed(arena, place, left),
+        Node::Failure | Node::Transmit { .. } => unexposed(nodes, place, left),
         Node::Plus(a, b) => {
-            let first = measure(studied, arena, *a, left - 1);
-            let second = measure(studied, arena, *b, first.left);
+            let first = measure(studied, nodes, *a, left - 1);
+            let second = measure(studied, nodes, *b, first.left);
             Measured {
                 left: second.left,
                 nullable: first.nullable || second.nullable,
             }
         }
         Node::Par(a, b) => {
-            let first = measure(studied, arena, *a, left - 1);
-            let second = measure(studied, arena, *b, first.left);
+            let first = measure(studied, nodes, *a, left - 1);
+            let second = measure(studied, nodes, *b, first.left);
             Measured {
                 left: second.left,
                 nullable: first.nullable && second.nullable,
             }
         }
         Node::Seq(a, b) => {
-            let first = measure(studied, arena, *a, left - 1);
+            let first = measure(studied, nodes, *a, left - 1);
             if first.nullable {
-                return measure(studied, arena, *b, first.left);
+                return measure(studied, nodes, *b, first.left);
             }
-            unexposed(arena, *b, first.left)
+            unexposed(nodes, *b, first.left)
         }
         Node::App { name, args } => {
             let left = less_args(args.as_slice(), left - 1);
@@ -132,6 +135,6 @@ pub fn wide_rows(studied: &Studied, rows: &Rows) -> u64
     // The book is checked and guarded, and the marks are right.
     let _book = studied.book();
     let root = rows.root();
-    let arena = rows.arena();
-    CUT - measure(studied, arena, root, CUT).left
+    let nodes = rows.nodes();
+    CUT - measure(studied, nodes, root, CUT).left
 }

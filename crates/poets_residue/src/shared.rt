@@ -1,6 +1,5 @@
 //! Contracts as rows that may end, and the joined residuals of their parts.
-ghost use Rattle.std.specs.Prelude.{◌≡◌, ◌<◌, ◌↔◌, ℕ, IfOk, IsTrue, length, nat_eq, Some, cond, []};
-ghost use Rattle.indexmap.specs.IndexMap.{get};
+ghost use Rattle.std.specs.Prelude.{◌≡◌, ◌<◌, ◌↔◌, IfOk, IsTrue, length, []};
 ghost use Rattle.poets_syntax.specs.Applied.{CountsFit};
 ghost use Rattle.poets_syntax.specs.Book.{definitions_of};
 ghost use Rattle.poets_syntax.specs.Marks.{nullable as nullable_lem};
@@ -10,11 +9,10 @@ ghost use Rattle.poets_syntax.specs.Residual.{after};
 ghost use Rattle.poets_syntax.specs.Studied.{marks_of};
 ghost use Rattle.poets_value.specs.declared.event.Event.{Event as TheEvent};
 ghost use Rattle.poets_norm.specs.Choices.{IsDistinctChoice};
-ghost use Rattle.poets_cons.specs.Table.{contract_at, contract_of_rows, Stands, Extends};
+ghost use Rattle.poets_cons.specs.Table.{contract_at, contract_of_rows, IsTable, Stands, Extends};
 
 use crate::endings::is_marked;
-use indexmap::IndexMap;
-use poets_cons::{Arena, Node, Rows};
+use poets_cons::{Arena, Node, Rows, node_at};
 use poets_norm::joining::{either, par};
 use poets_syntax::Studied;
 use poets_value::Memory;
@@ -27,50 +25,37 @@ pub fn may_end_rows(studied: &Studied, rows: &Rows) -> bool
     // The marks are right.
     let _book = studied.book();
     let root = rows.root();
-    let arena = rows.arena();
-    may_end_at(studied, arena, root)
+    let nodes = rows.nodes();
+    may_end_at(studied, nodes, root)
 }
 
 // Whether the empty trace performs the contract of a row, by the marks of its templates.
-pub(crate) fn may_end_at(studied: &Studied, arena: &Arena, place: usize) -> bool
-    requires { place < length arena.now }
-    ensures { result ≡ nullable_lem (marks_of studied.now) (contract_at arena.now place) }
+pub(crate) fn may_end_at(studied: &Studied, nodes: &[Node], place: usize) -> bool
+    requires table { IsTable nodes.now }
+    requires within { place < length nodes.now }
+    ensures { result ≡ nullable_lem (marks_of studied.now) (contract_at nodes.now place) }
 {
-    match arena.node(place) {
+    match node_at(nodes, place) {
         Node::Success => true,
         Node::Failure | Node::Transmit { .. } => false,
-        Node::Plus(a, b) => may_end_at(studied, arena, *a) || may_end_at(studied, arena, *b),
+        Node::Plus(a, b) => may_end_at(studied, nodes, *a) || may_end_at(studied, nodes, *b),
         Node::Par(a, b) | Node::Seq(a, b) => {
-            may_end_at(studied, arena, *a) && may_end_at(studied, arena, *b)
+            may_end_at(studied, nodes, *a) && may_end_at(studied, nodes, *b)
         }
         Node::App { name, .. } => is_marked(studied, *name),
     }
 }
 
 // Whether the residuals of a row are known to be choices of distinct alternatives.
-pub(crate) fn is_joined(studied: &Studied, arena: &Arena, place: usize) -> bool
-    requires { place < length arena.now }
-    ensures { IsTrue result → (e : TheEvent) → IsDistinctChoice (after (definitions_of studied.now.book) (marks_of studied.now) e (contract_at arena.now place)) }
+pub(crate) fn is_joined(studied: &Studied, nodes: &[Node], place: usize) -> bool
+    requires table { IsTable nodes.now }
+    requires within { place < length nodes.now }
+    ensures { IsTrue result → (e : TheEvent) → IsDistinctChoice (after (definitions_of studied.now.book) (marks_of studied.now) e (contract_at nodes.now place)) }
 {
-    match arena.node(place) {
-        Node::Seq(a, _) => may_end_at(studied, arena, *a),
+    match node_at(nodes, place) {
+        Node::Seq(a, _) => may_end_at(studied, nodes, *a),
         _ => true,
     }
-}
-
-// Notes where the residual of a row stands, and hands that on.
-pub(crate) fn note(
-    memo: &mut IndexMap<usize, usize>,
-    place: usize,
-    next: usize,
-) -> Result<usize, Memory>
-    ensures next { IfOk result (λ p. p ≡ next) }
-    ensures notes { IfOk result (λ _. (k : ℕ) → get nat_eq memo.new k ≡ cond (nat_eq place k) (Some next) (get nat_eq memo.old k)) }
-{
-    let Ok(_) = memo.insert(place, next) else {
-        return Err(Memory);
-    };
-    Ok(next)
 }
 
 // The event went to the first part, or to the second.

@@ -17,14 +17,14 @@ joined_of marks part _ h = tt
 pub returns-in-Seq : goal.returns-in-Seq
 returns-in-Seq c = λ h e.
     let book = definitions_of c.args.studied.now.book in
-    let nodes = c.args.arena.now in
-    let whole = c.node.ensures.contract ∙ ap (λ n. contract_by (contract_at nodes) (row_of n)) c.in-Seq.is in
+    let nodes = c.args.nodes.now in
+    let whole = c.node_at.ensures.contract ∙ ap (λ n. contract_by (contract_at nodes) (row_of n)) c.in-Seq.is in
     rw whole (distinct-after_at book (marks_of c.args.studied.now) e (length book.templates)
     (Seq (contract_at nodes c.in-Seq.a) (contract_at nodes c.in-Seq.field-1)) (rw c.may_end_at.ensures at h))
 
 pub returns-in_default : goal.returns-in_default
 returns-in_default c = λ _ e.
     let book = definitions_of c.args.studied.now.book in
-    let nodes = c.args.arena.now in
-    rw c.node.ensures.contract (distinct-after_at book (marks_of c.args.studied.now) e (length book.templates)
-    (contract_by (contract_at nodes) (row_of c.node.result.now)) (joined_of (marks_of c.args.studied.now) (contract_at nodes) c.node.result.now (λ a b k. c.in_default.not-Seq a b k)))
+    let nodes = c.args.nodes.now in
+    rw c.node_at.ensures.contract (distinct-after_at book (marks_of c.args.studied.now) e (length book.templates)
+    (contract_by (contract_at nodes) (row_of c.node_at.result.now)) (joined_of (marks_of c.args.studied.now) (contract_at nodes) c.node_at.result.now (λ a b k. c.in_default.not-Seq a b k)))

@@ -14,7 +14,7 @@ returns c =
     let term = contract_of_rows c.args.rows.now in
     let right = AreRight-studied book c.args.studied.now.marks c.book-book.ensures.studied in
     let answer : c.may_end_at.result ≡ nullable marks term =
-    (rw c.arena-arena.ensures.rows at c.may_end_at.ensures) ∙ ap (nullable marks) c.root-root.ensures.contract in (
+    (rw c.nodes-nodes.ensures.nodes at c.may_end_at.ensures) ∙ ap (nullable marks) c.root-root.ensures.contract in (
       (λ h. nullable_performed book marks right [] term (EachExposed-fits book marks term c.requires) (sym answer ∙ h)),
       (λ p. answer ∙ nullable_in book marks right p refl),
     )

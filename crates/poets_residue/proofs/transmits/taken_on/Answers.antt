@@ -1,17 +1,17 @@
 use Rattle.std.proofs.Common.{arith, ap, ◌∙◌}
 use Rattle.poets_syntax.specs.Arguments.{arguments}
-use Rattle.poets_syntax.specs.Contract.{contract_of}
 use Rattle.poets_syntax.proofs.Arguments.{arguments-replace}
 use Rattle.poets_norm.specs.Questions.{questions}
 use Rattle.poets_norm.proofs.Asked.{questions-replace}
+use Rattle.poets_cons.specs.Table.{contract_at}
 use Rattle.poets_residue.proofs.transmits.taken_on.Goals as goal
 
 pub returns-clause-asks : goal.returns-clause-asks
 returns-clause-asks g c =
-    let q = ap questions c.in_ok-replaced.ensures ∙ questions-replace _ (contract_of c.args.then.now) in
-    omega (arith, c.normal.ensures.asks, q)
+    let q = ap questions c.in_ok-replaced.ensures ∙ questions-replace _ (contract_at c.args.arena.now c.args.then) in
+    omega (arith, c.enter_normal.ensures.asks, q)
 
 pub returns-clause-arguments : goal.returns-clause-arguments
 returns-clause-arguments g c =
-    let q = ap arguments c.in_ok-replaced.ensures ∙ arguments-replace _ (contract_of c.args.then.now) in
-    omega (arith, c.normal.ensures.arguments, q)
+    let q = ap arguments c.in_ok-replaced.ensures ∙ arguments-replace _ (contract_at c.args.arena.now c.args.then) in
+    omega (arith, c.enter_normal.ensures.arguments, q)

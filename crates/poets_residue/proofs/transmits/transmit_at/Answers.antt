@@ -20,16 +20,13 @@ returns-clause-residual g c =
       after-transmit (definitions_of c.args.studied.now.book) (marks_of c.args.studied.now) c.args.event.now
           c.args.binders.now (expression_of c.args.when.now) (contract_at c.args.arena.now c.args.then),
       k,
-      sym c.in_ok-then.ensures,
     )
     c.taken_on.ensures.residual
 
 pub returns-clause-asks : goal.returns-clause-asks
 returns-clause-asks g c =
-    let q = ap questions c.in_ok-then.ensures in
-    omega (arith, c.taken_on.ensures.asks, c.holds.ensures.asks, q)
+    omega (arith, c.taken_on.ensures.asks, c.holds.ensures.asks)
 
 pub returns-clause-once : goal.returns-clause-once
 returns-clause-once g c =
-    let q = ap arguments c.in_ok-then.ensures in
-    omega (arith, c.taken_on.ensures.arguments, c.holds.ensures.asks, q)
+    omega (arith, c.taken_on.ensures.arguments, c.holds.ensures.asks)
