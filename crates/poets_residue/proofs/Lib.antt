@@ -15,3 +15,4 @@ pub mod Noted
 mod Derived
 mod Ready
 mod Spending
+mod Asking

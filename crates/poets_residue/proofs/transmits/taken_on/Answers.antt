@@ -8,10 +8,10 @@ use Rattle.poets_residue.proofs.transmits.taken_on.Goals as goal
 
 pub returns-clause-asks : goal.returns-clause-asks
 returns-clause-asks g c =
-    let q = ap questions c.in_ok-replaced.ensures ∙ questions-replace _ (contract_at c.args.arena.now c.args.then) in
+    let q = ap questions (rw c.nodes.ensures.nodes at c.in_ok-replaced.ensures) ∙ questions-replace _ (contract_at c.args.arena.now c.args.then) in
     omega (arith, c.enter_normal.ensures.asks, q)
 
 pub returns-clause-arguments : goal.returns-clause-arguments
 returns-clause-arguments g c =
-    let q = ap arguments c.in_ok-replaced.ensures ∙ arguments-replace _ (contract_at c.args.arena.now c.args.then) in
+    let q = ap arguments (rw c.nodes.ensures.nodes at c.in_ok-replaced.ensures) ∙ arguments-replace _ (contract_at c.args.arena.now c.args.then) in
     omega (arith, c.enter_normal.ensures.arguments, q)
