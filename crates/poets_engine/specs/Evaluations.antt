@@ -1,26 +1,27 @@
 -- How many evaluations a command takes.
 use Rattle.std.specs.Prelude.{ℕ, ◌+◌, ◌*◌, ◌-◌, slice_get, length, Option, Some, None, List}
 use Rattle.poets_value.specs.declared.value.Name.{Name}
-use Rattle.poets_syntax.specs.Contract.{contract_of}
 use Rattle.poets_syntax.specs.declared.term.Term.{Term}
 use Rattle.poets_syntax.specs.Studied.{StudiedBook}
 use Rattle.poets_syntax.specs.Width.{size}
+use Rattle.poets_cons.specs.declared.node.Node.{Node}
+use Rattle.poets_cons.specs.Table.{contract_of_rows}
 use Rattle.poets_table.specs.TableView.{RowView, number_named}
 use Rattle.poets_call.specs.declared.rules.Rules.{Rules}
 use Rattle.poets_call.specs.Calls.{Request}
 use Rattle.poets_engine.specs.Choices.{width_in}
 use Rattle.poets_engine.specs.Store.{StoreView}
 
-abbrev pub width_of_row : StudiedBook → Option (RowView Term) → ℕ
+abbrev pub width_of_row : StudiedBook → Option (RowView Term (List Node)) → ℕ
 width_of_row s None = 0
-width_of_row s (Some r) = width_in s (contract_of r.current)
+width_of_row s (Some r) = width_in s (contract_of_rows r.current)
 
-abbrev pub width_of_number : StudiedBook → List (RowView Term) → Option ℕ → ℕ
+abbrev pub width_of_number : StudiedBook → List (RowView Term (List Node)) → Option ℕ → ℕ
 width_of_number s rows None = 0
 width_of_number s rows (Some n) = width_of_row s (slice_get rows (n - 1))
 
 -- how wide that is what is owed on the contract with a name; 0 where there is none
-abbrev pub width_owed : StudiedBook → List (RowView Term) → Name → ℕ
+abbrev pub width_owed : StudiedBook → List (RowView Term (List Node)) → Name → ℕ
 width_owed s rows x = width_of_number s rows (number_named x rows)
 
 -- the most evaluations that a command takes: a transmission asks each watch for its key and its next value; a tally asks

@@ -4,7 +4,8 @@ ghost use Rattle.poets_syntax.specs.Applied.{CountsFit};
 ghost use Rattle.poets_syntax.specs.Book.{definitions_of};
 ghost use Rattle.poets_call.specs.Calls.{response_of};
 ghost use Rattle.poets_call.specs.Replies.{widest};
-ghost use Rattle.poets_cons.specs.Table.{contract_of_rows};
+ghost use Rattle.poets_cons.specs.Row.{contract_by, row_of};
+ghost use Rattle.poets_cons.specs.Table.{contract_at, contract_of_rows};
 ghost use Rattle.poets_engine.specs.Choices.{KeptFits, choice_of, is_failure as is_failure_lem, judge as judge_lem, width_in};
 
 use poets_call::Reply;
@@ -22,11 +23,18 @@ pub(crate) enum Decision {
     Kept(Rows),
 }
 
+// The node of the root.
+fn root_node(rows: &Rows) -> &Node
+    ensures { contract_of_rows rows.now ≡ contract_by (contract_at rows.now) (row_of result.now) }
+{
+    rows.arena().node(rows.root())
+}
+
 // Whether the contract is `Failure`.
 fn is_failure(rows: &Rows) -> bool
     ensures { result ≡ is_failure_lem (contract_of_rows rows.now) }
 {
-    match rows.arena().node(rows.root()) {
+    match root_node(rows) {
         Node::Failure => true,
         _ => false,
     }

@@ -31,9 +31,10 @@ impl Model for Store {
 
     ghost use Rattle.poets_syntax.specs.contracts.term.Term as t;
     ghost use Rattle.poets_report.specs.contracts.report.Report as r;
+    ghost use Rattle.poets_expr.specs.contracts.expr.Expr as x;
     ghost use Rattle.std.specs.Coded.{codes};
 
-    ghost coded = { Prim.hlevel (codes, t.the_row.coded, r.the_row.coded) };
+    ghost coded = { Prim.hlevel (codes, t.the_row.coded, r.the_row.coded, x.the_row.coded) };
 
     ghost view = { λ s. record { rows = s.table.rows; log = s.table.log; watches = s.watches.watches } };
 }
