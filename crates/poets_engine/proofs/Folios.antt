@@ -21,7 +21,6 @@ use Rattle.poets_call.specs.declared.rules.Rules.{Rules}
 use Rattle.poets_call.specs.Rules.{book_of, reports_of}
 use Rattle.poets_call.specs.Frame.{Frame}
 use Rattle.poets_call.specs.Calls.{Request, Response, Call, folio_row_of, response_of}
-use Rattle.poets_call.specs.Histories.{IsLegal}
 use Rattle.poets_call.specs.Ledger.{Ledger, ledger_of, contract_named, number_in, number_of, trace, absent_or, first_absent}
 use Rattle.poets_call.specs.Replies.{report_in, total_of, argument_values, AreFolioRows, Replies}
 use Rattle.poets_engine.specs.Store.{StoreView}

@@ -8,8 +8,8 @@ ghost use Rattle.poets_call.specs.Calls.{response_of, Request};
 ghost use Rattle.poets_call.specs.Ledger.{last_day, late_day};
 ghost use Rattle.poets_call.specs.Rules.{book_of, reports_of};
 ghost use Rattle.poets_call.specs.Taken.{IsTaken};
-ghost use Rattle.poets_engine.specs.Choices.{AreKept, KeptFits, choice_of, choice_by, width_in};
-ghost use Rattle.poets_engine.specs.Evaluations.{width_owed};
+ghost use Rattle.poets_engine.specs.Choices.{AreKept, KeptFits, choice_of, choice_by};
+ghost use Rattle.poets_engine.specs.Evaluations.{asked_in, asked_owed};
 ghost use Rattle.poets_engine.specs.Makes.{Makes};
 
 use crate::judging::{Decision, judge};
@@ -56,7 +56,7 @@ fn decide<T>(
     requires { CountsFit (definitions_of studied.now.book) (contract_of_rows row.now.current) }
     ensures choice { IfOk result (λ d. choice_of d ≡ choice_by studied.now (row_view row.now) event.now) }
     ensures fits { IfOk result (λ d. KeptFits (definitions_of studied.now.book) (choice_of d)) }
-    ensures asks { asks.new ≤ asks.old + width_in studied.now (contract_of_rows row.now.current) }
+    ensures asks { asks.new ≤ asks.old + asked_in studied.now (contract_of_rows row.now.current) }
     ensures rises { asks.old ≤ asks.new }
 {
     if row.ended {
@@ -85,7 +85,7 @@ pub(crate) fn transmit<T>(
     requires rows { AreKept rules.now.studied store.old.rows }
     ensures ok { IfOk result (λ r. Makes rules.now (Request.Transmit name event.now) store.old store.new (response_of r)) }
     ensures err { OnErr result (store.new ≡ store.old) }
-    ensures asks { asks.new ≤ asks.old + width_owed rules.now.studied store.old.rows name + 2 * length store.old.watches }
+    ensures asks { asks.new ≤ asks.old + asked_owed rules.now.studied store.old.rows name + 2 * length store.old.watches }
     ensures rises { asks.old ≤ asks.new }
 {
     let Some(number) = store.find(name) else {

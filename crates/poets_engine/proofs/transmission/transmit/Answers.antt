@@ -1,4 +1,4 @@
-use Rattle.std.proofs.Common.{◌+◌, length, sym, ◌∙◌, ap, subst}
+use Rattle.std.proofs.Common.{◌+◌, sym, ◌∙◌, ap, subst}
 use Rattle.poets_expr.specs.Env.{declared_of}
 use Rattle.poets_table.specs.TableView.{row_view}
 use Rattle.poets_call.specs.Calls.{Request, Response, response_of}
