@@ -27,7 +27,7 @@ pub(crate) enum Decision {
 fn root_node(rows: &Rows) -> &Node
     ensures { contract_of_rows rows.now ≡ contract_by (contract_at rows.now) (row_of result.now) }
 {
-    rows.arena().node(rows.root())
+    rows.node(rows.root())
 }
 
 // Whether the contract is `Failure`.
