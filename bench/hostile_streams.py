@@ -53,13 +53,13 @@ def read_in_steps(name, step):
 
 
 def failing_reads(name, step, error):
-    """Each read of the session failing in turn. A read that was only interrupted may be tried again."""
+    """Each read of the session failing in turn. A read that was only interrupted is tried again."""
     words, text, whole = SESSIONS[name]
     for at in itertools.count(1):
         ran = run_refusing("read", at, words, text, error=error, step=step)
         if not ran.refused:
             break
-        right = is_so(ran, 4, b"") or (error == errno.EINTR and is_so(ran, 0, whole))
+        right = is_so(ran, 0, whole) if error == errno.EINTR else is_so(ran, 4, b"")
         yield None if right else told_wrong(f"{name}, read {at} fails by {errno.errorcode[error]}", ran)
 
 
@@ -100,14 +100,16 @@ def reads():
     return jobs
 
 
-def failing_writes(words, text, lines, error, on):
-    """Each write failing in turn, alone or with all that follow: the lines before it are written, and no more."""
+def failing_writes(words, text, lines, status, error, on):
+    """Each write failing in turn, alone or with all that follow: the lines before it are written, and no more. A write
+    that was only interrupted is tried again."""
     lines = lines.splitlines(keepends=True)
     for at in itertools.count(1):
         ran = run_refusing("write", at, words, text, error=error, on=on)
         if not ran.refused:
             break
-        right = is_so(ran, 5, b"".join(lines[:at - 1])) or (error == errno.EINTR and is_so(ran, 0, b"".join(lines)))
+        right = (is_so(ran, status, b"".join(lines)) if error == errno.EINTR
+                 else is_so(ran, 5, b"".join(lines[:at - 1])))
         yield None if right else told_wrong(f"{words}, write {at} fails by {errno.errorcode[error]}", ran)
 
 
@@ -184,8 +186,8 @@ def writes():
     jobs += [(unwritable, words, text, 5) for words, text, _, _ in outcomes] + [(unwritable, "run", b"", 0)]
     jobs += [(read_in_part, most) for most in (0, 1, PAGE, 65_536, 10**6)]
     if shared["library"]:
-        jobs += [(failing_writes, words, text, lines, error, on) for words, text, lines, _ in outcomes
-                 for error in (errno.EIO, errno.ENOSPC, errno.EAGAIN, errno.EINTR) for on in (False, True)]
+        failures = [(error, on) for error in (errno.EIO, errno.ENOSPC, errno.EAGAIN) for on in (False, True)]
+        jobs += [(failing_writes, *outcome, *failure) for outcome in outcomes for failure in [*failures, (errno.EINTR, False)]]
     return jobs
 
 

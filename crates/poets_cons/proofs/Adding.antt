@@ -1,8 +1,8 @@
 -- A node added to a table.
-use Rattle.std.proofs.Common.{◌≡◌, ℕ, ◌+◌, ◌<◌, ◌≤◌, true, false, arith, List, [], ◌∷◌, ◌++◌, length, get_or, slice_get, Some, map, refl, sym, ◌∙◌, ap, subst, inl, inr, append-nil, length-append, if◌then◌else◌, Bool, ◌||◌, option_map}
+use Rattle.std.proofs.Common.{◌≡◌, ℕ, ◌<◌, true, false, arith, List, [], ◌∷◌, ◌++◌, length, get_or, slice_get, Some, map, refl, sym, ◌∙◌, ap, subst, inl, inr, append-nil, length-append, Bool, ◌||◌, option_map}
 use Rattle.std.specs.List.{IsDistinct, list_any, AllByRecursion}
 use Rattle.std.specs.Ordering.{on}
-use Rattle.std.proofs.lemmas.Bool.{cases_order, cases_lt}
+use Rattle.std.proofs.lemmas.Bool.{cases_lt}
 use Rattle.std.proofs.lemmas.List.{length-map, map-append}
 use Rattle.std.proofs.lemmas.Option.{get_or_from_slice_get, slice_get_within, slice_get-get_or, slice_get-map}
 use Rattle.std.proofs.Math.ListN.{get_or-append}
@@ -13,7 +13,7 @@ use Rattle.poets_cons.specs.declared.node.Node.{Node}
 use Rattle.poets_cons.specs.Row.{Row, Success, row_of, contract_by, AreBelow}
 use Rattle.poets_cons.specs.Same.{same_row}
 use Rattle.poets_cons.specs.SameRows.{row_one}
-use Rattle.poets_cons.specs.Table.{rows_of, contract_at, AreEarlier, AreDistinct, IsTable, with_row, Reached, Stands, Extends, AddsReached}
+use Rattle.poets_cons.specs.Table.{rows_of, contract_at, AreEarlier, AreDistinct, IsTable, with_row, Reached, Extends, AddsReached}
 use Rattle.poets_cons.proofs.Places.{place_of_row, contract-at}
 
 -- the test of two nodes is that of their rows
@@ -30,7 +30,7 @@ distinct-map [] h = h
 distinct-map (n ∷ nodes) h = (apart-map (row_of n) nodes h.0, distinct-map nodes h.1)
 
 -- at the end a new row
-earlier-push : (rows : List Row) (r : Row) → AreEarlier rows → AreBelow (length rows) r → AreEarlier (rows ++ r ∷ [])
+pub earlier-push : (rows : List Row) (r : Row) → AreEarlier rows → AreBelow (length rows) r → AreEarlier (rows ++ r ∷ [])
 earlier-push rows r earlier h i s e =
     let l = slice_get_within (rows ++ r ∷ []) i s e in
     let v = get_or_from_slice_get (rows ++ r ∷ []) i s Success e in

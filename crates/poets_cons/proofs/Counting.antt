@@ -1,7 +1,6 @@
 -- The rows of a contract are its different subterms.
-use Rattle.std.proofs.Common.{◌≡◌, ℕ, zero, suc, ◌+◌, ◌-◌, ◌<◌, ◌≤◌, Bool, true, false, ◌||◌, arith, List, [], ◌∷◌, ◌++◌, length, get_or, slice_get, Some, refl, sym, ◌∙◌, ap, subst, inl, inr, ◌⊎◌}
+use Rattle.std.proofs.Common.{◌≡◌, ℕ, zero, suc, ◌-◌, ◌<◌, Bool, true, false, ◌||◌, arith, List, ◌++◌, length, get_or, refl, sym, ◌∙◌, subst, inl, inr, ◌⊎◌}
 use Rattle.std.specs.List.{list_any, IsDistinct}
-use Rattle.std.specs.Set.{distinct_count}
 use Rattle.std.specs.Cmp.{both_ways}
 use Rattle.std.proofs.lemmas.List.{length-map}
 use Rattle.std.proofs.lemmas.List.Folds.{list_any-append, list_any_at}
@@ -18,7 +17,7 @@ use Rattle.poets_cons.specs.declared.node.Node.{Node}
 use Rattle.poets_cons.specs.Row.{Row, Success, Failure, Transmit, Plus, Par, Seq, App, row_of, contract_by, IsPart, AreBelow}
 use Rattle.poets_cons.specs.SameRows.{contract_laws}
 use Rattle.poets_cons.specs.Parts.{subterms, subterm_count}
-use Rattle.poets_cons.specs.Table.{nth, grown, rows_of, contracts_of, contract_at, contract_of_rows, IsTable, IsRooted, Reached}
+use Rattle.poets_cons.specs.Table.{rows_of, contracts_of, contract_at, contract_of_rows, IsTable, IsRooted, Reached}
 use Rattle.poets_cons.proofs.Places.{contract-at, one_place}
 use Rattle.poets_cons.proofs.Standing.{length-contracts}
 

@@ -1,11 +1,11 @@
 -- The contracts of a table whose rows name earlier ones alone.
-use Rattle.std.proofs.Common.{◌≡◌, ℕ, zero, suc, ◌+◌, ◌<◌, ◌≤◌, arith, List, [], ◌∷◌, ◌++◌, length, get_or, slice_get, Some, refl, sym, ◌∙◌, ap, ap₂, subst, append_assoc, length-append, map, inl, inr}
+use Rattle.std.proofs.Common.{◌≡◌, ℕ, zero, suc, ◌+◌, ◌<◌, arith, List, [], ◌∷◌, ◌++◌, length, slice_get, Some, refl, sym, ◌∙◌, ap, ap₂, subst, length-append, inl, inr}
 use Rattle.std.proofs.Math.ListN.{get_or-append}
 use Rattle.std.proofs.Math.Seq.{get_or-append_seam}
 use Rattle.poets_syntax.specs.Contract.{Contract}
 use Rattle.poets_syntax.specs.Contract as C
 use Rattle.poets_cons.specs.Row.{Row, Success, Failure, Transmit, Plus, Par, Seq, App, contract_by, IsPart}
-use Rattle.poets_cons.specs.Table.{nth, grown, AreEarlier}
+use Rattle.poets_cons.specs.Table.{nth, grown}
 
 -- a row's contract depends on those of its parts alone
 pub contract_by-alike : (f g : ℕ → Contract) (r : Row) → ((k : ℕ) → IsPart r k → f k ≡ g k) → contract_by f r ≡ contract_by g r

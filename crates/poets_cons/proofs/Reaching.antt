@@ -1,10 +1,9 @@
 -- What is reached, and what was entered.
-use Rattle.std.proofs.Common.{◌≡◌, ℕ, ◌+◌, ◌<◌, ◌≤◌, arith, List, [], ◌∷◌, ◌++◌, length, get_or, slice_get, Some, map, refl, sym, ◌∙◌, ap, ap₂, subst, inl, inr, Result, Ok, Err, IfOk}
+use Rattle.std.proofs.Common.{◌≡◌, ℕ, List, length, slice_get, Some, inl, inr, Result, Ok, Err, IfOk}
 use Rattle.std.proofs.lemmas.Bool.{cases_lt}
-use Rattle.poets_syntax.specs.Contract.{Contract}
 use Rattle.poets_cons.specs.declared.node.Node.{Node}
 use Rattle.poets_cons.specs.Row.{Row, IsPart}
-use Rattle.poets_cons.specs.Table.{rows_of, contract_at, Reached, Stands, Extends, AddsReached, AddsReachedBoth}
+use Rattle.poets_cons.specs.Table.{rows_of, Reached, Extends, AddsReached, AddsReachedBoth}
 use Rattle.poets_cons.proofs.Standing.{row_later}
 
 -- two facts of a result
@@ -25,7 +24,7 @@ reached_through rows h Reached.Root = h
 reached_through rows h (Reached.Part g e m) = Reached.Part (reached_through rows h g) e m
 
 -- by way of a part
-reached_by : (rows : List Row) (p a k : ℕ) (r : Row) → slice_get rows p ≡ Some r → IsPart r a → Reached rows a k → Reached rows p k
+pub reached_by : (rows : List Row) (p a k : ℕ) (r : Row) → slice_get rows p ≡ Some r → IsPart r a → Reached rows a k → Reached rows p k
 reached_by rows p a k r e m h = reached_through rows (Reached.Part Reached.Root e m) h
 
 module _ (old mid new : List Node) (after : Extends mid new) (a : ℕ) (first : AddsReached old mid a) (r : Row) where

@@ -1,12 +1,12 @@
 -- What stands in a table stays where rows are added.
-use Rattle.std.proofs.Common.{◌≡◌, ℕ, ◌+◌, ◌<◌, ◌≤◌, arith, List, [], ◌∷◌, ◌++◌, length, get_or, slice_get, Some, map, refl, sym, ◌∙◌, ap, subst, append_assoc, append-nil, length-append}
+use Rattle.std.proofs.Common.{◌≡◌, ℕ, ◌+◌, ◌<◌, ◌≤◌, arith, List, [], ◌++◌, length, get_or, slice_get, Some, sym, ◌∙◌, ap, append_assoc, append-nil, length-append}
 use Rattle.std.proofs.lemmas.List.{length-map, map-append}
 use Rattle.std.proofs.lemmas.Option.{get_or_from_slice_get, slice_get_within, slice_get-get_or}
 use Rattle.std.proofs.Math.ListN.{get_or-append}
 use Rattle.poets_syntax.specs.Contract.{Contract}
 use Rattle.poets_cons.specs.declared.node.Node.{Node}
 use Rattle.poets_cons.specs.Row.{Row, Success, row_of, contract_by, AreBelow}
-use Rattle.poets_cons.specs.Table.{nth, grown, rows_of, contracts_of, contract_at, AreEarlier, IsTable, Stands, Extends}
+use Rattle.poets_cons.specs.Table.{nth, grown, rows_of, contracts_of, contract_at, AreEarlier, Stands, Extends}
 use Rattle.poets_cons.proofs.Belows.{part_below}
 use Rattle.poets_cons.proofs.Growing.{length-grown, grown-old, grown-append, grown-at, contract_by-alike}
 

@@ -1,8 +1,46 @@
--- What is noted of the rows of one table that were copied to another.
-use Rattle.std.specs.Prelude.{◌≡◌, ℕ, List, Option, Some}
+-- Rows that are copied out of a table.
+use Rattle.std.specs.Prelude.{◌≡◌, ◌<◌, ◌≤◌, ◌+◌, ℕ, List, length, slice_get, Option, Some}
 use Rattle.poets_cons.specs.declared.node.Node.{Node}
-use Rattle.poets_cons.specs.Table.{contract_at, Stands}
+use Rattle.poets_cons.specs.Row.{Row, contract_by, IsPart, AreBelow}
+use Rattle.poets_cons.specs.Table.{rows_of, contract_at, IsTable, Reached, Stands, Extends, AddsReached, AddsReachedBoth}
 
--- the row that is noted for another stands for its contract
-abbrev pub AreCopies : List Node → List Node → (ℕ → Option ℕ) → Type 0
-AreCopies from into copies = (k p : ℕ) → copies k ≡ Some p → Stands into p (contract_at from k)
+-- the rows so far: each row that is noted for another stands for its contract, and each is noted for some row
+pub record AreCopies (from into : List Node) (copies : ℕ → Option ℕ) : Type 0 where
+  pub table : IsTable into
+  pub stand : (k p : ℕ) → copies k ≡ Some p → Stands into p (contract_at from k)
+  pub noted : (p : ℕ) → p < length into → (k : ℕ) × (k < length from) × (copies k ≡ Some p)
+
+-- one row more at the end
+pub record IsAppended (old new : List Node) (r : Row) (place : ℕ) : Type 0 where
+  pub grows : Extends old new
+  pub table : IsTable new
+  pub stands : Stands new place (contract_by (contract_at old) r)
+  pub row : slice_get (rows_of new) place ≡ Some r
+  pub last : place ≡ length old
+  pub longer : length new ≡ length old + 1
+
+-- the row was copied with all that it reaches, and nothing was noted for a later one
+pub record IsCopied (from old new : List Node) (before after : ℕ → Option ℕ) (place copy : ℕ) : Type 0 where
+  pub grows : Extends old new
+  pub copies : AreCopies from new after
+  pub stands : Stands new copy (contract_at from place)
+  pub reached : AddsReached old new copy
+  pub later : (k : ℕ) → place < k → after k ≡ before k
+
+-- so it was with two rows
+pub record AreBothCopied (from old new : List Node) (before after : ℕ → Option ℕ) (a b first second : ℕ) : Type 0 where
+  pub grows : Extends old new
+  pub copies : AreCopies from new after
+  pub first_stands : Stands new first (contract_at from a)
+  pub second_stands : Stands new second (contract_at from b)
+  pub reached : AddsReachedBoth old new first second
+  pub later : (k : ℕ) → a < k → b < k → after k ≡ before k
+
+-- and with the parts of a row, of which this row is the copy
+pub record ArePartsCopied (from old new : List Node) (before after : ℕ → Option ℕ) (place : ℕ) (r : Row) : Type 0 where
+  pub grows : Extends old new
+  pub copies : AreCopies from new after
+  pub below : AreBelow (length new) r
+  pub contract : contract_by (contract_at new) r ≡ contract_at from place
+  pub reached : (k : ℕ) → length old ≤ k → k < length new → (a : ℕ) × IsPart r a × Reached (rows_of new) a k
+  pub later : (k : ℕ) → place ≤ k → after k ≡ before k

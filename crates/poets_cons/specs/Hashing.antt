@@ -1,5 +1,5 @@
 -- What a row feeds to a hasher: all that tells it from others but the names of its binders.
-use Rattle.std.specs.Prelude.{ℕ, ◌+◌, List, [], ◌∷◌, ◌++◌}
+use Rattle.std.specs.Prelude.{◌+◌, List, [], ◌∷◌, ◌++◌}
 use Rattle.std.specs.Hash.{HashWrites, u8, u32, i64, usize}
 use Rattle.std.specs.Hash as fed
 use Rattle.poets_value.specs.declared.value.Value.{Value}

@@ -1,12 +1,11 @@
 -- The test for equal rows is right.
-use Rattle.std.proofs.Common.{◌≡◌, ◌↔◌, ℕ, Bool, true, ◌&&◌, nat_eq, IsTrue, List, [], ◌∷◌, refl, sym, ◌∙◌, ap, ap₂, eq-eqb}
+use Rattle.std.proofs.Common.{◌≡◌, ℕ, Bool, true, ◌&&◌, nat_eq, refl, ap, ap₂, eq-eqb}
 use Rattle.std.specs.Cmp.{IsEquivalence, both_ways}
 use Rattle.std.specs.Hash.{Alike}
 use borrow.Author.Tests.{eqb-true}
 use Rattle.poets_expr.specs.Env.{same_name}
 use Rattle.poets_expr.specs.Same.{same}
 use Rattle.poets_expr.proofs.SameTrees.{both_true, name_one, same_one, same_itself}
-use Rattle.poets_syntax.specs.Contract.{Contract}
 use Rattle.poets_syntax.specs.Same.{same_binders, same_args, same_contract}
 use Rattle.poets_syntax.proofs.SameContracts.{binders_one, args_one, binders_itself, args_itself, contract_one, contract_itself}
 use Rattle.poets_cons.specs.Row.{Row, Success, Failure, Transmit, Plus, Par, Seq, App}

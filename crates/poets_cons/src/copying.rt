@@ -1,104 +1,99 @@
 //! Rows copied from one table to another.
-ghost use Rattle.std.specs.Prelude.{◌≡◌, ◌<◌, ℕ, IfOk, OnOk, Some, cond, length, nat_eq};
-ghost use Rattle.indexmap.specs.IndexMap.{get};
-ghost use Rattle.poets_cons.specs.Copies.{AreCopies};
-ghost use Rattle.poets_cons.specs.Row.{row_of};
-ghost use Rattle.poets_cons.specs.Table.{contract_at, rows_of, IsTable, Stands, Extends, AddsReached, AddsReachedBoth};
+ghost use Rattle.std.specs.Prelude.{◌≡◌, ◌<◌, IfOk, false, length};
+ghost use Rattle.std.specs.List.{list_any};
+ghost use Rattle.poets_cons.specs.Copies.{AreCopies, AreBothCopied, ArePartsCopied, IsAppended, IsCopied};
+ghost use Rattle.poets_cons.specs.Notes.{noted};
+ghost use Rattle.poets_cons.specs.Row.{row_of, AreBelow};
+ghost use Rattle.poets_cons.specs.Same.{same_row};
+ghost use Rattle.poets_cons.specs.Table.{rows_of, IsTable};
 
-use crate::arena::Arena;
+use crate::arena::{Arena, node_at};
 use crate::node::Node;
-use indexmap::IndexMap;
+use crate::notes::Notes;
 use poets_value::Memory;
 use std::alloc::Global;
 use std::sync::Arc;
 
-/// The number of the row in `into` that stands for a row of `from`. It is added, with all that it
-/// reaches, where it is not there. Each row of `from` is looked at once.
-pub fn copy_row(
-    alloc: Global,
-    from: &Arena,
-    place: usize,
-    into: &mut Arena,
-) -> Result<usize, Memory>
-    requires { place < length from.now }
-    ensures grows { Extends into.old into.new }
-    ensures stands { IfOk result (λ p. Stands into.new p (contract_at from.now place)) }
-    ensures reached { IfOk result (λ p. AddsReached into.old into.new p) }
+// Adds a row at the end, and answers its number.
+fn append(into: &mut Vec<Node>, node: Node) -> Result<usize, Memory>
+    requires table { IsTable into.old.items }
+    requires parts { AreBelow (length into.old.items) (row_of node) }
+    requires new { list_any (same_row (row_of node)) (rows_of into.old.items) ≡ false }
+    ensures { IfOk result (IsAppended into.old.items into.new.items (row_of node)) }
 {
-    let mut copies = IndexMap::new(alloc);
-    copy_once(alloc, from, place, into, &mut copies)
+    let place = into.len();
+    let Ok(()) = into.push(node) else {
+        return Err(Memory);
+    };
+    Ok(place)
 }
 
-// Copies a row, unless its copy is noted.
+/// The number of the copy of a row, which is added with all that the row reaches, unless it is noted. No row is copied
+/// twice, and none is looked for.
 #[cycle(copy)]
-fn copy_once(
-    alloc: Global,
-    from: &Arena,
+pub(crate) fn copy_once(
+    from: &[Node],
     place: usize,
-    into: &mut Arena,
-    copies: &mut IndexMap<usize, usize>,
+    into: &mut Vec<Node>,
+    copies: &mut Notes,
 ) -> Result<usize, Memory>
+    requires table { IsTable from.now }
     requires within { place < length from.now }
-    requires copies { AreCopies from.now into.old (get nat_eq copies.old) }
-    ensures grows { Extends into.old into.new }
-    ensures stands { IfOk result (λ p. Stands into.new p (contract_at from.now place)) }
-    ensures reached { IfOk result (λ p. AddsReached into.old into.new p) }
-    ensures copies { OnOk result (AreCopies from.now into.new (get nat_eq copies.new)) }
+    requires copies { AreCopies from.now into.old.items (noted copies.old) }
+    ensures { IfOk result (IsCopied from.now into.old.items into.new.items (noted copies.old) (noted copies.new) place) }
 {
-    if let Some(copy) = copies.get(&place) {
-        return Ok(*copy);
+    if let Some(copy) = copies.get(place) {
+        return Ok(copy);
     }
-    let copy = copy_anew(alloc, from, place, into, copies)?;
-    note(copies, place, copy)
+    let node = with_copied_parts(from, place, into, copies)?;
+    let copy = append(into, node)?;
+    copies.note(place, copy)
 }
 
-// Copies a row whose copy is not noted: first its parts, and then its node.
+// The node of a row, with the copies of its parts as parts.
 #[cycle(copy)]
-fn copy_anew(
-    alloc: Global,
-    from: &Arena,
+fn with_copied_parts(
+    from: &[Node],
     place: usize,
-    into: &mut Arena,
-    copies: &mut IndexMap<usize, usize>,
-) -> Result<usize, Memory>
+    into: &mut Vec<Node>,
+    copies: &mut Notes,
+) -> Result<Node, Memory>
+    requires table { IsTable from.now }
     requires within { place < length from.now }
-    requires copies { AreCopies from.now into.old (get nat_eq copies.old) }
-    ensures grows { Extends into.old into.new }
-    ensures stands { IfOk result (λ p. Stands into.new p (contract_at from.now place)) }
-    ensures reached { IfOk result (λ p. AddsReached into.old into.new p) }
-    ensures copies { OnOk result (AreCopies from.now into.new (get nat_eq copies.new)) }
+    requires copies { AreCopies from.now into.old.items (noted copies.old) }
+    ensures { IfOk result (λ n. ArePartsCopied from.now into.old.items into.new.items (noted copies.old) (noted copies.new) place (row_of n)) }
 {
-    match from.node(place) {
-        Node::Success => into.add(Node::Success),
-        Node::Failure => into.add(Node::Failure),
+    match node_at(from, place) {
+        Node::Success => Ok(Node::Success),
+        Node::Failure => Ok(Node::Failure),
         Node::Transmit {
             binders,
             when,
             then,
         } => {
-            let then = copy_once(alloc, from, *then, into, copies)?;
             let when = Arc::try_clone(when)?;
-            into.add(Node::Transmit {
+            let then = copy_once(from, *then, into, copies)?;
+            Ok(Node::Transmit {
                 binders: *binders,
                 when,
                 then,
             })
         }
         Node::Plus(a, b) => {
-            let (a, b) = copy_both(alloc, from, *a, *b, into, copies)?;
-            into.add(Node::Plus(a, b))
+            let (a, b) = copy_both(from, *a, *b, into, copies)?;
+            Ok(Node::Plus(a, b))
         }
         Node::Par(a, b) => {
-            let (a, b) = copy_both(alloc, from, *a, *b, into, copies)?;
-            into.add(Node::Par(a, b))
+            let (a, b) = copy_both(from, *a, *b, into, copies)?;
+            Ok(Node::Par(a, b))
         }
         Node::Seq(a, b) => {
-            let (a, b) = copy_both(alloc, from, *a, *b, into, copies)?;
-            into.add(Node::Seq(a, b))
+            let (a, b) = copy_both(from, *a, *b, into, copies)?;
+            Ok(Node::Seq(a, b))
         }
         Node::App { name, args } => {
             let args = Arc::try_clone(args)?;
-            into.add(Node::App { name: *name, args })
+            Ok(Node::App { name: *name, args })
         }
     }
 }
@@ -106,36 +101,21 @@ fn copy_anew(
 // Copies two rows.
 #[cycle(copy)]
 fn copy_both(
-    alloc: Global,
-    from: &Arena,
+    from: &[Node],
     a: usize,
     b: usize,
-    into: &mut Arena,
-    copies: &mut IndexMap<usize, usize>,
+    into: &mut Vec<Node>,
+    copies: &mut Notes,
 ) -> Result<(usize, usize), Memory>
+    requires table { IsTable from.now }
     requires first { a < length from.now }
     requires second { b < length from.now }
-    requires copies { AreCopies from.now into.old (get nat_eq copies.old) }
-    ensures grows { Extends into.old into.new }
-    ensures first { IfOk result (λ p. Stands into.new p.0 (contract_at from.now a)) }
-    ensures second { IfOk result (λ p. Stands into.new p.1 (contract_at from.now b)) }
-    ensures reached { IfOk result (λ p. AddsReachedBoth into.old into.new p.0 p.1) }
-    ensures copies { OnOk result (AreCopies from.now into.new (get nat_eq copies.new)) }
+    requires copies { AreCopies from.now into.old.items (noted copies.old) }
+    ensures { IfOk result (λ p. AreBothCopied from.now into.old.items into.new.items (noted copies.old) (noted copies.new) a b p.0 p.1) }
 {
-    let first = copy_once(alloc, from, a, into, copies)?;
-    let second = copy_once(alloc, from, b, into, copies)?;
+    let first = copy_once(from, a, into, copies)?;
+    let second = copy_once(from, b, into, copies)?;
     Ok((first, second))
-}
-
-// Notes the copy of a row, and hands that on.
-fn note(copies: &mut IndexMap<usize, usize>, place: usize, copy: usize) -> Result<usize, Memory>
-    ensures copy { IfOk result (λ p. p ≡ copy) }
-    ensures notes { OnOk result ((k : ℕ) → get nat_eq copies.new k ≡ cond (nat_eq place k) (Some copy) (get nat_eq copies.old k)) }
-{
-    let Ok(_) = copies.insert(place, copy) else {
-        return Err(Memory);
-    };
-    Ok(copy)
 }
 
 // The same node, which shares its expressions with the other.

@@ -14,7 +14,6 @@ mod rows;
 mod tests;
 
 pub use arena::{Arena, node_at};
-pub use copying::copy_row;
 pub use entering::enter;
 pub use node::Node;
 pub use notes::Notes;

@@ -1,13 +1,15 @@
 //! The rows of one contract.
-ghost use Rattle.std.specs.Prelude.{◌≡◌, ◌+◌, ◌<◌, length, IfOk};
+ghost use Rattle.std.specs.Prelude.{◌≡◌, ◌+◌, ◌<◌, length, slice_get, IfOk, Some};
 ghost use Rattle.poets_syntax.specs.Contract.{contract_of};
+ghost use Rattle.poets_cons.specs.Row.{row_of, contract_by, AreBelow};
 ghost use Rattle.poets_cons.specs.Parts.{subterm_count};
 ghost use Rattle.poets_cons.specs.Table.{contract_at, contract_of_rows, rows_of, IsTable, IsRooted};
 
-use crate::arena::Arena;
-use crate::copying::{copy_row, loaded};
+use crate::arena::{Arena, node_at};
+use crate::copying::{copy_once, loaded};
 use crate::entering::enter;
 use crate::node::Node;
+use crate::notes::Notes;
 use crate::replacing::replaced_at;
 use poets_syntax::Term;
 use poets_value::Memory;
@@ -17,7 +19,7 @@ use std::marker::Model;
 /// One contract as rows. No two are equal, and each is reached from the last one, the root.
 #[derive(Drop)]
 pub struct Rows {
-    arena: Arena,
+    nodes: Vec<Node>,
 }
 
 impl Model for Rows {
@@ -31,11 +33,11 @@ impl Model for Rows {
 
     ghost coded = { Prim.hlevel (codes, e.the_row.coded) };
 
-    ghost use Rattle.poets_cons.specs.Table.{IsRooted};
+    ghost use Rattle.poets_cons.specs.Table.{IsTable, IsRooted};
 
-    ghost view = { λ r. r.arena };
+    ghost view = { λ r. r.nodes.items };
 
-    ghost invariant = { λ r. IsRooted r.arena };
+    ghost invariant = { λ r. IsTable r.nodes.items × IsRooted r.nodes.items };
 }
 
 impl Rows {
@@ -45,7 +47,7 @@ impl Rows {
         ensures table { IsTable self.now }
         ensures rooted { IsRooted self.now }
     {
-        self.arena.nodes()
+        self.nodes.as_slice()
     }
 
     /// The same rows with the same numbers, in a table that may grow.
@@ -55,12 +57,14 @@ impl Rows {
         loaded(alloc, self.nodes())
     }
 
-    /// The rows, as a table.
-    pub fn arena(&self) -> &Arena
-        ensures rows { result.now ≡ self.now }
-        ensures rooted { IsRooted self.now }
+    /// The row with that number.
+    pub fn node(&self, place: usize) -> &Node
+        requires { place < length self.now }
+        ensures node { slice_get self.now place ≡ Some result.now }
+        ensures contract { contract_at self.now place ≡ contract_by (contract_at self.now) (row_of result.now) }
+        ensures below { AreBelow place (row_of result.now) }
     {
-        &self.arena
+        node_at(self.nodes(), place)
     }
 
     /// The number of the last row, which is the root.
@@ -68,14 +72,14 @@ impl Rows {
         ensures root { result + 1 ≡ length self.now }
         ensures contract { contract_at self.now result ≡ contract_of_rows self.now }
     {
-        self.arena.len() - 1
+        self.nodes.len() - 1
     }
 
     /// The number of different subterms of the contract.
     pub fn count(&self) -> u64
         ensures { result ≡ subterm_count (contract_of_rows self.now) }
     {
-        self.arena.len() as u64
+        self.nodes.len() as u64
     }
 }
 
@@ -84,20 +88,20 @@ pub fn of_term(alloc: Global, term: &Term) -> Result<Rows, Memory>
     ensures { IfOk result (λ r. contract_of_rows r ≡ contract_of term.now) }
 {
     let mut arena = Arena::new(alloc);
-    let _root = enter(alloc, &mut arena, term)?;
-    let _table = arena.len();
-    Ok(Rows { arena })
+    let root = enter(alloc, &mut arena, term)?;
+    rows_at(alloc, arena.nodes(), root)
 }
 
 /// The rows of the contract of one row of a table. No tree is made on the way.
-pub fn rows_at(alloc: Global, arena: &Arena, place: usize) -> Result<Rows, Memory>
-    requires { place < length arena.now }
-    ensures { IfOk result (λ r. contract_of_rows r ≡ contract_at arena.now place) }
+pub fn rows_at(alloc: Global, nodes: &[Node], place: usize) -> Result<Rows, Memory>
+    requires table { IsTable nodes.now }
+    requires within { place < length nodes.now }
+    ensures { IfOk result (λ r. contract_of_rows r ≡ contract_at nodes.now place) }
 {
-    let mut rows = Arena::new(alloc);
-    let _root = copy_row(alloc, arena, place, &mut rows)?;
-    let _table = rows.len();
-    Ok(Rows { arena: rows })
+    let mut rows = Vec::new(alloc);
+    let mut copies = Notes::new(alloc);
+    let _root = copy_once(nodes, place, &mut rows, &mut copies)?;
+    Ok(Rows { nodes: rows })
 }
 
 /// The contract of the rows.
@@ -105,5 +109,5 @@ pub fn to_term(alloc: Global, rows: &Rows) -> Result<Term, Memory>
     ensures { IfOk result (λ t. contract_of t ≡ contract_of_rows rows.now) }
 {
     let root = rows.root();
-    replaced_at(alloc, rows.arena().nodes(), root, &[])
+    replaced_at(alloc, rows.nodes(), root, &[])
 }

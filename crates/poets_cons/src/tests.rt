@@ -1,6 +1,6 @@
 //! Rows of contracts worked out by hand.
 
-use crate::{Arena, Rows, copy_row, enter, of_term, rows_at, to_term};
+use crate::{Arena, Node, Notes, Rows, enter, of_term, rows_at, to_term};
 use poets_expr::{Expr, Op, build as make};
 use poets_syntax::{Binders, Term, build, copy, same};
 use poets_value::{List, Memory, Name, push};
@@ -80,19 +80,32 @@ fn the_rows_of_one_row_are_those_that_it_reaches(rt: HostRuntime) -> Result<(), 
     let usd = of_kind(rt.alloc(), USD, Term::Success)?;
     let place = enter(rt.alloc(), &mut arena, &usd)?;
     assert_eq!(rt; arena.len(), 6);
-    assert_eq!(rt; rows_at(rt.alloc(), &arena, root)?.count(), 6);
-    assert_eq!(rt; rows_at(rt.alloc(), &arena, place)?.count(), 2);
+    assert_eq!(rt; rows_at(rt.alloc(), arena.nodes(), root)?.count(), 6);
+    assert_eq!(rt; rows_at(rt.alloc(), arena.nodes(), place)?.count(), 2);
     Ok(())
 }
 
 #[test]
-fn rows_of_two_tables_are_joined(rt: HostRuntime) -> Result<(), Memory> {
-    let mut arena = Arena::new(rt.alloc());
+fn a_table_of_rows_grows_by_new_rows_alone(rt: HostRuntime) -> Result<(), Memory> {
     let usd = of_kind(rt.alloc(), USD, Term::Success)?;
-    let place = enter(rt.alloc(), &mut arena, &usd)?;
     let rows = of_term(rt.alloc(), &usd)?;
-    let copy = copy_row(rt.alloc(), rows.arena(), rows.root(), &mut arena)?;
-    assert_eq!(rt; copy, place);
+    let mut arena = rows.table(rt.alloc())?;
     assert_eq!(rt; arena.len(), 2);
+    assert_eq!(rt; enter(rt.alloc(), &mut arena, &usd)?, rows.root());
+    assert_eq!(rt; arena.len(), 2);
+    assert_eq!(rt; arena.add(Node::Failure)?, 2);
+    Ok(())
+}
+
+#[test]
+fn what_is_noted_is_found(rt: HostRuntime) -> Result<(), Memory> {
+    let mut notes = Notes::new(rt.alloc());
+    assert_eq!(rt; notes.note(5, 2)?, 2);
+    assert_eq!(rt; notes.note(1, 7)?, 7);
+    assert_eq!(rt; notes.note(5, 3)?, 3);
+    assert_eq!(rt; notes.get(1), Some(7));
+    assert_eq!(rt; notes.get(4), None);
+    assert_eq!(rt; notes.get(5), Some(3));
+    assert_eq!(rt; notes.get(6), None);
     Ok(())
 }

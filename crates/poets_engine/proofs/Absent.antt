@@ -2,10 +2,11 @@
 use Rattle.std.proofs.Common.{◌≡◌, ◌≢◌, ℕ, zero, suc, ◌+◌, ◌<◌, List, [], ◌∷◌, Option, Some, None, length, drop, get_or, sym, ◌∙◌, ap, arith, add-one, drop-cons}
 use Rattle.poets_value.specs.declared.value.Name.{Name}
 use Rattle.poets_syntax.specs.declared.term.Term.{Term}
+use Rattle.poets_cons.specs.declared.node.Node.{Node}
 use Rattle.poets_table.specs.TableView.{RowView, number_named}
 use Rattle.poets_engine.specs.Parts.{absent_or_later, absent_from}
 
-module _ (rows : List (RowView Term)) where
+module _ (rows : List (RowView Term (List Node))) where
   -- one name more
   one_more : (names : List Name) (i : ℕ) (d : Name) → i < length names →
       absent_from rows (drop i names) ≡ absent_or_later (get_or names i d) (number_named (get_or names i d) rows) (absent_from rows (drop (i + 1) names))

@@ -7,6 +7,8 @@ use Rattle.poets_call.proofs.Crossing.{parts, rules_send, command_send, command_
 use Rattle.poets_table.proofs.Crossing.{events_send}
 use Rattle.poets_live.proofs.Crossing.{watches_send}
 use Rattle.poets_expr.specs.contracts.env.Decls as Decls
+use Rattle.poets_cons.specs.contracts.node.Node as Node
+use Rattle.poets_cons.specs.contracts.rows.Rows as Rows
 use Rattle.poets_report.specs.contracts.report.Report as Report
 use Rattle.poets_engine.specs.contracts.copies.Copies as Copies
 use Rattle.poets_engine.specs.contracts.engine.Engine as Engine
@@ -38,9 +40,16 @@ copies_send = search (decls_send, decls_sync, report_send, report_sync, parts) d
 pub kept_send : IsSend Kept.the_row
 kept_send = search (reply_send, work_send, sendable) depth 60 fits 20000
 
+-- what is owed on a contract
+node_send : IsSend (Node.the_field).row
+node_send = search parts depth 60 fits 20000
+
+rows_send : IsSend (Rows.the_field).row
+rows_send = search (node_send, maps.crosses, parts) depth 60 fits 20000
+
 -- the contracts, the log and the watches
 store_send : IsSend Store.the_row
-store_send = search (watches_send, events_send, parts) depth 60 fits 20000
+store_send = search (watches_send, events_send, rows_send, parts) depth 60 fits 20000
 
 -- an engine may be sent
 pub engine_send : IsSend Engine.the_row

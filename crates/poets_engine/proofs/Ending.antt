@@ -1,5 +1,5 @@
 -- An end is made.
-use Rattle.std.proofs.Common.{◌≡◌, ℕ, ◌+◌, ◌-◌, ◌≤◌, Bool, true, false, [], ◌∷◌, ◌++◌, Some, None, map, length, slice_get, refl, sym, ◌∙◌, ap, subst, arith, inl, inr}
+use Rattle.std.proofs.Common.{◌≡◌, ℕ, ◌+◌, ◌-◌, ◌≤◌, Bool, true, false, List, [], ◌∷◌, ◌++◌, Some, None, map, length, slice_get, refl, sym, ◌∙◌, ap, subst, arith, inl, inr}
 use Rattle.std.specs.Prelude.{IsTrue, ◌↔◌}
 use Rattle.std.specs.List.{All}
 use Rattle.std.proofs.lemmas.List.Elements.{All-nil, All-cons, All-append}
@@ -7,6 +7,8 @@ use Rattle.poets_value.specs.declared.value.Name.{Name}
 use Rattle.poets_syntax.specs.declared.term.Term.{Term}
 use Rattle.poets_syntax.specs.Perf.{Perf}
 use Rattle.poets_syntax.specs.Contract.{contract_of}
+use Rattle.poets_cons.specs.declared.node.Node.{Node}
+use Rattle.poets_cons.specs.Table.{contract_of_rows}
 use Rattle.poets_table.specs.TableView.{RowView, changed_at, finished, number_named}
 use Rattle.poets_call.specs.declared.rules.Rules.{Rules}
 use Rattle.poets_call.specs.Rules.{book_of}
@@ -25,7 +27,7 @@ module _ (rules : Rules) (x : Name) (old : StoreView) where
   end_absent none =
       leaves rules (Request.End x) (Response.NoContract x) old (λ l. refl) (λ l h right. rw (absent rules l x old h none) refl)
 
-  module _ (n : ℕ) (r : RowView Term) (found : number_named x old.rows ≡ Some n) (row : slice_get old.rows (n - 1) ≡ Some r) where
+  module _ (n : ℕ) (r : RowView Term (List Node)) (found : number_named x old.rows ≡ Some n) (row : slice_get old.rows (n - 1) ≡ Some r) where
     standing : (l : Ledger) → IsLedger rules l old → Stood rules.studied l x old.rows n r
     standing l h = stood rules l x old h n r found row
 
@@ -35,7 +37,7 @@ module _ (rules : Rules) (x : Name) (old : StoreView) where
         rw c.named (inl (sym c.is.ended ∙ e, refl)))
 
     module _ (running : r.ended ≡ false) (may_end : Bool)
-        (tells : IsTrue may_end ↔ Perf (book_of rules) [] (contract_of r.current) []) where
+        (tells : IsTrue may_end ↔ Perf (book_of rules) [] (contract_of_rows r.current) []) where
       told : (l : Ledger) → IsLedger rules l old → (c : Stood rules.studied l x old.rows n r) → IsTrue may_end ↔ Perf (book_of rules) [] (contract_of r.original) (trace l (1 + c.place))
       told l h c = told_end rules.studied (study rules l old h) l (1 + c.place) r c.is may_end tells
 

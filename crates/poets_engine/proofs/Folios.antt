@@ -13,6 +13,7 @@ use Rattle.poets_report.specs.Answers.{Finding, IsAnswer}
 use Rattle.poets_report.proofs.Existence.{every_answer}
 use Rattle.poets_report.specs.declared.report.Answer.{Answer}
 use Rattle.poets_syntax.specs.declared.term.Term.{Term}
+use Rattle.poets_cons.specs.declared.node.Node.{Node}
 use Rattle.poets_table.specs.TableView.{RowView, number_named}
 use Rattle.poets_folio.specs.declared.folio.Part.{Part}
 use Rattle.poets_folio.specs.Rows.{IsRow}
@@ -20,7 +21,6 @@ use Rattle.poets_call.specs.declared.rules.Rules.{Rules}
 use Rattle.poets_call.specs.Rules.{book_of, reports_of}
 use Rattle.poets_call.specs.Frame.{Frame}
 use Rattle.poets_call.specs.Calls.{Request, Response, Call, folio_row_of, response_of}
-use Rattle.poets_call.specs.Histories.{IsLegal}
 use Rattle.poets_call.specs.Ledger.{Ledger, ledger_of, contract_named, number_in, number_of, trace, absent_or, first_absent}
 use Rattle.poets_call.specs.Replies.{report_in, total_of, argument_values, AreFolioRows, Replies}
 use Rattle.poets_engine.specs.Store.{StoreView}
@@ -37,8 +37,8 @@ use Rattle.poets_engine.proofs.Standing.{frame_by, leaves, stood, absent, taken}
 use Rattle.poets_engine.proofs.Tallying.{values_by, within}
 use Rattle.poets_engine.proofs.Named.{has_name}
 
-row_at : (x : Name) (rows : List (RowView Term)) (o : Option ℕ) (n : ℕ) → position (has_name x) rows ≡ o → option_map (λ i. i + 1) o ≡ Some n →
-    (r : RowView Term) × (slice_get rows (n - 1) ≡ Some r)
+row_at : (x : Name) (rows : List (RowView Term (List Node))) (o : Option ℕ) (n : ℕ) → position (has_name x) rows ≡ o → option_map (λ i. i + 1) o ≡ Some n →
+    (r : RowView Term (List Node)) × (slice_get rows (n - 1) ≡ Some r)
 row_at x rows None n p e = absurd cc
 row_at x [] (Some k) n p e = absurd cc
 row_at x (r ∷ rows) (Some k) n p e =
@@ -47,7 +47,7 @@ row_at x (r ∷ rows) (Some k) n p e =
     (here.0, subst (λ i. slice_get (r ∷ rows) i ≡ Some here.0) (let z : k ≡ n - 1 = omega (arith, number) in z) here.1)
 
 -- the row of a number that a name has
-pub row_named : (x : Name) (rows : List (RowView Term)) (n : ℕ) → number_named x rows ≡ Some n → (r : RowView Term) × (slice_get rows (n - 1) ≡ Some r)
+pub row_named : (x : Name) (rows : List (RowView Term (List Node))) (n : ℕ) → number_named x rows ≡ Some n → (r : RowView Term (List Node)) × (slice_get rows (n - 1) ≡ Some r)
 row_named x rows n e = row_at x rows (position (has_name x) rows) n refl e
 
 module _ (rules : Rules) (l : Ledger) (store : StoreView) (h : IsLedger rules l store) where

@@ -8,6 +8,7 @@ use Rattle.poets_value.specs.declared.value.Name.{Name}
 use Rattle.poets_syntax.specs.Contract.{Contract, contract_of}
 use Rattle.poets_syntax.specs.Studied.{StudiedBook}
 use Rattle.poets_syntax.specs.declared.term.Term.{Term}
+use Rattle.poets_cons.specs.declared.node.Node.{Node}
 use Rattle.poets_table.specs.TableView.{RowView}
 use Rattle.poets_call.specs.Ledger.{Ledger, contract_from}
 use Rattle.poets_engine.specs.Rows.{RowIs, RowsAre}
@@ -29,10 +30,10 @@ flip_no : (a b : ℕ) → nat_eq a b ≡ false → nat_eq b a ≡ false
 flip_no a b e = elim (truth (nat_eq b a)) [ inr n ↦ n | inl y ↦ absurd (let k = flip b a y in let m = sym e ∙ k in cc) ]
 
 -- the name and the original of a row
-abbrev pub named : RowView Term → Name × Contract
+abbrev pub named : RowView Term (List Node) → Name × Contract
 named r = (r.name, contract_of r.original)
 
-abbrev pub has_name : Name → RowView Term → Bool
+abbrev pub has_name : Name → RowView Term (List Node) → Bool
 has_name x r = nat_eq x.id r.name.id
 
 mapped_none : {A B : Type 0} (f : A → B) (o : Option A) → option_map f o ≡ None → o ≡ None
@@ -48,7 +49,7 @@ no_zero None e = absurd cc
 no_zero (Some j) e = let h : j + 1 ≡ 0 = cc in omega (arith, h)
 
 -- where no row has the name, no contract has it
-pub contract_from-none : (x : Name) (i : ℕ) (rows : List (RowView Term)) → position (has_name x) rows ≡ None → contract_from i x (map named rows) ≡ None
+pub contract_from-none : (x : Name) (i : ℕ) (rows : List (RowView Term (List Node))) → position (has_name x) rows ≡ None → contract_from i x (map named rows) ≡ None
 contract_from-none x i [] e = refl
 contract_from-none x i (r ∷ rows) e = elim (truth (has_name x r)) [
   | inl y ↦ absurd (let h = sym (place_head (has_name x) r rows y) ∙ e in cc)
@@ -58,7 +59,7 @@ contract_from-none x i (r ∷ rows) e = elim (truth (has_name x r)) [
 ]
 
 -- the row with the name is that of the contract with the name
-pub contract_from-some : (x : Name) (i k : ℕ) (rows : List (RowView Term)) (r : RowView Term) → position (has_name x) rows ≡ Some k → slice_get rows k ≡ Some r →
+pub contract_from-some : (x : Name) (i k : ℕ) (rows : List (RowView Term (List Node))) (r : RowView Term (List Node)) → position (has_name x) rows ≡ Some k → slice_get rows k ≡ Some r →
     contract_from i x (map named rows) ≡ Some (i + k, contract_of r.original)
 contract_from-some x i k [] r e h = absurd cc
 contract_from-some x i zero (r' ∷ rows) r e h = elim (truth (has_name x r')) [
@@ -75,7 +76,7 @@ contract_from-some x i (suc k) (r' ∷ rows) r e h = elim (truth (has_name x r')
 ]
 
 -- where a row has the name, a contract has it
-pub contract_from-found : (x : Name) (i k : ℕ) (rows : List (RowView Term)) → position (has_name x) rows ≡ Some k →
+pub contract_from-found : (x : Name) (i k : ℕ) (rows : List (RowView Term (List Node))) → position (has_name x) rows ≡ Some k →
     (c : Contract) × (contract_from i x (map named rows) ≡ Some (i + k, c))
 contract_from-found x i k [] e = absurd cc
 contract_from-found x i zero (r ∷ rows) e = elim (truth (has_name x r)) [
@@ -91,7 +92,7 @@ contract_from-found x i (suc k) (r ∷ rows) e = elim (truth (has_name x r)) [
 ]
 
 -- the row at a place is that of its number
-pub row_is : (s : StudiedBook) (l : Ledger) (i k : ℕ) (rows : List (RowView Term)) (r : RowView Term) → RowsAre s l i rows → slice_get rows k ≡ Some r → RowIs s l (i + k) r
+pub row_is : (s : StudiedBook) (l : Ledger) (i k : ℕ) (rows : List (RowView Term (List Node))) (r : RowView Term (List Node)) → RowsAre s l i rows → slice_get rows k ≡ Some r → RowIs s l (i + k) r
 row_is s l i k [] r h e = absurd cc
 row_is s l i zero (r' ∷ rows) r h e =
     let q : r' ≡ r = cc in

@@ -1,5 +1,5 @@
 -- A registration is made.
-use Rattle.std.proofs.Common.{◌≡◌, ℕ, ◌+◌, ◌≤◌, Bool, true, false, nat_lt, [], ◌∷◌, ◌++◌, Some, None, map, length, refl, sym, ◌∙◌, ap, subst, arith, inl, inr}
+use Rattle.std.proofs.Common.{◌≡◌, ℕ, ◌+◌, ◌≤◌, Bool, true, false, nat_lt, List, [], ◌∷◌, ◌++◌, Some, None, map, length, refl, sym, ◌∙◌, ap, subst, arith, inl, inr}
 use Rattle.std.proofs.lemmas.List.{map-append, length-append, length-map}
 use Rattle.std.proofs.lemmas.List.Elements.{All-weaker}
 use Rattle.poets_value.specs.declared.value.Name.{Name}
@@ -12,6 +12,8 @@ use Rattle.poets_syntax.specs.Studied.{marks_of}
 use Rattle.poets_syntax.specs.Marks.{Hopeful}
 use Rattle.poets_syntax.specs.Normal.{normal}
 use Rattle.poets_syntax.specs.Width.{width}
+use Rattle.poets_cons.specs.declared.node.Node.{Node}
+use Rattle.poets_cons.specs.Table.{contract_of_rows}
 use Rattle.poets_table.specs.TableView.{new_row, number_named}
 use Rattle.poets_call.specs.declared.rules.Rules.{Rules}
 use Rattle.poets_call.specs.Rules.{book_of, reports_of}
@@ -70,9 +72,9 @@ module _ (rules : Rules) (x : Name) (c : Contract) (old : StoreView) where
     register_refused made refusal same q =
         registers_refused (is_failure form) (nat_lt widest size) refl refl refusal (q ∙ ap (judge rules.studied Response.Hopeless) same)
 
-    module _ (original current : Term) (o : contract_of original ≡ c) (new : StoreView)
+    module _ (original : Term) (current : List Node) (o : contract_of original ≡ c) (new : StoreView)
         (added : AddsRow (new_row x original current) old new) where
-      adds : contract_of current ≡ form → is_failure form ≡ false → size ≤ widest → (l : Ledger) → IsLedger rules l old →
+      adds : contract_of_rows current ≡ form → is_failure form ≡ false → size ≤ widest → (l : Ledger) → IsLedger rules l old →
           IsLedger rules (with_contract l x c) new
       adds t failed narrow l h =
           let hope = normal_kept (book_of rules) (marks_of rules.studied) (study rules l old h) c fit (no_failure form failed) in
@@ -95,11 +97,11 @@ module _ (rules : Rules) (x : Name) (c : Contract) (old : StoreView) where
           }
 
       registers_kept : (failed large : Bool) → is_failure form ≡ failed → nat_lt widest size ≡ large →
-          Kept (contract_of current) ≡ judged Response.Hopeless failed large form → Makes rules (Request.Register x c) old new (Response.Registered (length old.rows + 1))
+          Kept (contract_of_rows current) ≡ judged Response.Hopeless failed large form → Makes rules (Request.Register x c) old new (Response.Registered (length old.rows + 1))
       registers_kept true large e k q = absurd cc
       registers_kept false true e k q = absurd cc
       registers_kept false false e k q =
-          let same : contract_of current ≡ form = cc in
+          let same : contract_of_rows current ≡ form = cc in
           let narrow = within_limit size k in
           changes rules (Request.Register x c) (Response.Registered (length old.rows + 1)) old new refl
           (λ l h right.
@@ -107,7 +109,7 @@ module _ (rules : Rules) (x : Name) (c : Contract) (old : StoreView) where
           rw (none l h) (inr (hopeful l h e, inr ((λ lt. absurd (omega (arith, narrow, lt))), ap (λ n. Response.Registered (n + 1)) count))))
           (adds same e narrow)
 
-      pub register_kept : (made : Contract) (n : ℕ) → made ≡ form → Kept (contract_of current) ≡ judge rules.studied Response.Hopeless made → n ≡ length old.rows + 1 →
+      pub register_kept : (made : Contract) (n : ℕ) → made ≡ form → Kept (contract_of_rows current) ≡ judge rules.studied Response.Hopeless made → n ≡ length old.rows + 1 →
           Makes rules (Request.Register x c) old new (Response.Registered n)
       register_kept made n same q number =
           subst (λ m. Makes rules (Request.Register x c) old new (Response.Registered m)) (sym number)

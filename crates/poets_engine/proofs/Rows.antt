@@ -27,6 +27,8 @@ use Rattle.poets_syntax.specs.Normal.{normal}
 use Rattle.poets_syntax.specs.Width.{width}
 use Rattle.poets_residue.specs.Unfolding.{IsStudied}
 use Rattle.poets_residue.proofs.Traces.{residual_after-more, trace_fit}
+use Rattle.poets_cons.specs.declared.node.Node.{Node}
+use Rattle.poets_cons.specs.Table.{contract_of_rows}
 use Rattle.poets_table.specs.TableView.{RowView, changed_at, with_event, finished, new_row}
 use Rattle.poets_call.specs.Ledger.{Ledger, trace, is_ended, late_day, if_after}
 use Rattle.poets_call.specs.Replies.{widest}
@@ -64,7 +66,7 @@ abbrev pub with_contract : Ledger → Name → Contract → Ledger
 with_contract l x c = record l { contracts = l.contracts ++ (x, c) ∷ [] }
 
 -- a row of which two ledgers say the same
-row_same : (s : StudiedBook) (l m : Ledger) (i : ℕ) (r : RowView Term) → trace m i ≡ trace l i → is_ended m i ≡ is_ended l i → RowIs s l i r → RowIs s m i r
+row_same : (s : StudiedBook) (l m : Ledger) (i : ℕ) (r : RowView Term (List Node)) → trace m i ≡ trace l i → is_ended m i ≡ is_ended l i → RowIs s l i r → RowIs s m i r
 row_same s l m i r events ended h = record {
   events = h.events ∙ sym events;
   ended = h.ended ∙ sym ended;
@@ -81,7 +83,7 @@ row_same s l m i r events ended h = record {
 }
 
 -- the rows before it stay, and the new row stands after them
-pub rows_added : (s : StudiedBook) (l : Ledger) (x : Name) (c : Contract) (i : ℕ) (rows : List (RowView Term)) (r : RowView Term) →
+pub rows_added : (s : StudiedBook) (l : Ledger) (x : Name) (c : Contract) (i : ℕ) (rows : List (RowView Term (List Node))) (r : RowView Term (List Node)) →
     RowsAre s l i rows → RowIs s (with_contract l x c) (i + length rows) r → RowsAre s (with_contract l x c) i (rows ++ r ∷ [])
 rows_added s l x c i [] r h k = (subst (λ n. RowIs s (with_contract l x c) n r) (let z : i + 0 ≡ i = omega arith in z) k, tt)
 rows_added s l x c i (q ∷ rows) r h k = (
@@ -90,10 +92,10 @@ rows_added s l x c i (q ∷ rows) r h k = (
 )
 
 -- the new row of a contract
-pub new_row_is : (s : StudiedBook) (l : Ledger) (x : Name) (c : Contract) (n : ℕ) (original current : Term) →
+pub new_row_is : (s : StudiedBook) (l : Ledger) (x : Name) (c : Contract) (n : ℕ) (original : Term) (current : List Node) →
     All (λ p. p.0 ≤ n) l.log → All (λ m. m ≤ n) l.ends → IsWellFormed (book_in s).declared (contract_of original) → CountsFit (book_in s) (contract_of original) →
-    contract_of current ≡ normal (book_in s) (marks_of s) (contract_of original) → Hopeful (book_in s) (contract_of current) →
-    width (book_in s) (marks_of s) (contract_of current) ≤ widest → IsWholeContract (contract_of original) → RowIs s (with_contract l x c) (1 + n) (new_row x original current)
+    contract_of_rows current ≡ normal (book_in s) (marks_of s) (contract_of original) → Hopeful (book_in s) (contract_of_rows current) →
+    width (book_in s) (marks_of s) (contract_of_rows current) ≤ widest → IsWholeContract (contract_of original) → RowIs s (with_contract l x c) (1 + n) (new_row x original current)
 new_row_is s l x c n original current logged ended formed fit e hopeful narrow whole = record {
   events = sym (ap (map (λ p. p.1)) (numbered-past n (1 + n) l.log logged (omega arith)));
   ended = sym (ended-past n (1 + n) l.ends ended (omega arith));
@@ -135,17 +137,17 @@ NeverFall-more (d ∷ []) e h in_time = (not_before e.day d.day in_time, tt)
 NeverFall-more (d ∷ d' ∷ events) e h in_time = (h.0, NeverFall-more (d' ∷ events) e h.1 in_time)
 
 -- what an event leaves of a row's contract, where it may be recorded
-pub record IsNext (s : StudiedBook) (r : RowView Term) (e : Event) (next : Term) : Type 0 where
+pub record IsNext (s : StudiedBook) (r : RowView Term (List Node)) (e : Event) (next : List Node) : Type 0 where
   pub event : IsDeclaredEvent (book_in s).declared e
   pub whole_event : IsWholeEvent e
   pub in_time : late_day r.events e.day ≡ None
-  pub residual : contract_of next ≡ after (book_in s) (marks_of s) e (contract_of r.current)
-  pub hopeful : Hopeful (book_in s) (contract_of next)
-  pub narrow : width (book_in s) (marks_of s) (contract_of next) ≤ widest
-  pub whole : IsWholeContract (contract_of next)
+  pub residual : contract_of_rows next ≡ after (book_in s) (marks_of s) e (contract_of_rows r.current)
+  pub hopeful : Hopeful (book_in s) (contract_of_rows next)
+  pub narrow : width (book_in s) (marks_of s) (contract_of_rows next) ≤ widest
+  pub whole : IsWholeContract (contract_of_rows next)
 
 -- the row with the number has the event too
-row_this : (s : StudiedBook) (l : Ledger) (n : ℕ) (e : Event) (r : RowView Term) (next : Term) → RowIs s l n r → IsNext s r e next → RowIs s (with_log l n e) n (with_event e next r)
+row_this : (s : StudiedBook) (l : Ledger) (n : ℕ) (e : Event) (r : RowView Term (List Node)) (next : List Node) → RowIs s l n r → IsNext s r e next → RowIs s (with_log l n e) n (with_event e next r)
 row_this s l n e r next h new = record {
   events = ap (λ t. t ++ e ∷ []) h.events ∙ sym (trace-same l n e);
   ended = h.ended;
@@ -170,7 +172,7 @@ ended-last : (n i : ℕ) (b : Bool) (l : Ledger) → nat_eq n i ≡ b → is_end
 ended-last n i b l e = list_any-append (λ m. nat_eq m i) l.ends (n ∷ []) ∙ ap (λ c. is_ended l i || c) (or-false (nat_eq n i) ∙ e)
 
 -- the row with the number is ended
-row_ended : (s : StudiedBook) (l : Ledger) (n : ℕ) (r : RowView Term) → RowIs s l n r → RowIs s (with_end l n) n (finished r)
+row_ended : (s : StudiedBook) (l : Ledger) (n : ℕ) (r : RowView Term (List Node)) → RowIs s l n r → RowIs s (with_end l n) n (finished r)
 row_ended s l n r h = record {
   events = h.events;
   ended = sym (ended-last n n true l (eq-eqb n n refl) ∙ or-true (is_ended l n));
@@ -192,16 +194,16 @@ ended-other l n i ne = ended-last n i false l (other_number n i ne) ∙ or-false
 -- ---- one row of all
 
 -- where a ledger says the same of all numbers but one, a change of the row with this number gives its rows
-module _ (s : StudiedBook) (l m : Ledger) (n : ℕ) (change : RowView Term → RowView Term)
+module _ (s : StudiedBook) (l m : Ledger) (n : ℕ) (change : RowView Term (List Node) → RowView Term (List Node))
     (events : (i : ℕ) → n ≢ i → trace m i ≡ trace l i) (ends : (i : ℕ) → n ≢ i → is_ended m i ≡ is_ended l i) where
-  other : (i : ℕ) (r : RowView Term) → n ≢ i → RowIs s l i r → RowIs s m i r
+  other : (i : ℕ) (r : RowView Term (List Node)) → n ≢ i → RowIs s l i r → RowIs s m i r
   other i r ne h = row_same s l m i r (events i ne) (ends i ne) h
 
-  rows_after : (i : ℕ) (rows : List (RowView Term)) → n < i → RowsAre s l i rows → RowsAre s m i rows
+  rows_after : (i : ℕ) (rows : List (RowView Term (List Node))) → n < i → RowsAre s l i rows → RowsAre s m i rows
   rows_after i [] lt h = tt
   rows_after i (r ∷ rows) lt h = (other i r (omega (arith, lt)) h.0, rows_after (suc i) rows (omega (arith, lt)) h.1)
 
-  rows_from : (i k : ℕ) (rows : List (RowView Term)) (r : RowView Term) → n ≡ i + k → RowsAre s l i rows → slice_get rows k ≡ Some r → RowIs s m n (change r) →
+  rows_from : (i k : ℕ) (rows : List (RowView Term (List Node))) (r : RowView Term (List Node)) → n ≡ i + k → RowsAre s l i rows → slice_get rows k ≡ Some r → RowIs s m n (change r) →
       RowsAre s m i (changed_at change k rows)
   rows_from i k [] r at h found new = tt
   rows_from i zero (q ∷ rows) r at h found new =
@@ -214,20 +216,20 @@ module _ (s : StudiedBook) (l m : Ledger) (n : ℕ) (change : RowView Term → R
       (other i q (omega (arith, at)) h.0, rows_from (suc i) k rows r (omega (arith, at)) h.1 found new)
 
 -- the row at a place takes the event, and the other rows stay
-pub rows_recorded : (s : StudiedBook) (l : Ledger) (k : ℕ) (e : Event) (next : Term) (rows : List (RowView Term)) (r : RowView Term) →
+pub rows_recorded : (s : StudiedBook) (l : Ledger) (k : ℕ) (e : Event) (next : List Node) (rows : List (RowView Term (List Node))) (r : RowView Term (List Node)) →
     RowsAre s l 1 rows → slice_get rows k ≡ Some r → RowIs s l (1 + k) r → IsNext s r e next →
     RowsAre s (with_log l (1 + k) e) 1 (changed_at (with_event e next) k rows)
 rows_recorded s l k e next rows r h found row new =
     rows_from s l (with_log l (1 + k) e) (1 + k) (with_event e next) (λ i ne. trace-other l (1 + k) i e ne) (λ i ne. refl) 1 k rows r refl h found (row_this s l (1 + k) e r next row new)
 
 -- the row at a place is ended, and the other rows stay
-pub rows_ended : (s : StudiedBook) (l : Ledger) (k : ℕ) (rows : List (RowView Term)) (r : RowView Term) →
+pub rows_ended : (s : StudiedBook) (l : Ledger) (k : ℕ) (rows : List (RowView Term (List Node))) (r : RowView Term (List Node)) →
     RowsAre s l 1 rows → slice_get rows k ≡ Some r → RowIs s l (1 + k) r → RowsAre s (with_end l (1 + k)) 1 (changed_at finished k rows)
 rows_ended s l k rows r h found row =
     rows_from s l (with_end l (1 + k)) (1 + k) finished (λ i ne. refl) (λ i ne. ended-other l (1 + k) i ne) 1 k rows r refl h found (row_ended s l (1 + k) r row)
 
 -- a changed row keeps its name and its original
-pub named-changed_at : (change : RowView Term → RowView Term) → ((r : RowView Term) → named (change r) ≡ named r) → (k : ℕ) (rows : List (RowView Term)) →
+pub named-changed_at : (change : RowView Term (List Node) → RowView Term (List Node)) → ((r : RowView Term (List Node)) → named (change r) ≡ named r) → (k : ℕ) (rows : List (RowView Term (List Node))) →
     map named (changed_at change k rows) ≡ map named rows
 named-changed_at change same k [] = refl
 named-changed_at change same zero (r ∷ rows) = ap (λ p. p ∷ map named rows) (same r)
@@ -246,9 +248,9 @@ pub All-at : {A : Type 0} (P : A → Type 0) (xs : List A) (k : ℕ) (x : A) →
 All-at P xs k x h e = subst P (get_or_from_slice_get xs k x x e) (All-get_or P xs k x (slice_get_within xs k x e) h)
 
 -- the contracts of the rows are such as are kept
-pub rows_kept : (s : StudiedBook) → IsStudied (book_in s) (marks_of s) → (l : Ledger) (i : ℕ) (rows : List (RowView Term)) → RowsAre s l i rows → AreKept s rows
-rows_kept s study l i [] h = All-nil (λ r. IsKept s (contract_of r.current))
+pub rows_kept : (s : StudiedBook) → IsStudied (book_in s) (marks_of s) → (l : Ledger) (i : ℕ) (rows : List (RowView Term (List Node))) → RowsAre s l i rows → AreKept s rows
+rows_kept s study l i [] h = All-nil (λ r. IsKept s (contract_of_rows r.current))
 rows_kept s study l i (r ∷ rows) h =
     let fit = trace_fit (book_in s) (marks_of s) study (contract_of r.original) h.0.formed h.0.fit r.events h.0.declared in
-    All-cons (λ r. IsKept s (contract_of r.current)) r rows (subst (CountsFit (book_in s)) (sym h.0.current) fit, h.0.narrow)
+    All-cons (λ r. IsKept s (contract_of_rows r.current)) r rows (subst (CountsFit (book_in s)) (sym h.0.current) fit, h.0.narrow)
     (rows_kept s study l (suc i) rows h.1)

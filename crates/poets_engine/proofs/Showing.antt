@@ -1,5 +1,5 @@
 -- A look is made.
-use Rattle.std.proofs.Common.{◌≡◌, ℕ, ◌+◌, ◌-◌, Bool, [], Some, None, length, slice_get, refl, ◌∙◌, ap, ap₂}
+use Rattle.std.proofs.Common.{◌≡◌, ℕ, ◌+◌, ◌-◌, Bool, List, [], Some, None, length, slice_get, refl, ◌∙◌, ap, ap₂}
 use Rattle.std.specs.Prelude.{IsTrue, ◌↔◌}
 use Rattle.poets_value.specs.declared.value.Name.{Name}
 use Rattle.poets_syntax.specs.Contract.{Contract, contract_of}
@@ -7,6 +7,8 @@ use Rattle.poets_syntax.specs.declared.term.Term.{Term}
 use Rattle.poets_syntax.specs.Perf.{Perf}
 use Rattle.poets_syntax.specs.Residual.{residual_after}
 use Rattle.poets_syntax.specs.Studied.{marks_of}
+use Rattle.poets_cons.specs.declared.node.Node.{Node}
+use Rattle.poets_cons.specs.Table.{contract_of_rows}
 use Rattle.poets_table.specs.TableView.{RowView, number_named}
 use Rattle.poets_call.specs.declared.rules.Rules.{Rules}
 use Rattle.poets_call.specs.Rules.{book_of}
@@ -21,8 +23,8 @@ module _ (rules : Rules) (x : Name) (t : StoreView) where
   show_absent none =
       leaves rules (Request.Show x) (Response.NoContract x) t (λ l. refl) (λ l h right. rw (absent rules l x t h none) refl)
 
-  pub show_found : (n : ℕ) (r : RowView Term) (may_end : Bool) (residual : Contract) (count : ℕ) → number_named x t.rows ≡ Some n → slice_get t.rows (n - 1) ≡ Some r →
-      IsTrue may_end ↔ Perf (book_of rules) [] (contract_of r.current) [] → residual ≡ contract_of r.current → count ≡ length r.events →
+  pub show_found : (n : ℕ) (r : RowView Term (List Node)) (may_end : Bool) (residual : Contract) (count : ℕ) → number_named x t.rows ≡ Some n → slice_get t.rows (n - 1) ≡ Some r →
+      IsTrue may_end ↔ Perf (book_of rules) [] (contract_of_rows r.current) [] → residual ≡ contract_of_rows r.current → count ≡ length r.events →
       Makes rules (Request.Show x) t t (Response.Shown residual count may_end r.ended)
   show_found n r may_end residual count found row tells same counted =
       leaves rules (Request.Show x) (Response.Shown residual count may_end r.ended) t (λ l. refl) (λ l h right.

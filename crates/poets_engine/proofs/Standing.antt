@@ -11,6 +11,8 @@ use Rattle.poets_syntax.specs.Studied.{StudiedBook, marks_of}
 use Rattle.poets_syntax.proofs.StudiedMarks.{AreRight-studied}
 use Rattle.poets_residue.specs.Unfolding.{IsStudied}
 use Rattle.poets_residue.proofs.Studies.{IsStudied-book}
+use Rattle.poets_cons.specs.declared.node.Node.{Node}
+use Rattle.poets_cons.specs.Table.{contract_of_rows}
 use Rattle.poets_table.specs.TableView.{RowView, number_named}
 use Rattle.poets_call.specs.declared.rules.Rules.{Rules}
 use Rattle.poets_call.specs.Rules.{book_of, reports_of}
@@ -61,7 +63,7 @@ module _ (rules : Rules) (request : Request) (response : Response) where
   changes old new accepted reply store = record { reply = in_frame old reply; store = store; refused = λ e. absurd cc }
 
 -- the contract with the name, and its row
-pub record Stood (s : StudiedBook) (l : Ledger) (x : Name) (rows : List (RowView Term)) (n : ℕ) (r : RowView Term) : Type 0 where
+pub record Stood (s : StudiedBook) (l : Ledger) (x : Name) (rows : List (RowView Term (List Node))) (n : ℕ) (r : RowView Term (List Node)) : Type 0 where
   pub place : ℕ
   pub number : n ≡ 1 + place
   pub found : slice_get rows place ≡ Some r
@@ -69,10 +71,10 @@ pub record Stood (s : StudiedBook) (l : Ledger) (x : Name) (rows : List (RowView
   pub is : RowIs s l (1 + place) r
 
 module _ (rules : Rules) (l : Ledger) (x : Name) (store : StoreView) (h : IsLedger rules l store) where
-  abbrev rows : List (RowView Term)
+  abbrev rows : List (RowView Term (List Node))
   rows = store.rows
 
-  at_place : (o : Option ℕ) (n : ℕ) (r : RowView Term) → position (has_name x) rows ≡ o → option_map (λ i. i + 1) o ≡ Some n → slice_get rows (n - 1) ≡ Some r →
+  at_place : (o : Option ℕ) (n : ℕ) (r : RowView Term (List Node)) → position (has_name x) rows ≡ o → option_map (λ i. i + 1) o ≡ Some n → slice_get rows (n - 1) ≡ Some r →
       Stood rules.studied l x rows n r
   at_place None n r p e g = absurd cc
   at_place (Some k) n r p e g =
@@ -87,7 +89,7 @@ module _ (rules : Rules) (l : Ledger) (x : Name) (store : StoreView) (h : IsLedg
       }
 
   -- the row with the name is that of the contract with the name
-  pub stood : (n : ℕ) (r : RowView Term) → number_named x rows ≡ Some n → slice_get rows (n - 1) ≡ Some r → Stood rules.studied l x rows n r
+  pub stood : (n : ℕ) (r : RowView Term (List Node)) → number_named x rows ≡ Some n → slice_get rows (n - 1) ≡ Some r → Stood rules.studied l x rows n r
   stood n r e g = at_place (position (has_name x) rows) n r refl e g
 
   no_place : (o : Option ℕ) → position (has_name x) rows ≡ o → option_map (λ i. i + 1) o ≡ None → contract_named l x ≡ None
@@ -110,8 +112,8 @@ module _ (rules : Rules) (l : Ledger) (x : Name) (store : StoreView) (h : IsLedg
   taken n e = taken_place (position (has_name x) rows) n refl e
 
 -- whether what is still owed on a contract may end is whether its events perform it
-pub told_end : (s : StudiedBook) → IsStudied (book_in s) (marks_of s) → (l : Ledger) (n : ℕ) (r : RowView Term) → RowIs s l n r → (may_end : Bool) →
-    IsTrue may_end ↔ Perf (book_in s) [] (contract_of r.current) [] → IsTrue may_end ↔ Perf (book_in s) [] (contract_of r.original) (trace l n)
+pub told_end : (s : StudiedBook) → IsStudied (book_in s) (marks_of s) → (l : Ledger) (n : ℕ) (r : RowView Term (List Node)) → RowIs s l n r → (may_end : Bool) →
+    IsTrue may_end ↔ Perf (book_in s) [] (contract_of_rows r.current) [] → IsTrue may_end ↔ Perf (book_in s) [] (contract_of r.original) (trace l n)
 told_end s study l n r row may_end t =
     let law = residual_performed (book_in s) (marks_of s) study (contract_of r.original) r.events row.formed row.fit row.declared in
     subst (λ events. IsTrue may_end ↔ Perf (book_in s) [] (contract_of r.original) events) row.events (

@@ -17,6 +17,8 @@ use Rattle.poets_syntax.specs.Residual.{after, residual_after}
 use Rattle.poets_syntax.specs.Width.{width}
 use Rattle.poets_residue.proofs.WholeResiduals.{IsWhole-after_at}
 use Rattle.poets_residue.proofs.Traces.{residual_after-more}
+use Rattle.poets_cons.specs.declared.node.Node.{Node}
+use Rattle.poets_cons.specs.Table.{contract_of_rows}
 use Rattle.poets_table.specs.TableView.{RowView, changed_at, with_event, number_named}
 use Rattle.poets_call.specs.declared.rules.Rules.{Rules}
 use Rattle.poets_call.specs.Rules.{book_of, reports_of}
@@ -40,7 +42,7 @@ module _ (rules : Rules) (x : Name) (e : Event) (old : StoreView) where
   transmit_absent none =
       leaves rules (Request.Transmit x e) (Response.NoContract x) old (λ l. refl) (λ l h right. rw (absent rules l x old h none) refl)
 
-  module _ (is_taken : IsTaken (book_of rules) (reports_of rules) (Request.Transmit x e)) (n : ℕ) (r : RowView Term)
+  module _ (is_taken : IsTaken (book_of rules) (reports_of rules) (Request.Transmit x e)) (n : ℕ) (r : RowView Term (List Node))
       (found : number_named x old.rows ≡ Some n) (row : slice_get old.rows (n - 1) ≡ Some r) where
     event : IsDeclaredEvent (book_of rules).declared e
     event = typed_event (book_of rules) (reports_of rules) x e is_taken.typed
@@ -50,7 +52,7 @@ module _ (rules : Rules) (x : Name) (e : Event) (old : StoreView) where
 
     -- what the row's contract becomes by the event
     abbrev next : Contract
-    next = after (book_of rules) (marks_of rules.studied) e (contract_of r.current)
+    next = after (book_of rules) (marks_of rules.studied) e (contract_of_rows r.current)
 
     abbrev size : ℕ
     size = width (book_of rules) (marks_of rules.studied) next
@@ -98,20 +100,20 @@ module _ (rules : Rules) (x : Name) (e : Event) (old : StoreView) where
           residual_hopeful (book_of rules) (marks_of rules.studied) (study rules l old h) original longer_trace c.is.formed c.is.fit declared (λ z. no_failure next failed (next_is ∙ z))
 
       -- the rows and the log with the event
-      records : (term : Term) → IsNext rules.studied r e term → (new : StoreView) → RecordsEvent (book_of rules).declared n e term old new →
+      records : (owed : List Node) → IsNext rules.studied r e owed → (new : StoreView) → RecordsEvent (book_of rules).declared n e owed old new →
           IsLedger rules (with_log l (number_in (contract_named l x)) e) new
-      records term new_term new recorded =
+      records owed is_next new recorded =
           let number = c.number in
-          let rows : new.rows ≡ changed_at (with_event e term) c.place old.rows = recorded.rows ∙ ap (λ i. changed_at (with_event e term) i old.rows) (let z : n - 1 ≡ c.place = omega (arith, number) in z) in
+          let rows : new.rows ≡ changed_at (with_event e owed) c.place old.rows = recorded.rows ∙ ap (λ i. changed_at (with_event e owed) i old.rows) (let z : n - 1 ≡ c.place = omega (arith, number) in z) in
           let entry : with_log l (number_in (contract_named l x)) e ≡ with_log l (1 + c.place) e = ap (λ m. with_log l m e) (ap number_in c.named) in
           let below : 1 + c.place ≤ length old.rows = place_below old.rows c.place r c.found in
-          let longer : length new.rows ≡ length old.rows = ap length rows ∙ length-changed_at (with_event e term) c.place old.rows in
+          let longer : length new.rows ≡ length old.rows = ap length rows ∙ length-changed_at (with_event e owed) c.place old.rows in
           subst (λ m. IsLedger rules m new) (sym entry) (record {
             studied = h.studied;
             whole = h.whole;
-            contracts = ap (map named) rows ∙ named-changed_at (with_event e term) (λ r. refl) c.place old.rows ∙ h.contracts;
+            contracts = ap (map named) rows ∙ named-changed_at (with_event e owed) (λ r. refl) c.place old.rows ∙ h.contracts;
             log = recorded.log ∙ ap (λ m. old.log ++ (m, e) ∷ []) number ∙ ap (λ xs. xs ++ (1 + c.place, e) ∷ []) h.log;
-            rows = subst (RowsAre rules.studied (with_log l (1 + c.place) e) 1) (sym rows) (rows_recorded rules.studied l c.place e term old.rows r h.rows c.found c.is new_term);
+            rows = subst (RowsAre rules.studied (with_log l (1 + c.place) e) 1) (sym rows) (rows_recorded rules.studied l c.place e owed old.rows r h.rows c.found c.is is_next);
             watches = watches_recorded rules l (1 + c.place) e old new recorded.changes recorded.brought recorded.moved h.watches;
             logged = subst (λ m. All (λ p. p.0 ≤ m) (l.log ++ (1 + c.place, e) ∷ [])) (sym longer)
                 (All-append (λ p. p.0 ≤ length old.rows) l.log ((1 + c.place, e) ∷ []) h.logged
@@ -119,8 +121,8 @@ module _ (rules : Rules) (x : Name) (e : Event) (old : StoreView) where
             ended = subst (λ m. All (λ n. n ≤ m) l.ends) (sym longer) h.ended;
           })
 
-      kept : (term : Term) → contract_of term ≡ next → late_day r.events e.day ≡ None → is_failure next ≡ false → size ≤ widest → IsNext rules.studied r e term
-      kept term same in_time failed narrow = record {
+      kept : (owed : List Node) → contract_of_rows owed ≡ next → late_day r.events e.day ≡ None → is_failure next ≡ false → size ≤ widest → IsNext rules.studied r e owed
+      kept owed same in_time failed narrow = record {
         event = event;
         whole_event = is_taken.whole;
         in_time = in_time;
@@ -129,7 +131,7 @@ module _ (rules : Rules) (x : Name) (e : Event) (old : StoreView) where
             (residual_kept (book_of rules) (marks_of rules.studied) (study rules l old h) original longer_trace c.is.formed c.is.fit declared (λ z. no_failure next failed (next_is ∙ z)));
         narrow = subst (λ d. width (book_of rules) (marks_of rules.studied) d ≤ widest) (sym same) narrow;
         whole = subst IsWholeContract (sym same)
-            (IsWhole-after_at (book_of rules) (marks_of rules.studied) h.whole e is_taken.whole (length (book_of rules).templates) (contract_of r.current) c.is.whole_current);
+            (IsWhole-after_at (book_of rules) (marks_of rules.studied) h.whole e is_taken.whole (length (book_of rules).templates) (contract_of_rows r.current) c.is.whole_current);
       }
 
     transmits_refused : (ended : Bool) (late : Option ℤ) (failed large : Bool) →
@@ -152,18 +154,18 @@ module _ (rules : Rules) (x : Name) (e : Event) (old : StoreView) where
     pub transmit_refused : (refusal : Response) → Refused refusal ≡ choice_by rules.studied r e → Makes rules (Request.Transmit x e) old old refusal
     transmit_refused refusal q = transmits_refused r.ended (late_day r.events e.day) (is_failure next) (nat_lt widest size) refl refl refl refl refusal q
 
-    module _ (term : Term) (may_end : Bool) (tells : IsTrue may_end ↔ Perf (book_of rules) [] (contract_of term) []) (new : StoreView)
-        (recorded : RecordsEvent (book_of rules).declared n e term old new) where
+    module _ (owed : List Node) (may_end : Bool) (tells : IsTrue may_end ↔ Perf (book_of rules) [] (contract_of_rows owed) []) (new : StoreView)
+        (recorded : RecordsEvent (book_of rules).declared n e owed old new) where
       transmits_kept : (ended : Bool) (late : Option ℤ) (failed large : Bool) →
           r.ended ≡ ended → late_day r.events e.day ≡ late → is_failure next ≡ failed → nat_lt widest size ≡ large →
-          Kept (contract_of term) ≡ unless_over ended late (judged Response.Unmatched failed large next) →
+          Kept (contract_of_rows owed) ≡ unless_over ended late (judged Response.Unmatched failed large next) →
           Makes rules (Request.Transmit x e) old new (Response.Recorded (length r.events + 1) may_end)
       transmits_kept true late failed large n d fe le q = absurd cc
       transmits_kept false (Some day) failed large n d fe le q = absurd cc
       transmits_kept false None true large n d fe le q = absurd cc
       transmits_kept false None false true n d fe le q = absurd cc
       transmits_kept false None false false n d fe le q =
-          let same : contract_of term ≡ next = cc in
+          let same : contract_of_rows owed ≡ next = cc in
           let narrow : size ≤ widest = within_limit size le in
           changes rules (Request.Transmit x e) (Response.Recorded (length r.events + 1) may_end) old new refl
           (λ l h right. open_reply l h right (Response.Recorded (length r.events + 1) may_end) None n d (inr (
@@ -173,7 +175,7 @@ module _ (rules : Rules) (x : Name) (e : Event) (old : StoreView) where
               (may_end, performed l h may_end (subst (λ c. IsTrue may_end ↔ Perf (book_of rules) [] c []) same tells), refl),
             ),
           )))
-          (λ l h. records l h term (kept l h term same d fe narrow) new recorded)
+          (λ l h. records l h owed (kept l h owed same d fe narrow) new recorded)
 
-      pub transmit_kept : Kept (contract_of term) ≡ choice_by rules.studied r e → Makes rules (Request.Transmit x e) old new (Response.Recorded (length r.events + 1) may_end)
+      pub transmit_kept : Kept (contract_of_rows owed) ≡ choice_by rules.studied r e → Makes rules (Request.Transmit x e) old new (Response.Recorded (length r.events + 1) may_end)
       transmit_kept q = transmits_kept r.ended (late_day r.events e.day) (is_failure next) (nat_lt widest size) refl refl refl refl q

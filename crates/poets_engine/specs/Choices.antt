@@ -1,13 +1,15 @@
 -- Which contracts are kept.
 use Rattle.std.specs.Prelude.{ℕ, ◌≤◌, Bool, true, false, nat_lt, ℤ, Option, Some, None, List, All}
 use Rattle.poets_value.specs.declared.event.Event.{Event}
-use Rattle.poets_syntax.specs.Contract.{Contract, contract_of, Failure}
+use Rattle.poets_syntax.specs.Contract.{Contract, Failure}
 use Rattle.poets_syntax.specs.declared.term.Term.{Term}
 use Rattle.poets_syntax.specs.Applied.{CountsFit}
 use Rattle.poets_syntax.specs.Book.{Definitions, definitions_of}
 use Rattle.poets_syntax.specs.Studied.{StudiedBook, marks_of}
 use Rattle.poets_syntax.specs.Residual.{after}
 use Rattle.poets_syntax.specs.Width.{width}
+use Rattle.poets_cons.specs.declared.node.Node.{Node}
+use Rattle.poets_cons.specs.Table.{contract_of_rows}
 use Rattle.poets_table.specs.TableView.{RowView}
 use Rattle.poets_call.specs.Calls.{Response, response_of}
 use Rattle.poets_call.specs.Ledger.{late_day}
@@ -22,7 +24,7 @@ pub data Choice : Type 0 where
 
 abbrev pub choice_of : Decision → Choice
 choice_of (D.Refused reply) = Refused (response_of reply)
-choice_of (D.Kept term) = Kept (contract_of term)
+choice_of (D.Kept rows) = Kept (contract_of_rows rows)
 
 abbrev pub is_failure : Contract → Bool
 is_failure Failure = true
@@ -46,8 +48,8 @@ abbrev pub IsKept : StudiedBook → Contract → Type 0
 IsKept s c = CountsFit (definitions_of s.book) c × (width_in s c ≤ widest)
 
 -- the residual of each row is one
-abbrev pub AreKept : StudiedBook → List (RowView Term) → Type 0
-AreKept s rows = All (λ r. IsKept s (contract_of r.current)) rows
+abbrev pub AreKept : StudiedBook → List (RowView Term (List Node)) → Type 0
+AreKept s rows = All (λ r. IsKept s (contract_of_rows r.current)) rows
 
 -- the numbers of arguments fit in what was chosen
 abbrev pub KeptFits : Definitions → Choice → Type 0
@@ -60,7 +62,7 @@ unless_over false (Some day) next = Refused (Response.Late day)
 unless_over false None next = next
 
 -- what becomes of a contract's row by an event
-abbrev pub choice_by : StudiedBook → RowView Term → Event → Choice
+abbrev pub choice_by : StudiedBook → RowView Term (List Node) → Event → Choice
 choice_by s r e =
     unless_over r.ended (late_day r.events e.day)
-    (judge s Response.Unmatched (after (definitions_of s.book) (marks_of s) e (contract_of r.current)))
+    (judge s Response.Unmatched (after (definitions_of s.book) (marks_of s) e (contract_of_rows r.current)))

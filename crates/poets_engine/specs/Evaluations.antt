@@ -1,33 +1,42 @@
 -- How many evaluations a command takes.
-use Rattle.std.specs.Prelude.{ℕ, ◌+◌, ◌*◌, ◌-◌, slice_get, length, Option, Some, None, List}
+use Rattle.std.specs.Prelude.{ℕ, ◌+◌, ◌*◌, ◌-◌, slice_get, length, min, Option, Some, None, List}
 use Rattle.poets_value.specs.declared.value.Name.{Name}
-use Rattle.poets_syntax.specs.Contract.{contract_of}
 use Rattle.poets_syntax.specs.declared.term.Term.{Term}
-use Rattle.poets_syntax.specs.Studied.{StudiedBook}
+use Rattle.poets_syntax.specs.Book.{definitions_of}
+use Rattle.poets_syntax.specs.Contract.{Contract}
+use Rattle.poets_syntax.specs.Studied.{StudiedBook, marks_of}
 use Rattle.poets_syntax.specs.Width.{size}
+use Rattle.poets_cons.specs.declared.node.Node.{Node}
+use Rattle.poets_cons.specs.Table.{contract_of_rows}
+use Rattle.poets_residue.specs.Once.{once}
 use Rattle.poets_table.specs.TableView.{RowView, number_named}
 use Rattle.poets_call.specs.declared.rules.Rules.{Rules}
 use Rattle.poets_call.specs.Calls.{Request}
 use Rattle.poets_engine.specs.Choices.{width_in}
 use Rattle.poets_engine.specs.Store.{StoreView}
 
-abbrev pub width_of_row : StudiedBook → Option (RowView Term) → ℕ
-width_of_row s None = 0
-width_of_row s (Some r) = width_in s (contract_of r.current)
+-- the most evaluations that the residual of a contract takes: no more than it is wide, and no more than where each different
+-- part is derived once
+abbrev pub asked_in : StudiedBook → Contract → ℕ
+asked_in s c = min (width_in s c) (once (definitions_of s.book) (marks_of s) c)
 
-abbrev pub width_of_number : StudiedBook → List (RowView Term) → Option ℕ → ℕ
-width_of_number s rows None = 0
-width_of_number s rows (Some n) = width_of_row s (slice_get rows (n - 1))
+abbrev pub asked_of_row : StudiedBook → Option (RowView Term (List Node)) → ℕ
+asked_of_row s None = 0
+asked_of_row s (Some r) = asked_in s (contract_of_rows r.current)
 
--- how wide that is what is owed on the contract with a name; 0 where there is none
-abbrev pub width_owed : StudiedBook → List (RowView Term) → Name → ℕ
-width_owed s rows x = width_of_number s rows (number_named x rows)
+abbrev pub asked_of_number : StudiedBook → List (RowView Term (List Node)) → Option ℕ → ℕ
+asked_of_number s rows None = 0
+asked_of_number s rows (Some n) = asked_of_row s (slice_get rows (n - 1))
 
--- the most evaluations that a command takes: a transmission asks each watch for its key and its next value; a tally asks
--- for its arguments and its start, and at each event for its key and its next value
+-- the same of what is owed on the contract with a name; 0 where there is none
+abbrev pub asked_owed : StudiedBook → List (RowView Term (List Node)) → Name → ℕ
+asked_owed s rows x = asked_of_number s rows (number_named x rows)
+
+-- the most evaluations that a command takes: a transmission asks as a residual does, and each watch for its key and its
+-- next value; a tally asks for its arguments and its start, and at each event for its key and its next value
 abbrev pub most_evaluations : Rules → StoreView → Request → ℕ
 most_evaluations rules store (Request.Register x c) = size c
-most_evaluations rules store (Request.Transmit x e) = width_owed rules.studied store.rows x + 2 * length store.watches
+most_evaluations rules store (Request.Transmit x e) = asked_owed rules.studied store.rows x + 2 * length store.watches
 most_evaluations rules store (Request.Tally x args) = length args + 1 + 2 * length store.log
 most_evaluations rules store (Request.Portfolio x args over) = length args
 most_evaluations rules store (Request.Watch x args) = length args

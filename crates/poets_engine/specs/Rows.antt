@@ -16,6 +16,8 @@ use Rattle.poets_syntax.specs.Whole.{IsWholeContract, AreWholeDefinitions}
 use Rattle.poets_syntax.specs.Marks.{Hopeful}
 use Rattle.poets_syntax.specs.Residual.{residual_after}
 use Rattle.poets_syntax.specs.Width.{width}
+use Rattle.poets_cons.specs.declared.node.Node.{Node}
+use Rattle.poets_cons.specs.Table.{contract_of_rows}
 use Rattle.poets_report.specs.Query.{query_of}
 use Rattle.poets_table.specs.TableView.{RowView}
 use Rattle.poets_live.specs.Watching.{WatchView, Follows}
@@ -34,7 +36,7 @@ NeverFall (e ∷ []) = Unit {0}
 NeverFall (e ∷ e' ∷ s) = (e.day ≤ℤ e'.day) × NeverFall (e' ∷ s)
 
 -- a row is what the ledger says of the contract with that number
-pub record RowIs (s : StudiedBook) (l : Ledger) (i : ℕ) (r : RowView Term) : Type 0 where
+pub record RowIs (s : StudiedBook) (l : Ledger) (i : ℕ) (r : RowView Term (List Node)) : Type 0 where
   pub events : r.events ≡ trace l i
   pub ended : r.ended ≡ is_ended l i
   pub formed : IsWellFormed (definitions_of s.book).declared (contract_of r.original)
@@ -42,16 +44,16 @@ pub record RowIs (s : StudiedBook) (l : Ledger) (i : ℕ) (r : RowView Term) : T
   pub declared : All (IsDeclaredEvent (definitions_of s.book).declared) r.events
   pub days : NeverFall r.events
   -- what is owed is the residual; some granted steps perform it, and it is narrow
-  pub current : contract_of r.current ≡ residual_after (definitions_of s.book) (marks_of s) (contract_of r.original) r.events
-  pub hopeful : Hopeful (definitions_of s.book) (contract_of r.current)
-  pub narrow : width (definitions_of s.book) (marks_of s) (contract_of r.current) ≤ widest
+  pub current : contract_of_rows r.current ≡ residual_after (definitions_of s.book) (marks_of s) (contract_of r.original) r.events
+  pub hopeful : Hopeful (definitions_of s.book) (contract_of_rows r.current)
+  pub narrow : width (definitions_of s.book) (marks_of s) (contract_of_rows r.current) ≤ widest
   -- all numbers and days are those of the language
   pub whole_original : IsWholeContract (contract_of r.original)
   pub whole_events : IsWholeTrace r.events
-  pub whole_current : IsWholeContract (contract_of r.current)
+  pub whole_current : IsWholeContract (contract_of_rows r.current)
 
 -- the rows from a number on
-abbrev pub RowsAre : StudiedBook → Ledger → ℕ → List (RowView Term) → Type 0
+abbrev pub RowsAre : StudiedBook → Ledger → ℕ → List (RowView Term (List Node)) → Type 0
 RowsAre s l i [] = Unit {0}
 RowsAre s l i (r ∷ rows) = RowIs s l i r × RowsAre s l (suc i) rows
 

@@ -4,6 +4,7 @@ use Rattle.poets_value.specs.declared.event.Event.{Event}
 use Rattle.poets_value.specs.declared.value.Value.{Value}
 use Rattle.poets_expr.specs.Env.{Declared}
 use Rattle.poets_syntax.specs.declared.term.Term.{Term}
+use Rattle.poets_cons.specs.declared.node.Node.{Node}
 use Rattle.poets_report.specs.declared.report.Report.{Report}
 use Rattle.poets_report.specs.declared.folds.Change.{Change}
 use Rattle.poets_table.specs.TableView.{RowView, changed_at, with_event}
@@ -11,18 +12,18 @@ use Rattle.poets_live.specs.Watching.{WatchView, AllBrought, AllMoved, Begins}
 
 -- the contracts' rows, the log, and the watches
 pub record StoreView : Type 0 where
-  pub rows : List (RowView Term)
+  pub rows : List (RowView Term (List Node))
   pub log : List (ℕ × Event)
   pub watches : List WatchView
 
 -- one contract more
-pub record AddsRow (row : RowView Term) (old new : StoreView) : Type 0 where
+pub record AddsRow (row : RowView Term (List Node)) (old new : StoreView) : Type 0 where
   pub rows : new.rows ≡ old.rows ++ row ∷ []
   pub log : new.log ≡ old.log
   pub watches : new.watches ≡ old.watches
 
 -- the event is in the row with the number, of which the current contract is then owed, in the log, and in each watch
-pub record RecordsEvent (declared : Declared) (number : ℕ) (e : Event) (current : Term) (old new : StoreView) : Type 0 where
+pub record RecordsEvent (declared : Declared) (number : ℕ) (e : Event) (current : List Node) (old new : StoreView) : Type 0 where
   pub rows : new.rows ≡ changed_at (with_event e current) (number - 1) old.rows
   pub log : new.log ≡ old.log ++ (number, e) ∷ []
   pub changes : List Change

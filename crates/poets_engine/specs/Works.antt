@@ -1,5 +1,5 @@
 -- What is left of a portfolio once its turn is over.
-use Rattle.std.specs.Prelude.{◌≡◌, List, [], Option, Some, None, map}
+use Rattle.std.specs.Prelude.{◌≡◌, List, [], Some, None, map}
 use Rattle.std.specs.Arc.{arc_value}
 use Rattle.std.specs.List.{AllZip}
 use Rattle.poets_value.specs.declared.value.Name.{Name}
@@ -9,7 +9,7 @@ use Rattle.poets_expr.specs.Val.{val}
 use Rattle.poets_syntax.specs.Book.{Definitions}
 use Rattle.poets_report.specs.Query.{Query, query_of}
 use Rattle.poets_folio.specs.declared.folio.Part.{Part}
-use Rattle.poets_call.specs.Calls.{HistoryEntry, Call, Request, Response, calls_of, response_of}
+use Rattle.poets_call.specs.Calls.{HistoryEntry, Call, Request, calls_of, response_of}
 use Rattle.poets_call.specs.Histories.{IsLegal, AnswersIn}
 use Rattle.poets_call.specs.Ledger.{Ledger, ledger_of, first_absent, number_of, trace}
 use Rattle.poets_call.specs.Replies.{report_in}

@@ -5,7 +5,7 @@ ghost use Rattle.poets_engine.specs.Makes.{Makes};
 
 use crate::store::Store;
 use poets_call::{Reply, Rules};
-use poets_residue::may_end;
+use poets_residue::may_end_rows;
 use poets_value::Name;
 
 /// Ends the contract with a name, where it may end.
@@ -21,7 +21,7 @@ pub(crate) fn end(rules: &Rules, store: &mut Store, name: Name) -> Reply
     if row.ended {
         return Reply::AlreadyEnded;
     }
-    if !may_end(&rules.studied, &row.current) {
+    if !may_end_rows(&rules.studied, &row.current) {
         return Reply::NotPerformed;
     }
     store.finish(number);

@@ -41,9 +41,10 @@ impl Model for Engine {
     ghost use Rattle.poets_syntax.specs.contracts.term.Book as b;
     ghost use Rattle.poets_call.specs.contracts.call.Command as c;
     ghost use Rattle.poets_report.specs.contracts.report.Report as r;
+    ghost use Rattle.poets_expr.specs.contracts.expr.Expr as x;
     ghost use Rattle.std.specs.Coded.{codes};
 
-    ghost coded = { Prim.hlevel (codes, t.the_row.coded, b.the_row.coded, c.the_row.coded, r.the_row.coded) };
+    ghost coded = { Prim.hlevel (codes, t.the_row.coded, b.the_row.coded, c.the_row.coded, r.the_row.coded, x.the_row.coded) };
 
     ghost use Rattle.poets_engine.specs.State.{commands_of, plain_calls};
     ghost use Rattle.poets_engine.specs.Rows.{Stands};

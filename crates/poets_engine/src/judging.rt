@@ -1,15 +1,17 @@
 //! Which contracts are kept.
 ghost use Rattle.std.specs.Prelude.{◌≡◌, nat_lt};
-ghost use Rattle.poets_syntax.specs.Contract.{contract_of};
 ghost use Rattle.poets_syntax.specs.Applied.{CountsFit};
 ghost use Rattle.poets_syntax.specs.Book.{definitions_of};
 ghost use Rattle.poets_call.specs.Calls.{response_of};
 ghost use Rattle.poets_call.specs.Replies.{widest};
+ghost use Rattle.poets_cons.specs.Row.{contract_by, row_of};
+ghost use Rattle.poets_cons.specs.Table.{contract_at, contract_of_rows};
 ghost use Rattle.poets_engine.specs.Choices.{KeptFits, choice_of, is_failure as is_failure_lem, judge as judge_lem, width_in};
 
 use poets_call::Reply;
-use poets_norm::wide;
-use poets_syntax::{Studied, Term};
+use poets_cons::{Node, Rows};
+use poets_residue::wide_rows;
+use poets_syntax::Studied;
 
 /// The greatest width of a contract that is kept.
 const WIDEST: u64 = 1000;
@@ -18,38 +20,45 @@ const WIDEST: u64 = 1000;
 #[derive(Drop)]
 pub(crate) enum Decision {
     Refused(Reply),
-    Kept(Term),
+    Kept(Rows),
+}
+
+// The node of the root.
+fn root_node(rows: &Rows) -> &Node
+    ensures { contract_of_rows rows.now ≡ contract_by (contract_at rows.now) (row_of result.now) }
+{
+    rows.node(rows.root())
 }
 
 // Whether the contract is `Failure`.
-fn is_failure(term: &Term) -> bool
-    ensures { result ≡ is_failure_lem (contract_of term.now) }
+fn is_failure(rows: &Rows) -> bool
+    ensures { result ≡ is_failure_lem (contract_of_rows rows.now) }
 {
-    match term {
-        Term::Failure => true,
+    match root_node(rows) {
+        Node::Failure => true,
         _ => false,
     }
 }
 
 // Whether the contract is wider than one that is kept.
-fn is_large(studied: &Studied, term: &Term) -> bool
-    requires { CountsFit (definitions_of studied.now.book) (contract_of term.now) }
-    ensures { result ≡ nat_lt widest (width_in studied.now (contract_of term.now)) }
+fn is_large(studied: &Studied, rows: &Rows) -> bool
+    requires { CountsFit (definitions_of studied.now.book) (contract_of_rows rows.now) }
+    ensures { result ≡ nat_lt widest (width_in studied.now (contract_of_rows rows.now)) }
 {
-    wide(studied, term) > WIDEST
+    wide_rows(studied, rows) > WIDEST
 }
 
 /// Refuses a contract that no number of granted steps performs by the given reply, and one that is too large.
-pub(crate) fn judge(studied: &Studied, refusal: Reply, term: Term) -> Decision
-    requires { CountsFit (definitions_of studied.now.book) (contract_of term) }
-    ensures choice { choice_of result ≡ judge_lem studied.now (response_of refusal) (contract_of term) }
+pub(crate) fn judge(studied: &Studied, refusal: Reply, rows: Rows) -> Decision
+    requires { CountsFit (definitions_of studied.now.book) (contract_of_rows rows) }
+    ensures choice { choice_of result ≡ judge_lem studied.now (response_of refusal) (contract_of_rows rows) }
     ensures fits { KeptFits (definitions_of studied.now.book) (choice_of result) }
 {
-    if is_failure(&term) {
+    if is_failure(&rows) {
         return Decision::Refused(refusal);
     }
-    if is_large(studied, &term) {
+    if is_large(studied, &rows) {
         return Decision::Refused(Reply::TooLarge);
     }
-    Decision::Kept(term)
+    Decision::Kept(rows)
 }

@@ -6,8 +6,8 @@ ghost use Rattle.poets_engine.specs.Makes.{Makes};
 
 use crate::store::Store;
 use poets_call::{Reply, Rules};
-use poets_residue::may_end;
-use poets_syntax::copy;
+use poets_cons::to_term;
+use poets_residue::may_end_rows;
 use poets_value::{Memory, Name};
 use std::alloc::Global;
 
@@ -23,9 +23,9 @@ pub(crate) fn show(alloc: Global, rules: &Rules, store: &Store, name: Name) -> R
     };
     let row = store.row(number);
     Ok(Reply::Shown {
-        residual: copy(alloc, &row.current)?,
+        residual: to_term(alloc, &row.current)?,
         count: row.events.len() as u64,
-        may_end: may_end(&rules.studied, &row.current),
+        may_end: may_end_rows(&rules.studied, &row.current),
         ended: row.ended,
     })
 }

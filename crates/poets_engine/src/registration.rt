@@ -12,7 +12,7 @@ use crate::judging::{Decision, judge};
 use crate::store::Store;
 use poets_call::{Reply, Rules};
 use poets_expr::Asks;
-use poets_norm::normal;
+use poets_norm::normal_rows;
 use poets_syntax::Term;
 use poets_value::{Memory, Name};
 use std::alloc::Global;
@@ -39,7 +39,7 @@ pub(crate) fn register<T>(
     if let Some(number) = store.find(name) {
         return Ok(Reply::NameTaken(number));
     }
-    let current = normal(alloc, &rules.studied, term, asks)?;
+    let current = normal_rows(alloc, &rules.studied, term, asks)?;
     match judge(&rules.studied, Reply::Hopeless, current) {
         Decision::Refused(reply) => Ok(reply),
         Decision::Kept(current) => {

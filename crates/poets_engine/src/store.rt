@@ -6,6 +6,7 @@ ghost use Rattle.poets_report.specs.Answers.{finding_of};
 ghost use Rattle.poets_table.specs.TableView.{IsLive, changed_at, finished, new_row, number_named, row_view};
 ghost use Rattle.poets_engine.specs.Store.{AddsRow, AddsWatch, RecordsEvent};
 
+use poets_cons::Rows;
 use poets_expr::{Asks, Decls};
 use poets_live::Watches;
 use poets_report::{Answer, Report};
@@ -19,7 +20,7 @@ use std::sync::Arc;
 /// The contracts with their events, the log of all events, and the watches, which follow the log.
 #[derive(Drop)]
 pub(crate) struct Store {
-    table: Table<Term>,
+    table: Table<Term, Rows>,
     watches: Watches,
 }
 
@@ -30,9 +31,10 @@ impl Model for Store {
 
     ghost use Rattle.poets_syntax.specs.contracts.term.Term as t;
     ghost use Rattle.poets_report.specs.contracts.report.Report as r;
+    ghost use Rattle.poets_expr.specs.contracts.expr.Expr as x;
     ghost use Rattle.std.specs.Coded.{codes};
 
-    ghost coded = { Prim.hlevel (codes, t.the_row.coded, r.the_row.coded) };
+    ghost coded = { Prim.hlevel (codes, t.the_row.coded, r.the_row.coded, x.the_row.coded) };
 
     ghost view = { λ s. record { rows = s.table.rows; log = s.table.log; watches = s.watches.watches } };
 }
@@ -58,7 +60,7 @@ impl Store {
     }
 
     /// The contract with a number.
-    pub(crate) fn row(&self, number: u64) -> &Row<Term>
+    pub(crate) fn row(&self, number: u64) -> &Row<Term, Rows>
         requires { IsLive number self.now.rows }
         ensures { slice_get self.now.rows (number - 1) ≡ Some (row_view result.now) }
     {
@@ -100,7 +102,7 @@ impl Store {
         &mut self,
         name: Name,
         original: Arc<Term>,
-        current: Term,
+        current: Rows,
     ) -> Result<u64, Memory>
         requires { number_named name self.old.rows ≡ None }
         ensures ok { OnOk result (AddsRow (new_row name (arc_value original) current) self.old self.new) }
@@ -126,7 +128,7 @@ impl Store {
         decls: &Decls,
         number: u64,
         event: &Event,
-        current: Term,
+        current: Rows,
         asks: &mut Asks<T>,
     ) -> Result<(), Memory>
         requires { IsLive number self.old.rows }

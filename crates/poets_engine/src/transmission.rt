@@ -1,6 +1,6 @@
 //! Transmissions.
 ghost use Rattle.std.specs.Prelude.{◌≡◌, ◌+◌, ◌*◌, ◌≤◌, length, IfOk, OnErr};
-ghost use Rattle.poets_syntax.specs.Contract.{contract_of};
+ghost use Rattle.poets_cons.specs.Table.{contract_of_rows};
 ghost use Rattle.poets_syntax.specs.Applied.{CountsFit};
 ghost use Rattle.poets_syntax.specs.Book.{definitions_of};
 ghost use Rattle.poets_table.specs.TableView.{row_view};
@@ -8,15 +8,16 @@ ghost use Rattle.poets_call.specs.Calls.{response_of, Request};
 ghost use Rattle.poets_call.specs.Ledger.{last_day, late_day};
 ghost use Rattle.poets_call.specs.Rules.{book_of, reports_of};
 ghost use Rattle.poets_call.specs.Taken.{IsTaken};
-ghost use Rattle.poets_engine.specs.Choices.{AreKept, KeptFits, choice_of, choice_by, width_in};
-ghost use Rattle.poets_engine.specs.Evaluations.{width_owed};
+ghost use Rattle.poets_engine.specs.Choices.{AreKept, KeptFits, choice_of, choice_by};
+ghost use Rattle.poets_engine.specs.Evaluations.{asked_in, asked_owed};
 ghost use Rattle.poets_engine.specs.Makes.{Makes};
 
 use crate::judging::{Decision, judge};
 use crate::store::Store;
 use poets_call::{Reply, Rules};
+use poets_cons::Rows;
 use poets_expr::Asks;
-use poets_residue::{may_end, residual};
+use poets_residue::{may_end_rows, residual_rows};
 use poets_syntax::{Studied, Term};
 use poets_table::{Events, Row};
 use poets_value::{Day, Event, Memory, Name};
@@ -48,14 +49,14 @@ fn late(events: &Events, day: &Day) -> Option<Day>
 fn decide<T>(
     alloc: Global,
     studied: &Studied,
-    row: &Row<Term>,
+    row: &Row<Term, Rows>,
     event: &Event,
     asks: &mut Asks<T>,
 ) -> Result<Decision, Memory>
-    requires { CountsFit (definitions_of studied.now.book) (contract_of row.now.current) }
+    requires { CountsFit (definitions_of studied.now.book) (contract_of_rows row.now.current) }
     ensures choice { IfOk result (λ d. choice_of d ≡ choice_by studied.now (row_view row.now) event.now) }
     ensures fits { IfOk result (λ d. KeptFits (definitions_of studied.now.book) (choice_of d)) }
-    ensures asks { asks.new ≤ asks.old + width_in studied.now (contract_of row.now.current) }
+    ensures asks { asks.new ≤ asks.old + asked_in studied.now (contract_of_rows row.now.current) }
     ensures rises { asks.old ≤ asks.new }
 {
     if row.ended {
@@ -66,7 +67,7 @@ fn decide<T>(
     }
     // The numbers of arguments fit in the bodies of the templates.
     let _book = studied.book();
-    let next = residual(alloc, studied, &row.current, event, asks)?;
+    let next = residual_rows(alloc, studied, &row.current, event, asks)?;
     Ok(judge(studied, Reply::Unmatched, next))
 }
 
@@ -84,7 +85,7 @@ pub(crate) fn transmit<T>(
     requires rows { AreKept rules.now.studied store.old.rows }
     ensures ok { IfOk result (λ r. Makes rules.now (Request.Transmit name event.now) store.old store.new (response_of r)) }
     ensures err { OnErr result (store.new ≡ store.old) }
-    ensures asks { asks.new ≤ asks.old + width_owed rules.now.studied store.old.rows name + 2 * length store.old.watches }
+    ensures asks { asks.new ≤ asks.old + asked_owed rules.now.studied store.old.rows name + 2 * length store.old.watches }
     ensures rises { asks.old ≤ asks.new }
 {
     let Some(number) = store.find(name) else {
@@ -95,7 +96,7 @@ pub(crate) fn transmit<T>(
     match decide(alloc, &rules.studied, row, event, asks)? {
         Decision::Refused(reply) => Ok(reply),
         Decision::Kept(next) => {
-            let may_end = may_end(&rules.studied, &next);
+            let may_end = may_end_rows(&rules.studied, &next);
             store.record(&rules.studied.book().decls, number, event, next, asks)?;
             Ok(Reply::Recorded { count, may_end })
         }

@@ -58,7 +58,7 @@ fn sum_by(alloc: Global, key: Option<Expr>) -> Result<Report, Memory>
 }
 
 // Adds an event to the row with that name.
-fn enter(table: &mut Table<()>, name: Name, amount: i64) -> Result<(), Memory> {
+fn enter(table: &mut Table<(), ()>, name: Name, amount: i64) -> Result<(), Memory> {
     let Some(number) = table.find(name) else {
         return Err(Memory);
     };
@@ -70,7 +70,7 @@ fn enter(table: &mut Table<()>, name: Name, amount: i64) -> Result<(), Memory> {
 // The events with these amounts, out of the table's only row.
 fn events(alloc: Global, amounts: &[i64]) -> Result<Events, Memory> {
     let name = Name { id: 0 };
-    let mut table: Table<()> = Table::new(alloc);
+    let mut table: Table<(), ()> = Table::new(alloc);
     table.add(name, Arc::new(alloc, ())?, ())?;
     for amount in amounts {
         enter(&mut table, name, *amount)?;

@@ -46,3 +46,28 @@ GivesAll-at_end (Some xs) (Some ys) None bs p q e = absurd q
 GivesAll-at_end (Some xs) (Some ys) (Some zs) bs p q e = (p ∙ ap (λ l. bs ++ l) (q ∙ e) ∙ append-nil bs, ap (λ l. Some l) e)
 
 pub ruleset transfers = (Appends-more, Appends-nil, Appends-kept, Consumes-trans, Consumes-nil, Consumes-kept, LosesFront-more, LosesFront-kept, IfSome-loses_more, GivesAll-at_end)
+
+-- nothing came or went, twice
+pub keeps_again : (a b c : Option (List ℕ)) → Keeps a b → Keeps b c → Keeps a c
+keeps_again None b c p q = tt
+keeps_again (Some xs) None c p q = absurd p
+keeps_again (Some xs) (Some ys) None p q = q
+keeps_again (Some xs) (Some ys) (Some zs) p q = q ∙ p
+
+-- nothing went, and then a front
+pub keeps_consumes : (a b c : Option (List ℕ)) (bs : List ℕ) → Keeps a b → Consumes b c bs → Consumes a c bs
+keeps_consumes None b c bs p q = tt
+keeps_consumes (Some xs) None c bs p q = absurd p
+keeps_consumes (Some xs) (Some ys) None bs p q = q
+keeps_consumes (Some xs) (Some ys) (Some zs) bs p q = sym p ∙ q
+
+-- nothing came, and then some bytes
+pub keeps_appends : (a b c : Option (List ℕ)) (bs : List ℕ) → Keeps a b → Appends b c bs → Appends a c bs
+keeps_appends None b c bs p q = tt
+keeps_appends (Some xs) None c bs p q = absurd p
+keeps_appends (Some xs) (Some ys) None bs p q = q
+keeps_appends (Some xs) (Some ys) (Some zs) bs p q = q ∙ ap (λ l. l ++ bs) p
+
+pub keeps_itself : (a : Option (List ℕ)) → Keeps a a
+keeps_itself None = tt
+keeps_itself (Some xs) = refl

@@ -5,10 +5,42 @@ ghost use Rattle.std.specs.Io.KnownBytes.{ReadConsumes, WriteAppends};
 ghost use Rattle.poets_io.specs.Causes.{HasCause, counted};
 
 use crate::{Failed, Sink, Source};
-use std::io::{Read, Write};
+use std::io::{ErrorKind, Read, Write};
 use std::marker::Model;
 
-/// A source over std's reader.
+// A read that is tried again where it was interrupted.
+#[tactic(auto, using(crate::proofs::Transfers::keeps_itself, crate::proofs::Transfers::keeps_again, crate::proofs::Transfers::keeps_consumes))]
+fn read_through<R: Read>(reader: &mut R, buf: &mut [u8]) -> Result<usize, Failed>
+    ensures bound { ReadsAtMost result buf.new }
+    ensures bytes { ReadConsumes (R.remaining reader.old) (R.remaining reader.new) result buf.new }
+{
+    for _ in 0..u64::MAX {
+        match reader.read(buf) {
+            Ok(count) => return Ok(count),
+            Err(error) if error.kind() == ErrorKind::Interrupted => {}
+            Err(_) => return Err(Failed),
+        }
+    }
+    Err(Failed)
+}
+
+// A write that is tried again where it was interrupted.
+#[tactic(auto, using(crate::proofs::Transfers::keeps_itself, crate::proofs::Transfers::keeps_again, crate::proofs::Transfers::keeps_appends))]
+fn write_through<W: Write>(writer: &mut W, piece: &[u8]) -> Result<usize, Failed>
+    ensures bound { WritesAtMost result piece.now }
+    ensures bytes { WriteAppends (W.contents writer.old) (W.contents writer.new) result piece.now }
+{
+    for _ in 0..u64::MAX {
+        match writer.write(piece) {
+            Ok(count) => return Ok(count),
+            Err(error) if error.kind() == ErrorKind::Interrupted => {}
+            Err(_) => return Err(Failed),
+        }
+    }
+    Err(Failed)
+}
+
+/// A source over std's reader. A read that was interrupted is tried again.
 #[derive(Drop)]
 pub struct StdSource<R: Read> {
     reader: R,
@@ -44,9 +76,9 @@ impl<R: Read> Source for StdSource<R> {
         ensures cause { HasCause self.old.faults self.new.faults result }
         ensures err { OnErr result (self.new.faults ≡ counted self.old.faults) }
     {
-        match self.reader.read(buf) {
+        match read_through(&mut self.reader, buf) {
             Ok(count) => Ok(count),
-            Err(_) => {
+            Err(Failed) => {
                 self.faults = self.faults.saturating_add(1);
                 Err(Failed)
             }
@@ -54,7 +86,7 @@ impl<R: Read> Source for StdSource<R> {
     }
 }
 
-/// A sink over std's writer. A write that takes nothing is a fault.
+/// A sink over std's writer. A write that was interrupted is tried again; one that takes nothing is a fault.
 #[derive(Drop)]
 pub struct StdSink<W: Write> {
     writer: W,
@@ -92,7 +124,7 @@ impl<W: Write> Sink for StdSink<W> {
         ensures cause { HasCause self.old.faults self.new.faults result }
         ensures err { OnErr result (self.new.faults ≡ counted self.old.faults) }
     {
-        match self.writer.write(piece) {
+        match write_through(&mut self.writer, piece) {
             Ok(count) if count > 0 => Ok(count),
             _ => {
                 self.faults = self.faults.saturating_add(1);

@@ -48,19 +48,20 @@ fn text_sink(rt: &(impl Abort + AllocGlobal), fails: &[u64]) -> TextSink {
 struct Flaky<'a> {
     bytes: &'a [u8],
     calls: u32,
+    kind: ErrorKind,
 }
 
 impl Read for Flaky<'_> {
     fn read(&mut self, buf: &mut [u8]) -> io::Result<usize> {
         self.calls = self.calls.saturating_add(1);
         if self.calls == 2 {
-            return Err(ErrorKind::BrokenPipe.into());
+            return Err(self.kind.into());
         }
         self.bytes.read(buf)
     }
 }
 
-// A writer that takes three bytes at a time.
+// A writer that takes three bytes at a time, and is interrupted at its third call.
 #[derive(Drop)]
 struct Narrow {
     held: Vec<u8>,
@@ -70,6 +71,9 @@ struct Narrow {
 impl Write for Narrow {
     fn write(&mut self, buf: &[u8]) -> io::Result<usize> {
         self.calls = self.calls.saturating_add(1);
+        if self.calls == 3 {
+            return Err(ErrorKind::Interrupted.into());
+        }
         let count = buf.len().min(3);
         self.held.extend_from_slice(&buf[..count])?;
         Ok(count)
@@ -143,8 +147,19 @@ fn a_fault_of_the_reader_is_a_fault(rt: HostRuntime) {
     let mut flaky = StdSource::new(Flaky {
         bytes: b"abcdefghijk",
         calls: 0,
+        kind: ErrorKind::BrokenPipe,
     });
     assert!(rt; reads(&mut flaky, &[Some("abcdefgh"), None, Some("ijk"), Some("")]));
+}
+
+#[test]
+fn a_read_that_was_interrupted_is_tried_again(rt: HostRuntime) {
+    let mut flaky = StdSource::new(Flaky {
+        bytes: b"abcdefghijk",
+        calls: 0,
+        kind: ErrorKind::Interrupted,
+    });
+    assert!(rt; reads(&mut flaky, &[Some("abcdefgh"), Some("ijk"), Some("")]));
 }
 
 #[test]
@@ -249,7 +264,7 @@ fn a_piece_goes_on_where_the_writer_stopped(rt: HostRuntime) {
     };
     assert!(rt; takes_pieces(&mut StdSink::new(&mut narrow)) == (true, true, true));
     assert!(rt; narrow.held.as_slice() == b"first line\nsecond\n!".as_slice());
-    assert!(rt; narrow.calls == 8);
+    assert!(rt; narrow.calls == 9);
 }
 
 #[test]

@@ -41,7 +41,7 @@ found : {A : Type 0} (P : A → Type 0) (g : A → ℕ) (o : Option A) (n : ℕ)
 found P g None n e h = absurd cc
 found P g (Some r) n e h = let k : g r ≡ n = cc in subst (λ m. 0 < m) k (h r refl)
 
-pub still_ready : {T : Type 0} (n : ℕ) (old new : List (Row T)) (log : Listed (ℕ × Event)) →
+pub still_ready : {O T : Type 0} (n : ℕ) (old new : List (Row O T)) (log : Listed (ℕ × Event)) →
     map (λ r. r.events.room) new ≡ map (λ r. r.events.room) old → IsReady n old log → IsReady n new log
 still_ready n old new log e h k =
     let was = h k in (
@@ -66,7 +66,7 @@ position-map p f xs = rw (place-map p f xs, length-of-map f xs) refl
 place : {A B : Type 0} (p : B → Bool) (f : A → B) (xs : List A) → position p (map f xs) ≡ position (λ x. p (f x)) xs
 place p f xs = position-map p f xs
 
-pub numbers : {T : Type 0} (x : Name) (keys : List Name) (rows : List (Row T)) → AreNames keys rows →
+pub numbers : {O T : Type 0} (x : Name) (keys : List Name) (rows : List (Row O T)) → AreNames keys rows →
     option_map (λ i. i + 1) (position (λ y. nat_eq x.id y.id) keys) ≡ number_named x (map row_view rows)
 numbers x keys rows e =
     ap (option_map (λ i. i + 1)) (ap (position (λ y. nat_eq x.id y.id)) e
@@ -87,7 +87,7 @@ none : {A B : Type 0} (f : A → B) (o : Option A) → option_map f o ≡ None �
 none f None e = refl
 none f (Some x) e = absurd cc
 
-pub added_names : {T : Type 0} (x : Name) (keys keys' keys'' : List Name) (rows : List (Row T)) (r : Row T) → AreNames keys rows →
+pub added_names : {O T : Type 0} (x : Name) (keys keys' keys'' : List Name) (rows : List (Row O T)) (r : Row O T) → AreNames keys rows →
     number_named x (map row_view rows) ≡ None → keys' ≡ keys →
     keys'' ≡ (if list_any (λ y. nat_eq x.id y.id) keys' then keys' else keys' ++ x ∷ []) → r.name ≡ x →
     AreNames keys'' (rows ++ r ∷ [])

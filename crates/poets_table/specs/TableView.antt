@@ -6,24 +6,24 @@ use Rattle.poets_value.specs.declared.value.Name.{Name}
 use Rattle.poets_value.specs.declared.event.Event.{Event}
 use Rattle.poets_table.specs.declared.table.Row.{Row}
 
--- a row
-pub record RowView (T : Type 0) : Type 0 where
+-- a row: the original contract and what is owed may be of two types
+pub record RowView (O T : Type 0) : Type 0 where
   pub name : Name
-  pub original : T
+  pub original : O
   pub current : T
   pub events : List Event
   pub ended : Bool
 
-abbrev pub row_view : {T : Type 0} → Row T → RowView T
+abbrev pub row_view : {O T : Type 0} → Row O T → RowView O T
 row_view r = record { name = r.name; original = arc_value r.original; current = r.current; events = r.events.items; ended = r.ended }
 
-pub record TableView (T : Type 0) : Type 0 where
-  pub rows : List (RowView T)
+pub record TableView (O T : Type 0) : Type 0 where
+  pub rows : List (RowView O T)
   pub log : List (ℕ × Event)
   pub ready : ℕ
 
 -- a number that a row has
-abbrev pub IsLive : {T : Type 0} → ℕ → List (RowView T) → Type 0
+abbrev pub IsLive : {O T : Type 0} → ℕ → List (RowView O T) → Type 0
 IsLive n rows = (0 < n) × (n ≤ length rows)
 
 -- the list with the item at a place changed
@@ -32,15 +32,15 @@ changed_at f place [] = []
 changed_at f zero (x ∷ xs) = f x ∷ xs
 changed_at f (suc place) (x ∷ xs) = x ∷ changed_at f place xs
 
-abbrev pub with_event : {T : Type 0} → Event → T → RowView T → RowView T
+abbrev pub with_event : {O T : Type 0} → Event → T → RowView O T → RowView O T
 with_event e c r = record { name = r.name; original = r.original; current = c; events = r.events ++ e ∷ []; ended = r.ended }
 
-abbrev pub finished : {T : Type 0} → RowView T → RowView T
+abbrev pub finished : {O T : Type 0} → RowView O T → RowView O T
 finished r = record { name = r.name; original = r.original; current = r.current; events = r.events; ended = true }
 
 -- the number of the row with a name, from 1
-abbrev pub number_named : {T : Type 0} → Name → List (RowView T) → Option ℕ
+abbrev pub number_named : {O T : Type 0} → Name → List (RowView O T) → Option ℕ
 number_named x rows = option_map (λ i. i + 1) (position (λ r. nat_eq x.id r.name.id) rows)
 
-abbrev pub new_row : {T : Type 0} → Name → T → T → RowView T
+abbrev pub new_row : {O T : Type 0} → Name → O → T → RowView O T
 new_row x o c = record { name = x; original = o; current = c; events = []; ended = false }

@@ -12,10 +12,10 @@ use std::sync::Arc;
 
 /// A contract's row.
 #[derive(Drop)]
-pub struct Row<T> {
+pub struct Row<O, T> {
     pub name: Name,
     /// The contract as it was registered, shared with who registered it.
-    pub original: Arc<T>,
+    pub original: Arc<O>,
     /// What is still owed.
     pub current: T,
     pub events: Events,
@@ -24,17 +24,17 @@ pub struct Row<T> {
 
 /// Rows by name, in order, and the log of all events.
 #[derive(Drop)]
-pub struct Table<T> {
+pub struct Table<O, T> {
     names: IndexSet<Name>,
-    rows: Vec<Row<T>>,
+    rows: Vec<Row<O, T>>,
     log: List<(u64, Event)>,
     ready: u64,
 }
 
-impl<T> Model for Table<T> {
+impl<O, T> Model for Table<O, T> {
     ghost use Rattle.poets_table.specs.TableView.{TableView};
 
-    ghost Value = { TableView T };
+    ghost Value = { TableView O T };
 
     ghost use Rattle.std.specs.Prelude.{map};
     ghost use Rattle.poets_table.specs.TableView.{row_view};
@@ -49,9 +49,9 @@ impl<T> Model for Table<T> {
     ghost invariant = { λ t. AreNames t.names.keys t.rows.items × IsReady t.ready t.rows.items t.log };
 }
 
-impl<T> Table<T> {
+impl<O, T> Table<O, T> {
     /// The empty table.
-    pub fn new(alloc: Global) -> Table<T>
+    pub fn new(alloc: Global) -> Table<O, T>
         ensures { (result.rows ≡ []) × (result.log ≡ []) × (result.ready ≡ 0) }
     {
         Table {
@@ -70,7 +70,7 @@ impl<T> Table<T> {
     }
 
     /// The row with a number, which counts from 1.
-    pub fn row(&self, number: u64) -> &Row<T>
+    pub fn row(&self, number: u64) -> &Row<O, T>
         requires { IsLive number self.now.rows }
         ensures { slice_get self.now.rows (number - 1) ≡ Some (row_view result.now) }
     {
@@ -134,7 +134,7 @@ fn note(log: &mut List<(u64, Event)>, number: u64, event: &Event)
 }
 
 /// Makes room for an event.
-fn room_in<T>(row: &mut Row<T>) -> Result<(), Memory>
+fn room_in<O, T>(row: &mut Row<O, T>) -> Result<(), Memory>
     ensures same { row_view row.new ≡ row_view row.old }
     ensures name { row.new.name ≡ row.old.name }
     ensures ok { OnOk result (0 < row.new.events.room) }
@@ -144,7 +144,7 @@ fn room_in<T>(row: &mut Row<T>) -> Result<(), Memory>
 
 /// Makes room for an event in the row at a place.
 #[tactic(auto, using(crate::proofs::Setting::set_map, crate::proofs::Setting::set_same, crate::proofs::Setting::set_get, crate::proofs::Setting::index_get))]
-fn room_at<T>(rows: &mut Vec<Row<T>>, place: usize) -> Result<(), Memory>
+fn room_at<O, T>(rows: &mut Vec<Row<O, T>>, place: usize) -> Result<(), Memory>
     requires { place < length rows.old.items }
     ensures same { map row_view rows.new.items ≡ map row_view rows.old.items }
     ensures names { map (λ r. r.name) rows.new.items ≡ map (λ r. r.name) rows.old.items }
@@ -155,7 +155,7 @@ fn room_at<T>(rows: &mut Vec<Row<T>>, place: usize) -> Result<(), Memory>
 
 /// Ends the row at a place.
 #[tactic(auto, using(crate::proofs::Setting::set_map, crate::proofs::Setting::set_same, crate::proofs::Setting::set_get, crate::proofs::Setting::index_get))]
-fn end_at<T>(rows: &mut Vec<Row<T>>, place: usize)
+fn end_at<O, T>(rows: &mut Vec<Row<O, T>>, place: usize)
     requires { place < length rows.old.items }
     ensures same { map row_view rows.new.items ≡ changed_at finished place (map row_view rows.old.items) }
     ensures names { map (λ r. r.name) rows.new.items ≡ map (λ r. r.name) rows.old.items }
@@ -166,7 +166,7 @@ fn end_at<T>(rows: &mut Vec<Row<T>>, place: usize)
 
 /// Adds an event to the row at a place.
 #[tactic(auto, using(crate::proofs::Setting::set_map, crate::proofs::Setting::set_same, crate::proofs::Setting::set_get, crate::proofs::Setting::index_get))]
-fn append_at<T: Drop>(rows: &mut Vec<Row<T>>, place: usize, event: Event, current: T)
+fn append_at<O, T: Drop>(rows: &mut Vec<Row<O, T>>, place: usize, event: Event, current: T)
     requires place { place < length rows.old.items }
     requires room { (r : _) → slice_get rows.old.items place ≡ Some r → 0 < r.events.room }
     ensures same { map row_view rows.new.items ≡ changed_at (with_event event current) place (map row_view rows.old.items) }
@@ -176,7 +176,7 @@ fn append_at<T: Drop>(rows: &mut Vec<Row<T>>, place: usize, event: Event, curren
 }
 
 /// Ends the row.
-fn end<T>(row: &mut Row<T>)
+fn end<O, T>(row: &mut Row<O, T>)
     ensures same { row_view row.new ≡ finished (row_view row.old) }
     ensures name { row.new.name ≡ row.old.name }
     ensures room { row.new.events.room ≡ row.old.events.room }
@@ -185,7 +185,7 @@ fn end<T>(row: &mut Row<T>)
 }
 
 /// Adds an event that there is room for.
-fn append<T: Drop>(row: &mut Row<T>, event: Event, current: T)
+fn append<O, T: Drop>(row: &mut Row<O, T>, event: Event, current: T)
     requires { 0 < row.old.events.room }
     ensures same { row_view row.new ≡ with_event event current (row_view row.old) }
     ensures name { row.new.name ≡ row.old.name }
@@ -194,9 +194,9 @@ fn append<T: Drop>(row: &mut Row<T>, event: Event, current: T)
     row.current = current;
 }
 
-impl<T: Drop> Table<T> {
+impl<O: Drop, T: Drop> Table<O, T> {
     /// Adds a row at the end, and answers its number. The room that was made is given up.
-    pub fn add(&mut self, name: Name, original: Arc<T>, current: T) -> Result<u64, Memory>
+    pub fn add(&mut self, name: Name, original: Arc<O>, current: T) -> Result<u64, Memory>
         requires { number_named name self.old.rows ≡ None }
         ensures ok { IfOk result (λ n. n ≡ length self.old.rows + 1) }
         ensures rows { OnOk result (self.new.rows ≡ self.old.rows ++ new_row name (arc_value original) current ∷ []) }

@@ -28,7 +28,7 @@ fn event(amount: i64) -> Event {
 // The number of a new row with that name, or none where one has the name.
 fn added(
     alloc: Global,
-    table: &mut Table<u64>,
+    table: &mut Table<u64, u64>,
     name: Name,
     original: u64,
 ) -> Result<Option<u64>, Memory> {
@@ -40,7 +40,12 @@ fn added(
 }
 
 // Whether there is a row with that name, which takes an event of that amount.
-fn entered(table: &mut Table<u64>, name: Name, amount: i64, current: u64) -> Result<bool, Memory> {
+fn entered(
+    table: &mut Table<u64, u64>,
+    name: Name,
+    amount: i64,
+    current: u64,
+) -> Result<bool, Memory> {
     let Some(number) = table.find(name) else {
         return Ok(false);
     };
@@ -50,7 +55,7 @@ fn entered(table: &mut Table<u64>, name: Name, amount: i64, current: u64) -> Res
 }
 
 // Whether there is a row with that name, which is ended.
-fn ended(table: &mut Table<u64>, name: Name) -> bool {
+fn ended(table: &mut Table<u64, u64>, name: Name) -> bool {
     let Some(number) = table.find(name) else {
         return false;
     };
@@ -59,20 +64,20 @@ fn ended(table: &mut Table<u64>, name: Name) -> bool {
 }
 
 // The first contract, the current one and the number of events of the row with that name, and whether it ended.
-fn row(table: &Table<u64>, name: Name) -> Option<(u64, u64, usize, bool)> {
+fn row(table: &Table<u64, u64>, name: Name) -> Option<(u64, u64, usize, bool)> {
     let row = table.row(table.find(name)?);
     Some((*row.original, row.current, row.events.len(), row.ended))
 }
 
 // The row and the amount of an event of the log.
-fn logged(table: &Table<u64>, place: usize) -> Option<(u64, i64)> {
+fn logged(table: &Table<u64, u64>, place: usize) -> Option<(u64, i64)> {
     let (number, event) = table.log().as_slice().get(place)?;
     Some((*number, event.what.amount))
 }
 
 #[test]
 fn names_are_numbered_as_they_are_added(rt: HostRuntime) -> Result<(), Memory> {
-    let mut table: Table<u64> = Table::new(rt.alloc());
+    let mut table: Table<u64, u64> = Table::new(rt.alloc());
     assert_eq!(rt; added(rt.alloc(), &mut table, SALE, 10)?, Some(1));
     assert_eq!(rt; added(rt.alloc(), &mut table, LEASE, 20)?, Some(2));
     assert_eq!(rt; added(rt.alloc(), &mut table, SALE, 30)?, None);
@@ -82,7 +87,7 @@ fn names_are_numbered_as_they_are_added(rt: HostRuntime) -> Result<(), Memory> {
 
 #[test]
 fn events_stand_in_their_rows_and_in_the_log(rt: HostRuntime) -> Result<(), Memory> {
-    let mut table: Table<u64> = Table::new(rt.alloc());
+    let mut table: Table<u64, u64> = Table::new(rt.alloc());
     added(rt.alloc(), &mut table, SALE, 10)?;
     added(rt.alloc(), &mut table, LEASE, 20)?;
     assert!(rt; entered(&mut table, LEASE, 5, 21)?);
@@ -98,8 +103,8 @@ fn events_stand_in_their_rows_and_in_the_log(rt: HostRuntime) -> Result<(), Memo
 }
 
 // A table with a row that takes so many events, whose amounts count from 1.
-fn filled(alloc: Global, count: i64) -> Result<Table<u64>, Memory> {
-    let mut table: Table<u64> = Table::new(alloc);
+fn filled(alloc: Global, count: i64) -> Result<Table<u64, u64>, Memory> {
+    let mut table: Table<u64, u64> = Table::new(alloc);
     added(alloc, &mut table, SALE, 0)?;
     for amount in 1..=count {
         entered(&mut table, SALE, amount, 0)?;
@@ -108,7 +113,7 @@ fn filled(alloc: Global, count: i64) -> Result<Table<u64>, Memory> {
 }
 
 // The events of the row with that name.
-fn events(table: &Table<u64>, name: Name) -> Result<Option<Events>, Memory> {
+fn events(table: &Table<u64, u64>, name: Name) -> Result<Option<Events>, Memory> {
     match table.find(name) {
         Some(number) => Ok(Some(table.events(number)?)),
         None => Ok(None),

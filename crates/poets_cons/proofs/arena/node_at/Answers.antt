@@ -1,4 +1,3 @@
-use Rattle.std.proofs.Common.{◌≡◌}
 use Rattle.poets_cons.proofs.Adding.{node_contract, node_below}
 use Rattle.poets_cons.proofs.arena.node_at.Goals as goal
 

@@ -1,100 +1,74 @@
-use Rattle.std.specs.Arc.{arc_value}
-use Rattle.std.proofs.Common.{◌≡◌, ℕ, nat_eq, slice_get, Some, refl, inl, inr, rules}
-use Rattle.indexmap.specs.IndexMap.{get}
-use Rattle.poets_expr.specs.Expression.{expression_of}
+use Rattle.std.proofs.Common.{◌≡◌, ◌∙◌, ap, ap₂, sym, subst, refl, inl, inr, None, arith}
+use Rattle.poets_syntax.specs.Contract as C
+use Rattle.poets_cons.specs.Notes.{noted}
 use Rattle.poets_cons.specs.Row as R
-use Rattle.poets_cons.specs.Table.{rows_of, contract_at, Stands, AddsReached}
-use Rattle.poets_cons.proofs.Copied.{copies_stay, copies_noted}
-use Rattle.poets_cons.proofs.Reaching.{both_ok, reached_one, reached_both, reached_parts}
-use Rattle.poets_cons.proofs.Standing.{stands_later}
+use Rattle.poets_cons.specs.Row.{row_of, contract_by, AreBelow}
+use Rattle.poets_cons.specs.Table.{contract_at}
+use Rattle.poets_cons.proofs.Copied.{copy_is_new, known_copied, noted_copied, both_copied, two_parts_copied}
 use Rattle.poets_cons.proofs.copying.+copy.Goals as goal
 
-pub copy_anew-returns-in-Success-clause-copies : goal.copy_anew-returns-in-Success-clause-copies
-copy_anew-returns-in-Success-clause-copies t c =
-    copies_stay c.args.from.now c.args.into.now c.add.new.self c.add.ensures.grows (get nat_eq c.args.copies.now) c.add.result c.requires.copies
+pub copy_both-returns : goal.copy_both-returns
+copy_both-returns t c =
+    both_copied c.args.from.now c.args.into.now.items c.copy_once.new.into.items c.copy_once-2.new.into.items (noted c.args.copies.now)
+    (noted c.copy_once.new.copies) (noted c.copy_once-2.new.copies) c.args.a c.args.b c.in_ok-first.first c.in_ok-second.second
+    c.in_ok-first.ensures c.in_ok-second.ensures
 
-pub copy_anew-returns-in-Failure-clause-copies : goal.copy_anew-returns-in-Failure-clause-copies
-copy_anew-returns-in-Failure-clause-copies t c =
-    copies_stay c.args.from.now c.args.into.now c.add-in-Failure.new.self c.add-in-Failure.ensures.grows (get nat_eq c.args.copies.now) c.add-in-Failure.result
-    c.requires.copies
+pub copy_once-returns-in-Some : goal.copy_once-returns-in-Some
+copy_once-returns-in-Some t c =
+    known_copied c.args.from.now c.args.into.now.items (noted c.args.copies.now) c.args.place c.in-Some.copy c.requires.copies (sym c.in-Some.ensures)
 
-pub copy_anew-returns-in_ok-when-in-Transmit-clause-reached : goal.copy_anew-returns-in_ok-when-in-Transmit-clause-reached
-copy_anew-returns-in_ok-when-in-Transmit-clause-reached t c =
-    let old = c.args.into.now in
-    let mid = c.copy_once.new.into in
-    let new = c.add-in-Transmit.new.self in
-    let a = c.in_ok-then-in-Transmit.then in
-    let r = R.Transmit c.in-Transmit.binders (expression_of (arc_value c.in_ok-when-in-Transmit.when)) a in
-    both_ok (λ p. slice_get (rows_of new) p ≡ Some r) (AddsReached mid new) (AddsReached old new) c.add-in-Transmit.result
-    (reached_one old mid new c.add-in-Transmit.ensures.grows a c.in_ok-then-in-Transmit.ensures.reached r refl)
-    c.add-in-Transmit.ensures.row c.add-in-Transmit.ensures.reached
+pub copy_once-append-requires-clause-new : goal.copy_once-append-requires-clause-new
+copy_once-append-requires-clause-new t c =
+    let parts = c.in_ok-node.ensures in
+    let none : noted c.args.copies.now c.args.place ≡ None = sym c.get.ensures ∙ c.in_default.is in
+    copy_is_new c.args.from.now c.with_copied_parts.new.into.items (noted c.with_copied_parts.new.copies) c.args.place (row_of c.in_ok-node.node)
+    c.requires.table parts.copies c.requires.within (parts.later c.args.place (omega arith) ∙ none) parts.contract
 
-pub copy_anew-returns-in_ok-when-in-Transmit-clause-copies : goal.copy_anew-returns-in_ok-when-in-Transmit-clause-copies
-copy_anew-returns-in_ok-when-in-Transmit-clause-copies t c =
-    copies_stay c.args.from.now c.copy_once.new.into c.add-in-Transmit.new.self c.add-in-Transmit.ensures.grows (get nat_eq c.copy_once.new.copies)
-    c.add-in-Transmit.result c.in_ok-then-in-Transmit.ensures.copies
+pub copy_once-returns : goal.copy_once-returns
+copy_once-returns t c =
+    let none : noted c.args.copies.now c.args.place ≡ None = sym c.get.ensures ∙ c.in_default.is in
+    noted_copied c.args.from.now c.args.into.now.items c.with_copied_parts.new.into.items c.append.new.into.items (noted c.args.copies.now)
+    (noted c.with_copied_parts.new.copies) (noted c.note.new.self) c.args.place c.in_ok-copy.copy (row_of c.in_ok-node.node) c.note.result c.requires.within
+    none c.in_ok-node.ensures c.in_ok-copy.ensures c.note.ensures.row c.note.ensures.notes
 
-pub copy_anew-returns-in_ok-a-in-Plus-clause-reached : goal.copy_anew-returns-in_ok-a-in-Plus-clause-reached
-copy_anew-returns-in_ok-a-in-Plus-clause-reached t c =
-    let mid = c.copy_both.new.into in
-    let new = c.add-in-Plus.new.self in
-    let r = R.Plus c.in_ok-a-in-Plus.a c.in_ok-a-in-Plus.b in
-    both_ok (λ p. slice_get (rows_of new) p ≡ Some r) (AddsReached mid new) (AddsReached c.args.into.now new) c.add-in-Plus.result
-    (reached_parts c.args.into.now mid new c.add-in-Plus.ensures.grows c.in_ok-a-in-Plus.a c.in_ok-a-in-Plus.b c.in_ok-a-in-Plus.ensures.reached r (inl refl) (inr refl))
-    c.add-in-Plus.ensures.row c.add-in-Plus.ensures.reached
+pub with_copied_parts-returns-in_ok-a-in-Plus : goal.with_copied_parts-returns-in_ok-a-in-Plus
+with_copied_parts-returns-in_ok-a-in-Plus t c =
+    let from = c.args.from.now in
+    let x = c.in_ok-a-in-Plus.ensures in
+    let p = c.in_ok-a-in-Plus.a in
+    let q = c.in_ok-a-in-Plus.b in
+    let a = c.in-Plus.a in
+    let b = c.in-Plus.b in
+    let whole : contract_at from c.args.place ≡ C.Plus (contract_at from a) (contract_at from b) =
+    c.node_at.ensures.contract ∙ ap (λ n. contract_by (contract_at from) (row_of n)) c.in-Plus.is in
+    let below : AreBelow c.args.place (R.Plus a b) = subst (λ n. AreBelow c.args.place (row_of n)) c.in-Plus.is c.node_at.ensures.below in
+    two_parts_copied from c.args.into.now.items c.copy_both.new.into.items (noted c.args.copies.now) (noted c.copy_both.new.copies) c.args.place a b p q x
+    below.0 below.1 (R.Plus p q) (inl refl) (inr refl) (λ l m. (l, m)) (ap₂ C.Plus x.first_stands.contract x.second_stands.contract ∙ sym whole)
 
-pub copy_anew-returns-in_ok-a-in-Plus-clause-copies : goal.copy_anew-returns-in_ok-a-in-Plus-clause-copies
-copy_anew-returns-in_ok-a-in-Plus-clause-copies t c =
-    copies_stay c.args.from.now c.copy_both.new.into c.add-in-Plus.new.self c.add-in-Plus.ensures.grows (get nat_eq c.copy_both.new.copies) c.add-in-Plus.result
-    c.in_ok-a-in-Plus.ensures.copies
+pub with_copied_parts-returns-in_ok-a-in-Par : goal.with_copied_parts-returns-in_ok-a-in-Par
+with_copied_parts-returns-in_ok-a-in-Par t c =
+    let from = c.args.from.now in
+    let x = c.in_ok-a-in-Par.ensures in
+    let p = c.in_ok-a-in-Par.a in
+    let q = c.in_ok-a-in-Par.b in
+    let a = c.in-Par.a in
+    let b = c.in-Par.b in
+    let whole : contract_at from c.args.place ≡ C.Par (contract_at from a) (contract_at from b) =
+    c.node_at.ensures.contract ∙ ap (λ n. contract_by (contract_at from) (row_of n)) c.in-Par.is in
+    let below : AreBelow c.args.place (R.Par a b) = subst (λ n. AreBelow c.args.place (row_of n)) c.in-Par.is c.node_at.ensures.below in
+    two_parts_copied from c.args.into.now.items c.copy_both-in-Par.new.into.items (noted c.args.copies.now) (noted c.copy_both-in-Par.new.copies) c.args.place a b p q x
+    below.0 below.1 (R.Par p q) (inl refl) (inr refl) (λ l m. (l, m)) (ap₂ C.Par x.first_stands.contract x.second_stands.contract ∙ sym whole)
 
-pub copy_anew-returns-in_ok-a-in-Par-clause-reached : goal.copy_anew-returns-in_ok-a-in-Par-clause-reached
-copy_anew-returns-in_ok-a-in-Par-clause-reached t c =
-    let mid = c.copy_both-in-Par.new.into in
-    let new = c.add-in-Par.new.self in
-    let r = R.Par c.in_ok-a-in-Par.a c.in_ok-a-in-Par.b in
-    both_ok (λ p. slice_get (rows_of new) p ≡ Some r) (AddsReached mid new) (AddsReached c.args.into.now new) c.add-in-Par.result
-    (reached_parts c.args.into.now mid new c.add-in-Par.ensures.grows c.in_ok-a-in-Par.a c.in_ok-a-in-Par.b c.in_ok-a-in-Par.ensures.reached r (inl refl) (inr refl))
-    c.add-in-Par.ensures.row c.add-in-Par.ensures.reached
-
-pub copy_anew-returns-in_ok-a-in-Par-clause-copies : goal.copy_anew-returns-in_ok-a-in-Par-clause-copies
-copy_anew-returns-in_ok-a-in-Par-clause-copies t c =
-    copies_stay c.args.from.now c.copy_both-in-Par.new.into c.add-in-Par.new.self c.add-in-Par.ensures.grows (get nat_eq c.copy_both-in-Par.new.copies) c.add-in-Par.result
-    c.in_ok-a-in-Par.ensures.copies
-
-pub copy_anew-returns-in_ok-a-in-Seq-clause-reached : goal.copy_anew-returns-in_ok-a-in-Seq-clause-reached
-copy_anew-returns-in_ok-a-in-Seq-clause-reached t c =
-    let mid = c.copy_both-in-Seq.new.into in
-    let new = c.add-in-Seq.new.self in
-    let r = R.Seq c.in_ok-a-in-Seq.a c.in_ok-a-in-Seq.b in
-    both_ok (λ p. slice_get (rows_of new) p ≡ Some r) (AddsReached mid new) (AddsReached c.args.into.now new) c.add-in-Seq.result
-    (reached_parts c.args.into.now mid new c.add-in-Seq.ensures.grows c.in_ok-a-in-Seq.a c.in_ok-a-in-Seq.b c.in_ok-a-in-Seq.ensures.reached r (inl refl) (inr refl))
-    c.add-in-Seq.ensures.row c.add-in-Seq.ensures.reached
-
-pub copy_anew-returns-in_ok-a-in-Seq-clause-copies : goal.copy_anew-returns-in_ok-a-in-Seq-clause-copies
-copy_anew-returns-in_ok-a-in-Seq-clause-copies t c =
-    copies_stay c.args.from.now c.copy_both-in-Seq.new.into c.add-in-Seq.new.self c.add-in-Seq.ensures.grows (get nat_eq c.copy_both-in-Seq.new.copies) c.add-in-Seq.result
-    c.in_ok-a-in-Seq.ensures.copies
-
-pub copy_anew-returns-in_ok-args-in-App-clause-copies : goal.copy_anew-returns-in_ok-args-in-App-clause-copies
-copy_anew-returns-in_ok-args-in-App-clause-copies t c =
-    copies_stay c.args.from.now c.args.into.now c.add-in-App.new.self c.add-in-App.ensures.grows (get nat_eq c.args.copies.now) c.add-in-App.result c.requires.copies
-
-pub copy_both-returns-clause-first : goal.copy_both-returns-clause-first
-copy_both-returns-clause-first t c =
-    stands_later c.copy_once.new.into c.copy_once-2.new.into c.copy_once-2.ensures.grows c.in_ok-first.first (contract_at c.args.from.now c.args.a) c.in_ok-first.ensures.stands
-
-pub copy_both-returns-clause-reached : goal.copy_both-returns-clause-reached
-copy_both-returns-clause-reached t c =
-    reached_both c.args.into.now c.copy_once.new.into c.copy_once-2.new.into c.copy_once-2.ensures.grows c.in_ok-first.first c.in_ok-second.second
-    c.in_ok-first.ensures.reached c.in_ok-second.ensures.reached
-
-pub copy_once-returns-in-Some-clause-stands : goal.copy_once-returns-in-Some-clause-stands
-copy_once-returns-in-Some-clause-stands t c =
-    let noted : get nat_eq c.args.copies.now c.args.place ≡ Some c.in-Some.copy.now = search rules in
-    c.requires.copies c.args.place c.in-Some.copy.now noted
-
-pub copy_once-returns-clause-copies : goal.copy_once-returns-clause-copies
-copy_once-returns-clause-copies t c =
-    copies_noted c.args.from.now c.copy_anew.new.into (get nat_eq c.copy_anew.new.copies) (get nat_eq c.note.new.copies) c.args.place c.in_ok-copy.copy c.note.result
-    c.in_ok-copy.ensures.copies c.in_ok-copy.ensures.stands c.note.ensures.notes
+pub with_copied_parts-returns-in_ok-a-in-Seq : goal.with_copied_parts-returns-in_ok-a-in-Seq
+with_copied_parts-returns-in_ok-a-in-Seq t c =
+    let from = c.args.from.now in
+    let x = c.in_ok-a-in-Seq.ensures in
+    let p = c.in_ok-a-in-Seq.a in
+    let q = c.in_ok-a-in-Seq.b in
+    let a = c.in-Seq.a in
+    let b = c.in-Seq.b in
+    let whole : contract_at from c.args.place ≡ C.Seq (contract_at from a) (contract_at from b) =
+    c.node_at.ensures.contract ∙ ap (λ n. contract_by (contract_at from) (row_of n)) c.in-Seq.is in
+    let below : AreBelow c.args.place (R.Seq a b) = subst (λ n. AreBelow c.args.place (row_of n)) c.in-Seq.is c.node_at.ensures.below in
+    two_parts_copied from c.args.into.now.items c.copy_both-in-Seq.new.into.items (noted c.args.copies.now) (noted c.copy_both-in-Seq.new.copies) c.args.place a b p q x
+    below.0 below.1 (R.Seq p q) (inl refl) (inr refl) (λ l m. (l, m)) (ap₂ C.Seq x.first_stands.contract x.second_stands.contract ∙ sym whole)

@@ -1,14 +1,13 @@
-use Rattle.std.proofs.Common.{◌≡◌, ap, length}
+use Rattle.std.proofs.Common.{◌≡◌, ◌∙◌, ap}
+use Rattle.std.proofs.lemmas.Result.{IfOk-weaker}
 use Rattle.poets_syntax.specs.Contract.{contract_of}
-use Rattle.poets_cons.proofs.Rooting.{rooted, root_stands}
+use Rattle.poets_cons.specs.Table.{contract_at, contract_of_rows}
 use Rattle.poets_cons.proofs.rows.of_term.Goals as goal
-
-pub invariant_of-result : goal.invariant_of-result
-invariant_of-result c =
-    rooted c.new-arena.result c.enter.new.arena (ap length c.new-arena.ensures) c.len-table.ensures.table c.in_ok-_root._root (contract_of c.args.term.now)
-    c.in_ok-_root.ensures.stands c.in_ok-_root.ensures.reached
 
 pub returns : goal.returns
 returns c =
-    root_stands c.new-arena.result c.enter.new.arena (ap length c.new-arena.ensures) c.len-table.ensures.table c.in_ok-_root._root (contract_of c.args.term.now)
-    c.in_ok-_root.ensures.stands c.in_ok-_root.ensures.reached
+    let root = c.in_ok-root.root in
+    let same : contract_at c.nodes.result.now root ≡ contract_of c.args.term.now =
+    ap (λ nodes. contract_at nodes root) c.nodes.ensures.nodes ∙ c.in_ok-root.ensures.stands.contract in
+    IfOk-weaker c.rows_at.result (λ r. contract_of_rows r ≡ contract_at c.nodes.result.now root) (λ r. contract_of_rows r ≡ contract_of c.args.term.now)
+    (λ r e. e ∙ same) c.rows_at.ensures

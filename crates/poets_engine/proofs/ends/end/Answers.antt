@@ -7,12 +7,12 @@ pub returns-then-row : goal.returns-then-row
 returns-then-row c =
     end_over c.args.rules.now c.args.name c.args.store.now c.in-Some.number (row_view c.row-row.result.now) (sym c.in-Some.ensures) c.row-row.ensures c.if-row.true
 
-pub returns-then-not-may_end : goal.returns-then-not-may_end
-returns-then-not-may_end c =
+pub returns-then-not-may_end_rows : goal.returns-then-not-may_end_rows
+returns-then-not-may_end_rows c =
     end_owes c.args.rules.now c.args.name c.args.store.now c.in-Some.number (row_view c.row-row.result.now) (sym c.in-Some.ensures) c.row-row.ensures
-    c.if-row.false c.may_end.result c.may_end.ensures c.if-not-may_end.true
+    c.if-row.false c.may_end_rows.result c.may_end_rows.ensures c.if-not-may_end_rows.true
 
 pub returns : goal.returns
 returns c =
     end_now c.args.rules.now c.args.name c.args.store.now c.in-Some.number (row_view c.row-row.result.now) (sym c.in-Some.ensures) c.row-row.ensures
-    c.if-row.false c.may_end.result c.may_end.ensures c.finish.new.self c.finish.ensures.rows c.finish.ensures.log c.finish.ensures.watches c.if-not-may_end.false
+    c.if-row.false c.may_end_rows.result c.may_end_rows.ensures c.finish.new.self c.finish.ensures.rows c.finish.ensures.log c.finish.ensures.watches c.if-not-may_end_rows.false

@@ -4,6 +4,7 @@ use Rattle.poets_syntax.specs.Applied.{CountsFit}
 use Rattle.poets_syntax.specs.Contract.{contract_of}
 use Rattle.poets_syntax.specs.Studied.{marks_of}
 use Rattle.poets_syntax.specs.Normal.{normal}
+use Rattle.poets_cons.specs.Table.{contract_of_rows}
 use Rattle.poets_norm.proofs.Counts.{CountsFit-normal}
 use Rattle.poets_call.specs.Calls.{response_of}
 use Rattle.poets_call.specs.Rules.{book_of, reports_of}
@@ -24,7 +25,7 @@ returns-in-Refused-clause-ok g c =
     let rules = c.args.rules.now in
     let form = c.in_ok-current.ensures.normal ∙ ap (λ t. normal (book_of rules) (marks_of rules.studied) (contract_of t)) c.deref.ensures in
     register_refused c.args.rules.now c.args.name (contract_of (arc_value c.args.term.now)) c.args.store.now c.requires
-    (sym c.in_default.ensures) (contract_of c.in_ok-current.current) (response_of c.in-Refused.reply) form c.in-Refused.ensures.choice
+    (sym c.in_default.ensures) (contract_of_rows c.in_ok-current.current) (response_of c.in-Refused.reply) form c.in-Refused.ensures.choice
 
 pub returns-in_ok-number-in-Kept-clause-ok : goal.returns-in_ok-number-in-Kept-clause-ok
 returns-in_ok-number-in-Kept-clause-ok g c =
@@ -32,5 +33,5 @@ returns-in_ok-number-in-Kept-clause-ok g c =
     let form = c.in_ok-current.ensures.normal ∙ ap (λ t. normal (book_of rules) (marks_of rules.studied) (contract_of t)) c.deref.ensures in
     register_kept c.args.rules.now c.args.name (contract_of (arc_value c.args.term.now)) c.args.store.now c.requires
     (sym c.in_default.ensures) (arc_value c.in_ok-original-in-Kept.original) c.in-Kept.current (ap contract_of c.in_ok-original-in-Kept.ensures) c.add.new.self
-    c.in_ok-number-in-Kept.ensures.ok (contract_of c.in_ok-current.current) c.in_ok-number-in-Kept.number
+    c.in_ok-number-in-Kept.ensures.ok (contract_of_rows c.in_ok-current.current) c.in_ok-number-in-Kept.number
     form c.in-Kept.ensures.choice c.in_ok-number-in-Kept.ensures.number

@@ -1,8 +1,8 @@
 use Rattle.std.proofs.Common.{sym, subst, length}
 use Rattle.poets_syntax.specs.Applied.{CountsFit}
 use Rattle.poets_syntax.specs.Book.{definitions_of}
-use Rattle.poets_syntax.specs.Contract.{contract_of}
 use Rattle.poets_syntax.specs.Studied.{marks_of}
+use Rattle.poets_cons.specs.Table.{contract_of_rows}
 use Rattle.poets_residue.proofs.Kept.{CountsFit-after_at}
 use Rattle.poets_residue.proofs.Studies.{IsStudied-book}
 use Rattle.poets_engine.proofs.transmission.decide.Goals as goal
@@ -12,4 +12,4 @@ judge-requires g c =
     let book = definitions_of c.args.studied.now.book in
     subst (CountsFit book) (sym c.in_ok-next.ensures.residual)
     (CountsFit-after_at book (marks_of c.args.studied.now) (IsStudied-book book c.args.studied.now.marks c.book-book.ensures.studied).fit c.args.event.now
-    (length book.templates) (contract_of c.args.row.now.current) c.requires)
+    (length book.templates) (contract_of_rows c.args.row.now.current) c.requires)

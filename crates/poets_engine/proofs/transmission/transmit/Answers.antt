@@ -1,4 +1,4 @@
-use Rattle.std.proofs.Common.{◌+◌, length, sym, ◌∙◌, ap, subst}
+use Rattle.std.proofs.Common.{◌+◌, sym, ◌∙◌, ap, subst}
 use Rattle.poets_expr.specs.Env.{declared_of}
 use Rattle.poets_table.specs.TableView.{row_view}
 use Rattle.poets_call.specs.Calls.{Request, Response, response_of}
@@ -20,8 +20,8 @@ returns-in_ok-record-in-Kept-clause-ok g c =
     let old = c.args.store.now in
     let e = c.args.event.now in
     let n = c.in-Some.number in
-    subst (λ n. Makes rules (Request.Transmit c.args.name e) old c.record.new.self (Response.Recorded (n + 1) c.may_end-may_end.result)) (sym c.len.ensures.count)
+    subst (λ n. Makes rules (Request.Transmit c.args.name e) old c.record.new.self (Response.Recorded (n + 1) c.may_end_rows-may_end.result)) (sym c.len.ensures.count)
     (transmit_kept rules c.args.name e old c.requires.taken n (row_view c.row-row.result.now) (sym c.in-Some.ensures) c.row-row.ensures
-    c.in-Kept.next c.may_end-may_end.result c.may_end-may_end.ensures c.record.new.self
+    c.in-Kept.next c.may_end_rows-may_end.result c.may_end_rows-may_end.ensures c.record.new.self
     (subst (λ book. RecordsEvent (declared_of book.decls.names) n e c.in-Kept.next old c.record.new.self) c.book.ensures.book c.in_ok-record-in-Kept.ensures.ok)
     (sym (ap choice_of c.in-Kept.is) ∙ c.in_ok-reply.ensures.choice))

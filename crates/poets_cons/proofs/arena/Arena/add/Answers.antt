@@ -1,7 +1,7 @@
-use Rattle.std.proofs.Common.{◌≡◌, ◌∙◌, subst, sym, ap, length, map}
+use Rattle.std.proofs.Common.{◌≡◌, ◌∙◌, ap}
 use Rattle.indexmap.specs.IndexSet.{insert_key}
 use Rattle.poets_cons.specs.Row.{row_of}
-use Rattle.poets_cons.specs.Table.{rows_of, contract_at, IsTable, Stands, Extends}
+use Rattle.poets_cons.specs.Table.{rows_of, IsTable}
 use Rattle.poets_cons.proofs.Adding.{same_node, inserted_row, added_grows, added_table, added_reached, row_found}
 use Rattle.poets_cons.proofs.Standing.{stands_by}
 use Rattle.poets_cons.proofs.arena.Arena.add.Goals as goal

@@ -1,5 +1,3 @@
-use Rattle.std.proofs.Common.{subst, sym, [], slice_get, Some, ◌≡◌}
-use Rattle.poets_cons.specs.Table.{IsTable}
 use Rattle.poets_cons.proofs.Adding.{table-none}
 use Rattle.poets_cons.proofs.arena.Arena.new.Goals as goal
 

@@ -1,5 +1,4 @@
 use Rattle.std.proofs.Common.{rules, ◌≡◌, slice_get, Some}
-use Rattle.poets_cons.specs.Table.{IsTable}
 use Rattle.poets_cons.proofs.Adding.{node_contract, node_below}
 use Rattle.poets_cons.proofs.arena.Arena.node.Goals as goal
 
