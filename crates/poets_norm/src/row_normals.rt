@@ -35,7 +35,7 @@ pub fn normal_rows<L>(
     let mut arena = Arena::new(alloc);
     let copied = copy(alloc, term)?;
     let root = enter_normal(alloc, studied, &mut arena, copied, asks)?;
-    rows_at(alloc, &arena, root)
+    rows_at(alloc, arena.nodes(), root)
 }
 
 /// The number of the row of the normal form of a contract, which is entered in the table. Equal

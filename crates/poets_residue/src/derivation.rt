@@ -224,5 +224,5 @@ pub fn residual_rows<L>(
     let start = rows.root();
     let mut memo = Notes::new(alloc);
     let place = derive(alloc, studied, event, &mut arena, &mut memo, start, asks)?;
-    rows_at(alloc, &arena, place)
+    rows_at(alloc, arena.nodes(), place)
 }

@@ -48,7 +48,7 @@ returns-clause-residual g c =
     let book = definitions_of c.args.studied.now.book in
     let marks = marks_of c.args.studied.now in
     let here = same_contract_at c.args.rows.now c.in_ok-arena.arena c.in_ok-arena.ensures c.root-start.result ∙ c.root-start.ensures.contract in
-    rw (c.in_ok-place.ensures.derived.stands.contract ∙ ap (after book marks c.args.event.now) here) at c.rows_at.ensures
+    rw (c.nodes.ensures.nodes, c.in_ok-place.ensures.derived.stands.contract ∙ ap (after book marks c.args.event.now) here) at c.rows_at.ensures
 
 pub returns-clause-asks : goal.returns-clause-asks
 returns-clause-asks g c =
