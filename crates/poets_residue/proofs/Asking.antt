@@ -32,7 +32,7 @@ use Rattle.poets_residue.proofs.Equations.{after-some}
 use Rattle.poets_residue.proofs.Widths.{body-smaller, asks-unfolding, asks-unfolded}
 use Rattle.poets_residue.proofs.Derived.{same_derived}
 use Rattle.poets_residue.proofs.Ready.{ReadyIn, ready-transmit, app_ready_itself, app_ready_body, app_not_in_body}
-use Rattle.poets_residue.proofs.Spending.{always, failed, none_spent, one_spent, part_failed, part_spent, same_spent, two_spent, body_spent, noted_later, new_contract}
+use Rattle.poets_residue.proofs.Spending.{always, none_spent, one_spent, part_failed, part_spent, same_spent, two_spent, body_spent, noted_later, new_contract}
 
 -- the contract of a row whose node is known
 pub row_is : (nodes : List Node) (place : ℕ) {n m : Node} → contract_at nodes place ≡ contract_by (contract_at nodes) (row_of n) → n ≡ m →

@@ -1,27 +1,21 @@
 -- Residuals of rows, from those of their parts, and what they asked.
-use Rattle.std.proofs.Common.{◌≡◌, ℕ, ◌+◌, ◌*◌, ◌<◌, ◌≤◌, true, false, nat_eq, cond, arith, List, length, map, Option, Some, refl, sym, ◌∙◌, ap, subst, Result, Ok, Err, IfOk}
-use Rattle.std.specs.Prelude.{sum_by}
-use Rattle.poets_value.specs.declared.value.Name.{Name}
+use Rattle.std.proofs.Common.{◌≡◌, ℕ, ◌+◌, ◌<◌, ◌≤◌, true, false, nat_eq, cond, arith, List, length, Option, Some, refl, sym, ◌∙◌, ap, subst, Result, IfOk}
 use Rattle.poets_value.specs.declared.event.Event.{Event}
-use Rattle.poets_expr.specs.Expression.{Expression}
-use Rattle.poets_syntax.specs.declared.term.Binders.{Binders}
-use Rattle.poets_syntax.specs.Contract.{Contract, Success, Failure, Transmit, Plus, Par, Seq, App}
-use Rattle.poets_syntax.specs.Book.{Definitions, Definition, template_in}
+use Rattle.poets_syntax.specs.Contract.{Contract, Failure, Plus, Par, Seq}
+use Rattle.poets_syntax.specs.Book.{Definitions}
 use Rattle.poets_syntax.specs.Applied.{CountsFit}
 use Rattle.poets_syntax.specs.Marks.{Marks, nullable}
 use Rattle.poets_syntax.specs.Normal.{plus, par, seq}
-use Rattle.poets_syntax.specs.Residual.{after, body_of}
-use Rattle.poets_syntax.specs.Width.{size, width}
-use Rattle.poets_norm.specs.Questions.{questions, operated}
+use Rattle.poets_syntax.specs.Residual.{after}
+use Rattle.poets_syntax.specs.Width.{width}
 use Rattle.poets_cons.specs.declared.node.Node.{Node}
 use Rattle.poets_cons.specs.Table.{contract_at, Stands, Extends}
 use Rattle.poets_cons.proofs.Reaching.{both_ok, one_ok}
-use Rattle.poets_cons.proofs.Standing.{contract_at-later, length-extends, stands_later}
+use Rattle.poets_cons.proofs.Standing.{contract_at-later, length-extends}
 use Rattle.poets_residue.specs.Notes.{AreNotes, IsDerived, AsksInWidth}
-use Rattle.poets_residue.specs.Unfolding.{IsStudied}
 use Rattle.poets_residue.proofs.Kept.{after_at-failure}
 use Rattle.poets_residue.proofs.Noted.{notes_later, noted_stands, noted_notes, known_stands, plus_stands, par_stands, seq_stands, over_stands}
-use Rattle.poets_residue.proofs.Widths.{width-plus, width-par, width-seq, width-first, size-width, asks-unfolding, asks-unfolded}
+use Rattle.poets_residue.proofs.Widths.{width-plus, width-par, width-seq, width-first, size-width}
 
 -- the second of two parts, once rows were added
 module _ (book : Definitions) (marks : Marks) (old new : List Node) (x : Extends old new) (b : ℕ) (l : b < length old) where
@@ -119,10 +113,6 @@ module _ (book : Definitions) (marks : Marks) where
   pub none_asked : (c : Contract) (x : ℕ) → AsksInWidth book marks c x x
   none_asked c x = omega (arith, size-width book marks c)
 
-  -- no more than what the contract asks
-  pub few_asked : (c : Contract) (x y : ℕ) → y ≤ x + questions c → AsksInWidth book marks c x y
-  few_asked c x y h = omega (arith, h, size-width book marks c)
-
   module _ (a b : Contract) (x y : ℕ) (first : AsksInWidth book marks a x y) where
     pub plus_first : AsksInWidth book marks (Plus a b) x y
     plus_first = omega (arith, first, width-plus book marks a b, size-width book marks b)
@@ -145,10 +135,7 @@ module _ (book : Definitions) (marks : Marks) where
           let whole = rw h at (width-seq book marks a b) in
           omega (arith, first, second, whole)
 
-  -- each part is less wide than the whole
-  pub first_narrower : (a b : Contract) → width book marks a < width book marks (Seq a b)
-  first_narrower a b = omega (arith, width-first book marks a b)
-
+  -- the second part is less wide than the whole
   pub second_narrower : (a b : Contract) → nullable marks a ≡ true → width book marks b < width book marks (Seq a b)
   second_narrower a b h =
       let whole = rw h at (width-seq book marks a b) in

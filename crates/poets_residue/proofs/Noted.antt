@@ -1,5 +1,5 @@
 -- Rows that were derived, while the table grows.
-use Rattle.std.proofs.Common.{◌≡◌, ℕ, ◌<◌, ◌≤◌, Bool, true, false, nat_eq, cond, arith, List, length, Option, Some, refl, sym, ◌∙◌, ap, ap₂, subst, inl, inr, Result, IfOk}
+use Rattle.std.proofs.Common.{◌≡◌, ℕ, ◌<◌, true, false, nat_eq, cond, arith, List, length, Option, Some, refl, sym, ◌∙◌, ap, ap₂, subst, inl, inr, Result, IfOk}
 use borrow.Author.Tests.{eqb-true}
 use Rattle.poets_value.specs.declared.event.Event.{Event}
 use Rattle.poets_syntax.specs.Contract.{Contract, Plus, Par, Seq}

@@ -1,13 +1,12 @@
 -- What derivations ask, by the contracts that they begin.
-use Rattle.std.proofs.Common.{◌≡◌, ℕ, ◌+◌, ◌≤◌, ◌<◌, Bool, true, false, nat_eq, cond, arith, List, [], ◌∷◌, ◌++◌, length, refl, sym, ◌∙◌, ap, subst, Option, Some, None, inl, inr, ◌⊎◌, Result, Ok, Err, IfOk, IsErr}
-use Rattle.std.specs.Prelude.{sum_by}
+use Rattle.std.proofs.Common.{◌≡◌, ℕ, ◌+◌, ◌≤◌, ◌<◌, nat_eq, cond, arith, List, [], ◌∷◌, ◌++◌, length, refl, sym, ◌∙◌, ap, subst, Option, Some, None, inl, inr, ◌⊎◌, Result, Ok, Err, IfOk, IsErr}
 use Rattle.std.specs.List.{IsDistinct}
 use Rattle.poets_value.proofs.DistinctSums.{sum_by-le_unique_keys}
 use Rattle.poets_cons.specs.SameRows.{contract_laws}
 use Rattle.poets_syntax.proofs.SameContracts.{contract_one}
 use Rattle.std.proofs.lemmas.List.Sums.{sum_by-cons, sum_by-append}
-use borrow.Author.Tests.{eqb-true, eq-eqb}
-use Rattle.poets_syntax.specs.Contract.{Contract, Transmit, App}
+use borrow.Author.Tests.{eq-eqb}
+use Rattle.poets_syntax.specs.Contract.{Contract}
 use Rattle.poets_syntax.specs.Same.{same_contract}
 use Rattle.poets_syntax.specs.Book.{Definitions}
 use Rattle.poets_syntax.specs.Marks.{Marks}
@@ -21,7 +20,7 @@ use Rattle.poets_cons.proofs.Reaching.{one_ok}
 use Rattle.poets_cons.proofs.Standing.{contract_at-later}
 use Rattle.poets_residue.specs.Once.{ready, asked_of, once}
 use Rattle.poets_residue.specs.Spent.{IsAmong, IsNoted, IsNotedBut, IsSpent}
-use Rattle.poets_residue.proofs.Ready.{among_one, among_two, among_here, distinct_more, distinct_both, ReadyIn}
+use Rattle.poets_residue.proofs.Ready.{among_one, among_two, distinct_more, distinct_both, ReadyIn}
 
 -- what holds in any case
 pub always : {E : Type 0} {P : Type 0} (r : Result ℕ E) → P → IfOk r (λ _. P)

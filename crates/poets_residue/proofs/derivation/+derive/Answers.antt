@@ -1,17 +1,13 @@
-use Rattle.std.proofs.Common.{rules, ◌≡◌, ◌∙◌, ◌+◌, ◌*◌, ◌<◌, ◌≤◌, ℕ, arith, ap, sym, subst, refl, List, map, length, nat_eq, cond, Some, Ok}
+use Rattle.std.proofs.Common.{rules, ◌≡◌, ◌∙◌, ◌+◌, ◌*◌, ◌<◌, ℕ, arith, ap, sym, subst, map, length, nat_eq, cond, Some, Ok}
 use Rattle.std.specs.Arc.{arc_value}
-use Rattle.poets_expr.specs.declared.expr.Expr.{Expr}
 use Rattle.poets_expr.specs.Expression.{expression_of}
 use Rattle.poets_syntax.specs.Applied.{CountsFit}
 use Rattle.poets_syntax.specs.Book.{definition_of, definitions_of}
-use Rattle.poets_syntax.specs.Contract.{Contract, Success, Failure, Transmit, Plus, Par, Seq, App}
+use Rattle.poets_syntax.specs.Contract.{Contract, Failure, Transmit, Plus, Par, Seq}
 use Rattle.poets_syntax.specs.Residual.{after}
 use Rattle.poets_syntax.specs.Studied.{marks_of}
 use Rattle.poets_syntax.specs.Width.{width}
-use Rattle.poets_cons.specs.declared.node.Node.{Node}
-use Rattle.poets_cons.specs.declared.node.Node.TheVariants as N
 use Rattle.poets_cons.specs.Notes.{noted}
-use Rattle.poets_cons.specs.Row.{row_of, contract_by}
 use Rattle.poets_cons.specs.Table.{contract_at}
 use Rattle.poets_cons.proofs.Reaching.{one_ok}
 use Rattle.poets_cons.proofs.Standing.{extends_not, extends_twice}

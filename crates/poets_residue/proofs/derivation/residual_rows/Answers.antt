@@ -1,4 +1,4 @@
-use Rattle.std.proofs.Common.{◌≡◌, ◌∙◌, ◌<◌, ◌≤◌, ◌+◌, ℕ, List, [], arith, ap, sym, subst, length}
+use Rattle.std.proofs.Common.{◌≡◌, ◌∙◌, ℕ, List, [], arith, ap, sym, subst, length}
 use Rattle.std.proofs.lemmas.List.{length-map}
 use Rattle.poets_syntax.specs.Applied.{CountsFit}
 use Rattle.poets_syntax.specs.Book.{definitions_of}
@@ -9,7 +9,7 @@ use Rattle.poets_norm.proofs.Asked.{questions-le}
 use Rattle.poets_cons.specs.declared.node.Node.{Node}
 use Rattle.poets_cons.specs.Notes.{noted}
 use Rattle.poets_cons.specs.Row.{row_of}
-use Rattle.poets_cons.specs.Table.{nth, grown, rows_of, contract_at, contract_of_rows}
+use Rattle.poets_cons.specs.Table.{nth, grown, rows_of, contract_at}
 use Rattle.poets_residue.specs.Once.{once}
 use Rattle.poets_residue.specs.Spent.{IsNoted}
 use Rattle.poets_residue.proofs.Spending.{spent_once}

@@ -1,4 +1,4 @@
-use Rattle.std.proofs.Common.{◌≡◌, ◌∙◌, ap, sym, arith}
+use Rattle.std.proofs.Common.{◌≡◌, ◌∙◌, ap, arith}
 use Rattle.poets_syntax.specs.Book.{definitions_of, template_in}
 use Rattle.poets_syntax.specs.Studied.{marks_of}
 use Rattle.poets_syntax.specs.Width.{body_in, wide_by, width}

@@ -1,4 +1,4 @@
-use Rattle.std.proofs.Common.{◌≡◌, ◌∙◌, ℕ, length, sym, ap, refl}
+use Rattle.std.proofs.Common.{◌≡◌, ◌∙◌, ℕ, length, ap, refl}
 use Rattle.poets_syntax.specs.Book.{definitions_of}
 use Rattle.poets_syntax.specs.Contract.{Contract, Seq}
 use Rattle.poets_syntax.specs.Marks.{Marks}
