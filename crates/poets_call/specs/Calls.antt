@@ -56,6 +56,7 @@ request_of (C.Portfolio q args over) = Portfolio q (map expression_of args.items
 request_of (C.Watch q args) = Watch q (map expression_of args.items)
 request_of (C.Read n) = Read n
 
+-- a contract's row of a portfolio as plain data
 abbrev pub folio_row_of : Name × Answer → Name × Finding
 folio_row_of row = (row.0, finding_of row.1)
 
@@ -93,6 +94,7 @@ entry_of e = record {
   response = response_of e.reply;
 }
 
+-- a history as plain data
 abbrev pub history_of : List Entry → List HistoryEntry
 history_of entries = map entry_of entries
 

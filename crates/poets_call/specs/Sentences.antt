@@ -29,5 +29,6 @@ sentence_of S.Journal = Journal
 sentence_of (S.Command c) = Command (request_of c)
 sentence_of (S.Numbered clerk c) = Numbered clerk (request_of c)
 
+-- statements as plain data, without boxes
 abbrev pub sentences_of : List Statement → List Sentence
 sentences_of statements = map sentence_of statements

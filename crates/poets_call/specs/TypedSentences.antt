@@ -15,6 +15,7 @@ use Rattle.poets_call.specs.Replies.{report_in}
 use Rattle.poets_call.specs.Sentences.{Sentence, Template, Report, Command, Numbered}
 use Rattle.poets_call.specs.Declarations.{names_declared, book_of, reports_of}
 
+-- the names of reports
 abbrev pub report_names : List Query → List Name
 report_names reports = map (λ q. q.name) reports
 

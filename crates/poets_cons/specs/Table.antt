@@ -22,6 +22,7 @@ rows_of nodes = map row_of nodes
 abbrev pub contracts_of : List Node → List Contract
 contracts_of nodes = grown [] (rows_of nodes)
 
+-- the contract of the row with a number
 abbrev pub contract_at : List Node → ℕ → Contract
 contract_at nodes i = nth (contracts_of nodes) i
 

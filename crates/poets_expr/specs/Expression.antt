@@ -14,6 +14,7 @@ pub data UnaryOp : Type 0 where
   AmountOf : UnaryOp
   KindOf : UnaryOp
 
+-- the forms of expressions
 pub data Expression : Type 0 where
   Literal : Value → Expression
   Undefined : Ty → Expression

@@ -59,11 +59,14 @@ ClosedNamesAreDeclared = (declared : Declared) (e : Expression) → is_closed de
 abbrev pub ValueIsWhole : Type 0
 ValueIsWhole = (declared : Declared) (env : Env) (e : Expression) → IsWholeEnv env → IsWholeExpression e → IsWholeOption (val declared env e)
 
+-- the literal of a whole value is whole
 abbrev pub LiteralIsWhole : Type 0
 LiteralIsWhole = (o : Option Value) (t : Ty) → IsWholeOption o → IsWholeExpression (literal_of o t)
 
+-- where names are replaced by whole values, a whole expression stays whole
 abbrev pub ReplacedIsWhole : Type 0
 ReplacedIsWhole = (given : Givens) (e : Expression) → AreWholeGivens given → IsWholeExpression e → IsWholeExpression (subst given e)
 
+-- a whole expression is whole once it is folded
 abbrev pub FoldedIsWhole : Type 0
 FoldedIsWhole = (declared : Declared) (e : Expression) (t : Ty) → IsWholeExpression e → IsWholeExpression (fold_closed declared e t)

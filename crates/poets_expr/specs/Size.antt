@@ -2,6 +2,7 @@
 use Rattle.std.specs.Prelude.{ℕ, ◌+◌, List, [], ◌∷◌}
 use Rattle.poets_expr.specs.Expression.{Expression, Literal, Undefined, Named, Unary, Make, Binary, If}
 
+-- the number of nodes of an expression
 abbrev pub nodes : Expression → ℕ
 nodes (Literal v) = 1
 nodes (Undefined t) = 1

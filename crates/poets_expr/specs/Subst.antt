@@ -20,6 +20,7 @@ literal_of (Some (V.Agent x)) t = Named x
 literal_of (Some (V.Kind x)) t = Named x
 literal_of (Some v) t = Literal v
 
+-- the literal that a name is replaced by
 abbrev pub literal : Given → Expression
 literal g = literal_of g.value g.ty
 

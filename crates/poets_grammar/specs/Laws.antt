@@ -15,6 +15,7 @@ use Rattle.poets_grammar.specs.StatementReading.{sentence}
 abbrev pub OneExpression : Type 0
 OneExpression = (ts : List Tok) (a b : Expression) → IsExpression ts a → IsExpression ts b → a ≡ b
 
+-- no tokens are two contracts
 abbrev pub OneContract : Type 0
 OneContract = (ts : List Tok) (a b : Contract) → IsContract ts a → IsContract ts b → a ≡ b
 
@@ -26,8 +27,10 @@ OneSentence = (ts : List Tok) (a b : Sentence) → IsSentence ts a → IsSentenc
 abbrev pub ExpressionRead : Type 0
 ExpressionRead = (ts : List Tok) (e : Expression) → IsExpression ts e ↔ whole_expression ts ≡ Some e
 
+-- the contract that is read is the one that the tokens are
 abbrev pub ContractRead : Type 0
 ContractRead = (ts : List Tok) (c : Contract) → IsContract ts c ↔ whole_contract ts ≡ Some c
 
+-- the statement that is read is the one that the tokens are
 abbrev pub SentenceRead : Type 0
 SentenceRead = (ts : List Tok) (s : Sentence) → IsSentence ts s ↔ sentence ts ≡ Some s

@@ -48,6 +48,7 @@ word_text W.KindType = codes "Kind"
 word_text W.ResourceType = codes "Resource"
 word_text W.DayType = codes "Day"
 
+-- the bytes of a sign
 abbrev pub sign_text : Sign → List ℕ
 sign_text S.DoubleSemicolon = codes ";;"
 sign_text S.Semicolon = codes ";"

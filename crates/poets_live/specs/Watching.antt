@@ -49,6 +49,7 @@ abbrev pub Brought : Declared → Event → WatchView → Change → Type 0
 Brought declared e w c = (events : List Event) (new : Finding) → Follows declared events w → Changes c w.answer new →
     IsAnswer declared (query_of w.report) w.args (events ++ e ∷ []) new
 
+-- each change is what the event brings to its watch
 abbrev pub AllBrought : Declared → Event → List WatchView → List Change → Type 0
 AllBrought declared e watches changes = AllZip (Brought declared e) watches changes
 
@@ -73,6 +74,7 @@ pub record Moved (old : WatchView) (c : Change) (new : WatchView) : Type 0 where
   pub start : new.start ≡ old.start
   pub answer : Changes c old.answer new.answer
 
+-- each watch took its change
 abbrev pub AllMoved : List WatchView → List Change → List WatchView → Type 0
 AllMoved old changes new = AllOfThree Moved old changes new
 

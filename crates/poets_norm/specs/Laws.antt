@@ -37,10 +37,12 @@ NormalTwice = (book : Definitions) (marks : Marks) (c : Contract) → normal boo
 abbrev pub NormalWhole : Type 0
 NormalWhole = (book : Definitions) (marks : Marks) (c : Contract) → IsWholeContract c → IsWholeContract (normal book marks c)
 
+-- the normal form of a well-formed contract is well-formed
 abbrev pub NormalWellFormed : Type 0
 NormalWellFormed = (book : Definitions) (marks : Marks) (c : Contract) → IsWellFormed book.declared c →
     IsWellFormed book.declared (normal book marks c)
 
+-- where the numbers of arguments fit in a contract, they fit in its normal form
 abbrev pub NormalCountsFit : Type 0
 NormalCountsFit = (book : Definitions) (marks : Marks) (c : Contract) → CountsFit book c → CountsFit book (normal book marks c)
 

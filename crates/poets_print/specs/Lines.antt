@@ -20,6 +20,7 @@ abbrev pub event_text : Table → Event → List ℕ
 event_text names e =
     name_text names e.sender ++ codes " " ++ name_text names e.receiver ++ codes " " ++ amount_text names e.what ++ codes " @" ++ day_text e.day
 
+-- the text of a command
 abbrev pub request_text : Table → Request → List ℕ
 request_text names (Request.Register x c) = codes "register " ++ name_text names x ++ codes " = " ++ contract_text names c
 request_text names (Request.Transmit x e) = codes "transmit " ++ name_text names x ++ codes " " ++ event_text names e
@@ -70,6 +71,7 @@ abbrev pub total_text : Table → Option (Option Value) → List ℕ
 total_text names None = []
 total_text names (Some v) = codes ", total " ++ optional_text names v
 
+-- the text of a reply
 abbrev pub response_text : Table → Response → List ℕ
 response_text names (Response.Registered n) = codes "registered " ++ decimal n
 response_text names (Response.NameTaken n) = codes "name taken by " ++ decimal n

@@ -35,6 +35,7 @@ abbrev pub listed : {A : Type 0} → (A → List ℕ) → List A → List ℕ
 listed text_of [] = []
 listed text_of (x ∷ xs) = text_of x ++ behind_commas text_of xs
 
+-- the word of a type
 abbrev pub type_text : Ty → List ℕ
 type_text T.Int = codes "Int"
 type_text T.Bool = codes "Bool"

@@ -65,6 +65,7 @@ abbrev pub HasRoomFor : Change → Finding → List Value → Type 0
 HasRoomFor c (Single v) keys = Unit {0}
 HasRoomFor c (Rows rows) keys = HasRoom c.key keys
 
+-- the answer is of a report without a key
 abbrev pub IsSingle : Finding → Type 0
 IsSingle (Single v) = Unit {0}
 IsSingle (Rows rows) = ⊥

@@ -54,6 +54,7 @@ abbrev pub ResidualWellFormed : Type 0
 ResidualWellFormed = (book : Definitions) (marks : Marks) (e : Event) (c r : Contract) →
     AreWellFormed book → IsDeclaredEvent book.declared e → IsWellFormed book.declared c → After book marks e c r → IsWellFormed book.declared r
 
+-- of a well-formed contract the function gives a well-formed one, with any number of unfoldings
 abbrev pub ResidualAtWellFormed : Type 0
 ResidualAtWellFormed = (d : ℕ) (book : Definitions) (marks : Marks) (e : Event) (c : Contract) →
     AreWellFormed book → IsDeclaredEvent book.declared e → IsWellFormed book.declared c → IsWellFormed book.declared (after_at d book marks e c)

@@ -46,6 +46,7 @@ GrantedByShape = (book : Definitions) (env env' : Env) (c c' : Contract) (n : �
 abbrev pub NullableByShape : Type 0
 NullableByShape = (book : Definitions) (c c' : Contract) → SameShape c c' → Nullable book c ↔ Nullable book c'
 
+-- so does whether some granted steps perform a contract
 abbrev pub HopefulByShape : Type 0
 HopefulByShape = (book : Definitions) (c c' : Contract) → SameShape c c' → Hopeful book c ↔ Hopeful book c'
 

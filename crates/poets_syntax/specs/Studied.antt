@@ -28,6 +28,7 @@ marks_in templates marks = record {
   hopeful = has_mark (λ m. m.hopeful) templates marks;
 }
 
+-- what is known of the templates of a studied book
 abbrev pub marks_of : StudiedBook → Marks
 marks_of s = marks_in (definitions_of s.book).templates s.marks
 

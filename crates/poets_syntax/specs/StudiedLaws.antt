@@ -18,6 +18,7 @@ abbrev pub TypedApplicationsFit : Type 0
 TypedApplicationsFit = (book : Definitions) (reports : List Name) (scope : Scope) (c : Contract) →
     IsTyped book reports scope c → ApplicationsFit book c
 
+-- so have those in the bodies of the templates of a typed book
 abbrev pub TypedBodiesFit : Type 0
 TypedBodiesFit = (book : Definitions) (reports : List Name) → IsTypedBook book reports → BodiesFit book
 

@@ -5,6 +5,7 @@ use Rattle.poets_value.specs.declared.event.Event.{Event}
 use Rattle.poets_value.specs.Listed.{Listed}
 use Rattle.poets_table.specs.declared.table.Row.{Row}
 
+-- the keys are the names of the rows, in their order
 abbrev pub AreNames : {O T : Type 0} → List Name → List (Row O T) → Type 0
 AreNames keys rows = keys ≡ map (λ r. r.name) rows
 

@@ -14,9 +14,11 @@ pub record RowView (O T : Type 0) : Type 0 where
   pub events : List Event
   pub ended : Bool
 
+-- a row of the code as plain data
 abbrev pub row_view : {O T : Type 0} → Row O T → RowView O T
 row_view r = record { name = r.name; original = arc_value r.original; current = r.current; events = r.events.items; ended = r.ended }
 
+-- a table: its rows and its log; `ready` is the number of the row for which room was made, or 0
 pub record TableView (O T : Type 0) : Type 0 where
   pub rows : List (RowView O T)
   pub log : List (ℕ × Event)
@@ -32,9 +34,11 @@ changed_at f place [] = []
 changed_at f zero (x ∷ xs) = f x ∷ xs
 changed_at f (suc place) (x ∷ xs) = x ∷ changed_at f place xs
 
+-- the row with one event more, of which this is then owed
 abbrev pub with_event : {O T : Type 0} → Event → T → RowView O T → RowView O T
 with_event e c r = record { name = r.name; original = r.original; current = c; events = r.events ++ e ∷ []; ended = r.ended }
 
+-- the row, ended
 abbrev pub finished : {O T : Type 0} → RowView O T → RowView O T
 finished r = record { name = r.name; original = r.original; current = r.current; events = r.events; ended = true }
 
@@ -42,5 +46,6 @@ finished r = record { name = r.name; original = r.original; current = r.current;
 abbrev pub number_named : {O T : Type 0} → Name → List (RowView O T) → Option ℕ
 number_named x rows = option_map (λ i. i + 1) (position (λ r. nat_eq x.id r.name.id) rows)
 
+-- a new row, without events
 abbrev pub new_row : {O T : Type 0} → Name → O → T → RowView O T
 new_row x o c = record { name = x; original = o; current = c; events = []; ended = false }

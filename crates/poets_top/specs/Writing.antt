@@ -12,6 +12,7 @@ pub record Stream : Type 0 where
   pub bytes : Option (List ℕ)
   pub faults : ℕ
 
+-- a sink that holds these bytes, where it tells them, and whose count of faults stands here
 abbrev pub stream : Option (List ℕ) → ℕ → Stream
 stream bytes faults = record { bytes = bytes; faults = faults }
 

@@ -1,0 +1,98 @@
+"""The definitions that the contracts of public functions name, from A to Z, with what the sources say of each.
+
+`python3 .ci/index.py` writes the list into docs/DEFINITIONS.md, below its last heading; `.ci/program` compares it.
+"""
+import pathlib
+import re
+
+TOP = pathlib.Path(__file__).resolve().parent.parent
+PAGE = TOP / "docs/DEFINITIONS.md"
+HEADING = "## From A to Z\n"
+WORD = re.compile(r"[^\s(){}\[\];,.\"]+")
+# `pub data Name`, `abbrev pub name`, `pub record Name (..)`: the name
+ITEM = re.compile(r"(?:abbrev |opaque |unfoldable )?pub (?:data |record )?([^\s:({]+)")
+NO_ITEM = re.compile(r"(?:pub )?(?:use|mod) |unfolding")
+IMPORT = re.compile(r"^\s*(?:ghost |pub )*use (Rattle[^;\n]*(?:\n[ \t}][^;\n]*)*)", re.MULTILINE)
+CONTRACT = re.compile(
+    r"^ *pub fn [^{]*?(?=^\s*(?:requires|ensures) |\{)(.*?)(?=^ *\{\s*$|^ *\{\}|;\s*$)", re.MULTILINE | re.DOTALL)
+# what callers see of a type, and what it keeps
+MODEL = re.compile(r"ghost (?:Value|view|invariant) = \{(.*?)\};", re.DOTALL)
+
+
+def comments_of(text):
+    """Each definition of the file with the comment above it."""
+    found, comment, is_open = {}, [], False
+    for line in text.splitlines():
+        item = ITEM.match(line)
+        if line.startswith("--"):
+            comment, is_open = ([] if is_open else comment) + [line[2:].strip()], False
+        elif NO_ITEM.match(line):
+            comment, is_open = [], False
+        elif item:
+            found.setdefault(item[1], " ".join(comment))
+            comment, is_open = [], True
+    return found
+
+
+def imports_of(text):
+    """Under which name each import stands: the module and the name in it."""
+    found = {}
+    for path in IMPORT.findall(text):
+        module, _, names = path.partition("{")
+        if not names:
+            module, _, names = path.rpartition(".")
+        for name in names.rstrip("} \n").split(","):
+            name, _, own = name.strip().partition(" as ")
+            found[own.strip() or name] = (module.strip().rstrip("."), name)
+    return found
+
+
+def definitions():
+    """By the path of a module of definitions: its file, its definitions with their comments, and its imports. Contracts
+    and tokens that are worked out as examples are none."""
+    found = {}
+    for path in sorted(TOP.glob("crates/*/specs/*.antt")):
+        if path.stem == "Examples":
+            continue
+        text = path.read_text()
+        found[f"Rattle.{path.parts[-3]}.specs.{path.stem}"] = (path, comments_of(text), imports_of(text))
+    return found
+
+
+def standing(modules, module, name):
+    """The module in which an imported definition stands, if it is one of these."""
+    if module not in modules:
+        return None
+    _, own, imports = modules[module]
+    return (module, name) if name in own else standing(modules, *imports[name]) if name in imports else None
+
+
+def named(modules):
+    """The definitions that the contracts of public functions and the models of types name."""
+    found = set()
+    for path in sorted(TOP.glob("crates/*/src/**/*.rt")):
+        text = path.read_text()
+        imports = imports_of(text)
+        for contract in CONTRACT.findall(text) + MODEL.findall(text):
+            found.update(standing(modules, *imports[word]) for word in WORD.findall(contract) if word in imports)
+    return found - {None}
+
+
+def index():
+    """A line for each of them."""
+    modules = definitions()
+    lines = []
+    for module, name in named(modules):
+        path, comments, _ = modules[module]
+        lines.append(f"- `{name}` (`{path.parts[-3]}/specs/{path.stem}`): {comments[name]}\n")
+    return "".join(sorted(lines, key=lambda line: (line.lower(), line)))
+
+
+def is_listed():
+    """Whether the page has just these lines at its end."""
+    return PAGE.read_text().partition(HEADING)[2].partition("\n- ")[2] == index().removeprefix("- ")
+
+
+if __name__ == "__main__":
+    text, heading, rest = PAGE.read_text().partition(HEADING)
+    PAGE.write_text(text + heading + rest.partition("\n- ")[0].rstrip("\n") + "\n\n" + index())
