@@ -1,7 +1,7 @@
 -- Where statements begin.
 use Rattle.std.proofs.Common.{◌≡◌, ◌≢◌, ℕ, zero, suc, ◌+◌, ◌-◌, ◌<◌, ◌≤◌, Bool, true, false, List, [], ◌∷◌, Option, None, Some, IfSome, inl, inr, length, drop, get_or, refl, sym, ap, ◌∙◌, arith}
 use Rattle.std.specs.Prelude.{unwrap_or, if◌then◌else◌}
-use Rattle.std.proofs.lemmas.List.{drop_more}
+use Rattle.std.proofs.lemmas.List.{drop_more, drop_all}
 use Rattle.poets_lex.specs.declared.token.Token.{Token}
 use Rattle.poets_lex.specs.declared.fault.LexFault.{LexFault}
 use Rattle.poets_lex.specs.declared.fault.LexFault.TheVariants as L
@@ -28,16 +28,15 @@ going : (n : ℕ) (t : Token) (ts : List Token) → is_end t.what ≡ false → 
 going n t ts e = rw e refl
 
 -- after the last token there is no statement
-pub nothing_after : (n : ℕ) → statement_tokens n [] ≡ []
+nothing_after : (n : ℕ) → statement_tokens n [] ≡ []
 nothing_after zero = refl
 nothing_after (suc n) = nothing_after n
 
 -- one token on in the list, where it ends a statement
-pub ended_at : (n i : ℕ) (l : List Token) (t : Token) → i < length l → t ≡ get_or l i t → n ≢ 0 → is_end t.what ≡ true
-    → statement_tokens (n - 1) (drop (i + 1) l) ≡ statement_tokens n (drop i l)
-ended_at zero i l t h at some e = absurd (some refl)
-ended_at (suc n) i l t h at some e =
-    sym (ap (statement_tokens (suc n)) (drop_more l i t h ∙ ap (λ x. x ∷ drop (i + 1) l) (sym at)) ∙ ended n t (drop (i + 1) l) e)
+pub ended_at : (m n i : ℕ) (l : List Token) (t : Token) → i < length l → t ≡ get_or l i t → suc m ≡ n → is_end t.what ≡ true → statement_tokens m (drop (i + 1) l) ≡ statement_tokens n (drop i l)
+ended_at m n i l t h at next e =
+    let rest : drop i l ≡ t ∷ drop (i + 1) l = drop_more l i t h ∙ ap (λ x. x ∷ drop (i + 1) l) (sym at) in
+    sym (ap (λ k. statement_tokens k (drop i l)) (sym next) ∙ ap (statement_tokens (suc m)) rest ∙ ended m t (drop (i + 1) l) e)
 
 -- and where it does not
 pub going_at : (n i : ℕ) (l : List Token) (t : Token) → i < length l → t ≡ get_or l i t → n ≢ 0 → is_end t.what ≡ false
@@ -46,9 +45,9 @@ going_at zero i l t h at some e = absurd (some refl)
 going_at (suc n) i l t h at some e =
     sym (ap (statement_tokens (suc n)) (drop_more l i t h ∙ ap (λ x. x ∷ drop (i + 1) l) (sym at)) ∙ going n t (drop (i + 1) l) e)
 
--- where the tokens from a place on begin
-pub first_at : (i : ℕ) (l : List Token) (t : Token) → i < length l → t ≡ get_or l i t → first_place (drop i l) ≡ Some t.from
-first_at i l t h at = ap first_place (drop_more l i t h ∙ ap (λ x. x ∷ drop (i + 1) l) (sym at))
+-- past the last token no statement begins
+pub none_after : (n i : ℕ) (l : List Token) → length l ≤ i → first_place (statement_tokens n (drop i l)) ≡ None
+none_after n i l h = rw (drop_all i l h, nothing_after n) refl
 
 -- ---- within the text
 
@@ -74,7 +73,7 @@ begin_inside text number place b = by (first_place (statement_tokens (number - 1
     by (Some p) h e = omega (arith, h, e)
 
 -- the byte that a refusal tells
-byte_in : Refusal → Option ℕ
+abbrev byte_in : Refusal → Option ℕ
 byte_in (BadByte at) = Some at
 byte_in (LongNumber at) = Some at
 byte_in (LongName at) = Some at

@@ -1,5 +1,5 @@
 -- Lines and columns of a text.
-use Rattle.std.specs.Prelude.{◌≡◌, ℕ, ◌+◌, ◌-◌, ◌<◌, ◌≤◌, ◌⊎◌, List, length, take, count_by}
+use Rattle.std.specs.Prelude.{◌≡◌, ℕ, ◌+◌, ◌-◌, ◌≤◌, ◌⊎◌, List, length, take, count_by}
 use Rattle.memchr.specs.Find.{Passes, Nowhere, is_byte}
 use Rattle.poets_mark.specs.declared.spots.Spot.{Spot}
 

@@ -39,7 +39,8 @@ fn begin_of(alloc: Global, text: &[u8], number: u64) -> Result<usize, Memory>
     requires { length text.now ≤ 16_777_216 }
     ensures { IfOk result (IsBeginOf text.now number) }
 {
-    let Ok(tokens) = tokens(alloc, text, &mut Names::new(alloc)) else {
+    let mut names = Names::new(alloc);
+    let Ok(tokens) = tokens(alloc, text, &mut names) else {
         return Err(Memory);
     };
     Ok(first_of(tokens.as_slice(), number).unwrap_or(text.len()))
