@@ -16,7 +16,9 @@ MEMORY = b"poets: out of memory\n"
 UNREAD = b"poets: standard input cannot be read\n"
 UNWRITTEN = b"poets: standard output cannot be written\n"
 USAGE = b"usage: poets check | run | replay | demo N\n"
-TOLD = {0: b"", 1: b"", 2: USAGE, 3: MEMORY, 4: UNREAD, 5: UNWRITTEN, 6: b""}
+TOLD = {0: b"", 2: USAGE, 3: MEMORY, 4: UNREAD, 5: UNWRITTEN, 6: b""}
+# Where a text is refused, with status 1; nothing where memory for that wants.
+PLACE = re.compile(rb"(line [1-9]\d*, column [1-9]\d*\n[ -~]*\n *\^\n)?")
 MOST_SECONDS = 120
 
 # How a run ended: its status, or the signal's number below 0; what it wrote; its peak memory in bytes; and whether a
@@ -113,7 +115,8 @@ def run_refusing(call, at, words, text=b"", on=False, error=errno.EIO, step=0, l
 
 def is_so(ran, status, out):
     """Whether the run ended with the status, wrote this, and told of it what must be told."""
-    return (ran.status, ran.out, ran.err) == (status, out, TOLD[status])
+    told = PLACE.fullmatch(ran.err) if status == 1 else ran.err == TOLD[status]
+    return (ran.status, ran.out) == (status, out) and bool(told)
 
 
 def told_wrong(about, ran):

@@ -7,7 +7,10 @@ ghost use Rattle.std.specs.Process.{exit_status};
 
 use poets_clerks::NoGate;
 use poets_io::{StdSink, StdSource};
-use poets_top::{NO_MEMORY, READ_FAULT, USAGE, WRITE_FAULT, run};
+use poets_mark::{KeptSource, mark_of};
+use poets_session::Form;
+use poets_top::{NO_MEMORY, NO_SESSION, READ_FAULT, USAGE, WRITE_FAULT, run};
+use poets_words::{Mode, Task, mode_of};
 use std::process::ExitCode;
 use std::{env, io};
 
@@ -24,7 +27,7 @@ fn main(rt: HostRuntime) -> ExitCode {
         Err(error) if error.kind() == io::ErrorKind::OutOfMemory => return end(&rt, NO_MEMORY),
         Err(_) => return end(&rt, USAGE),
     }
-    let mut source = StdSource::new(rt.reader());
+    let mut source = KeptSource::new(rt.alloc(), StdSource::new(rt.reader()));
     let mut sink = StdSink::new(io::writer(&rt));
     let outcome = run(
         &rt,
@@ -34,7 +37,26 @@ fn main(rt: HostRuntime) -> ExitCode {
         &mut sink,
         &NoGate,
     );
+    if outcome.status == NO_SESSION {
+        mark(&rt, words.as_slice(), source.given());
+    }
     end(&rt, outcome.status)
+}
+
+// Shows on standard error where the first fault of the text stands that the words told to read. Want of memory for that
+// is passed over.
+fn mark(rt: &HostRuntime, words: &[String], text: Option<&[u8]>) {
+    let (Some(text), Ok(Some(Mode::Read(task)))) = (text, mode_of(rt.alloc(), words)) else {
+        return;
+    };
+    let form = match task {
+        Task::Check => Form::Book,
+        Task::Run => Form::Clerks,
+        Task::Replay => Form::Journal,
+    };
+    if let Ok(Some(lines)) = mark_of(rt.alloc(), text, form) {
+        let _ = eprint!(rt; "{lines}");
+    }
 }
 
 // Ends with the status, and tells on standard error what standard output does not.

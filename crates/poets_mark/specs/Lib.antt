@@ -1,0 +1,4 @@
+pub mod Keeping
+pub mod Marking
+pub mod Places
+pub mod Spots

@@ -1,0 +1,51 @@
+-- Where a fault stands in its text.
+use Rattle.std.specs.Prelude.{◌≡◌, ℕ, zero, suc, ◌-◌, List, [], ◌∷◌, length, Option, None, Some, unwrap_or, if◌then◌else◌}
+use Rattle.poets_lex.specs.declared.token.Token.{Token}
+use Rattle.poets_lex.specs.declared.fault.LexFault.{LexFault}
+use Rattle.poets_lex.specs.declared.fault.LexFault.TheVariants as L
+use Rattle.poets_lex.specs.Table.{Table}
+use Rattle.poets_lex.specs.Lexes.{Lexes}
+use Rattle.poets_session.specs.Pieces.{is_end}
+use Rattle.poets_session.specs.Sessions.{Text}
+use Rattle.poets_session.specs.declared.fault.SessionCause.{SessionCause}
+use Rattle.poets_session.specs.declared.fault.SessionCause.TheVariants as C
+
+-- the tokens after the first `;;`
+abbrev pub after_end : List Token → List Token
+after_end [] = []
+after_end (t ∷ ts) = if is_end t.what then ts else after_end ts
+
+-- the tokens after so many statements
+abbrev pub statement_tokens : ℕ → List Token → List Token
+statement_tokens zero ts = ts
+statement_tokens (suc n) ts = statement_tokens n (after_end ts)
+
+-- where the first token stands
+abbrev pub first_place : List Token → Option ℕ
+first_place [] = None
+first_place (t ∷ ts) = Some t.from
+
+-- the statement with the number, counted from 1, begins here: where its first token stands (its `;;`, if it has no other), or at
+-- the end of the text, if there is no such statement
+pub record IsBeginOf (text : Text) (number place : ℕ) : Type 0 where
+  pub tokens : List Token
+  pub names : Table
+  pub lexed : Lexes [] text 0 tokens names
+  pub here : place ≡ unwrap_or (first_place (statement_tokens (number - 1) tokens)) (length text)
+
+-- where the bytes cannot be cut into tokens; want of memory has no place
+abbrev pub byte_of : LexFault → Option ℕ
+byte_of (L.BadByte at) = Some at
+byte_of (L.LongNumber at) = Some at
+byte_of (L.LongName at) = Some at
+byte_of L.Memory = None
+
+-- the fault stands here: at the byte, or where the statement begins
+abbrev pub IsPlaceOf : Text → SessionCause → ℕ → Type 0
+IsPlaceOf text (C.Lex fault) place = byte_of fault ≡ Some place
+IsPlaceOf text (C.Syntax number fault) place = IsBeginOf text number place
+IsPlaceOf text (C.Misplaced number) place = IsBeginOf text number place
+IsPlaceOf text (C.TooMany number) place = IsBeginOf text number place
+IsPlaceOf text (C.Types fault) place = IsBeginOf text fault.statement place
+IsPlaceOf text (C.Guard number fault) place = IsBeginOf text number place
+IsPlaceOf text C.Memory place = ⊥
