@@ -24,7 +24,7 @@ OneReply = (f : Frame) (ledger : Ledger) (request : Request) (r r' : Response) �
 abbrev pub OneHistory : Type 0
 OneHistory = (f : Frame) (h h' : List HistoryEntry) → Legal f h → Legal f h' → calls_of h ≡ calls_of h' → h ≡ h'
 
--- the histories that are legal for a book and its reports
+-- a history that is legal in one frame is legal in each other one with the same book and reports
 abbrev pub OneFrame : Type 0
 OneFrame = (f f' : Frame) (h : List HistoryEntry) → f.book ≡ f'.book → f.reports ≡ f'.reports → Legal f h → Legal f' h
 

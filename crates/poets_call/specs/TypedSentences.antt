@@ -61,7 +61,7 @@ abbrev pub check_report_arguments : Declared → Name → Option Query → List 
 check_report_arguments declared x None args = Fails (Unknown x)
 check_report_arguments declared x (Some q) args = check_arguments declared [] x q.params args
 
--- a command; contracts' names are a space of their own, in which nothing is declared
+-- the first fault of a command; contracts' names are a space of their own, in which nothing is declared
 abbrev pub check_request : Definitions → List Query → Request → Verdict (Unit {0})
 check_request book reports (Request.Register x c) = check_contract book (report_names reports) [] c
 check_request book reports (Request.Transmit x e) = check_event book.declared e

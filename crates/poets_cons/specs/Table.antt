@@ -15,10 +15,11 @@ abbrev pub grown : List Contract → List Row → List Contract
 grown cs [] = cs
 grown cs (r ∷ rows) = grown (cs ++ contract_by (nth cs) r ∷ []) rows
 
--- the rows of a table of nodes, and their contracts
+-- the rows of a table of nodes
 abbrev pub rows_of : List Node → List Row
 rows_of nodes = map row_of nodes
 
+-- their contracts
 abbrev pub contracts_of : List Node → List Contract
 contracts_of nodes = grown [] (rows_of nodes)
 
@@ -43,7 +44,7 @@ pub data Reached (rows : List Row) (root : ℕ) : ℕ → Type 0 where
   Root : Reached rows root root
   Part : {i k : ℕ} {r : Row} → Reached rows root i → slice_get rows i ≡ Some r → IsPart r k → Reached rows root k
 
--- a table that grows: its rows are earlier ones by their parts, and no two are equal
+-- each row names earlier ones alone, and no two are equal
 pub record IsTable (nodes : List Node) : Type 0 where
   pub earlier : AreEarlier (rows_of nodes)
   pub distinct : AreDistinct (rows_of nodes)
@@ -53,7 +54,7 @@ pub record IsRooted (nodes : List Node) : Type 0 where
   pub some : 0 < length nodes
   pub reached : (k : ℕ) → k < length nodes → Reached (rows_of nodes) (length nodes - 1) k
 
--- the contract of its last row
+-- the contract of the last row of a table, the root
 abbrev pub contract_of_rows : List Node → Contract
 contract_of_rows nodes = contract_at nodes (length nodes - 1)
 

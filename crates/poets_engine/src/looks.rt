@@ -11,7 +11,7 @@ use poets_residue::may_end_rows;
 use poets_value::{Memory, Name};
 use std::alloc::Global;
 
-/// Shows the contract with a name: a copy of what is still owed, how many events are recorded on it, whether it may
+/// Shows the contract with a name: the tree of what is still owed, how many events are recorded on it, whether it may
 /// end, and whether it was ended.
 #[tactic(auto, using(crate::proofs::Showing::show_absent))]
 pub(crate) fn show(alloc: Global, rules: &Rules, store: &Store, name: Name) -> Result<Reply, Memory>

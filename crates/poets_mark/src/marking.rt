@@ -31,7 +31,7 @@ fn fault_spot(alloc: Global, text: &[u8], form: Form) -> Result<Option<Spot>, Me
     }
 }
 
-// A byte as it is shown: a tab or CR as a space, and one that is no sign of ASCII as `?`.
+// A byte as it is shown: a tab or CR as a space, and one that is no sign of ASCII that prints as `?`.
 fn shown(byte: u8) -> char {
     match byte {
         b' '..=b'~' => byte as char,

@@ -33,7 +33,7 @@ NormalHopeless = (book : Definitions) (marks : Marks) (c : Contract) →
 abbrev pub NormalTwice : Type 0
 NormalTwice = (book : Definitions) (marks : Marks) (c : Contract) → normal book marks (normal book marks c) ≡ normal book marks c
 
--- the normal form is whole, it is well-formed, and the numbers of arguments in it fit
+-- the normal form of a whole contract is whole
 abbrev pub NormalWhole : Type 0
 NormalWhole = (book : Definitions) (marks : Marks) (c : Contract) → IsWholeContract c → IsWholeContract (normal book marks c)
 

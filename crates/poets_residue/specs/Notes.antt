@@ -20,6 +20,6 @@ pub record IsDerived (book : Definitions) (marks : Marks) (e : Event) (nodes : L
   pub notes : AreNotes book marks e nodes memo
   pub stands : Stands nodes place (after book marks e c)
 
--- what the contract asks counts, and the width of the bodies that it exposes
+-- a residual of the contract asks at most what the contract itself may ask, and the widths of the bodies that it exposes
 abbrev pub AsksInWidth : Definitions → Marks → Contract → ℕ → ℕ → Type 0
 AsksInWidth book marks c old new = new + size c ≤ old + questions c + width book marks c

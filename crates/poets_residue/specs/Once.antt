@@ -38,6 +38,6 @@ asked_of book (Transmit b p c) = 1 + arguments c
 asked_of book (App f args) = sum_by operated args + body_in (template_in book.templates f) arguments
 asked_of book _ = 0
 
--- the sum over the different ones
+-- what a residual of the contract asks at most: the sum over the different transmits and applications in its unguarded positions
 abbrev pub once : Definitions → Marks → Contract → ℕ
 once book marks c = sum_by (asked_of book) (unique_keys same_contract (ready book marks c))

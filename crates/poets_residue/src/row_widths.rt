@@ -1,4 +1,4 @@
-//! The width of contracts as rows. No more nodes are looked at than the cut has units.
+//! The width of contracts as rows. No more rows are looked at than the cut has units.
 ghost use Rattle.std.specs.Prelude.{◌≡◌, ◌+◌, ◌-◌, ◌≤◌, ◌<◌, false, length, map, min};
 ghost use Rattle.poets_expr.specs.Expression.{expression_of};
 ghost use Rattle.poets_expr.specs.Size.{nodes_of_all};
