@@ -68,36 +68,15 @@ pub fn enter_normal<L>(
             send(alloc, arena, binders, when, then)
         }
         Term::Plus(a, b) => {
-            let (a, b) = enter_both(
-                alloc,
-                studied,
-                arena,
-                Box::into_inner(a),
-                Box::into_inner(b),
-                asks,
-            )?;
+            let (a, b) = enter_both(alloc, studied, arena, a, b, asks)?;
             merge(arena, a, b)
         }
         Term::Par(a, b) => {
-            let (a, b) = enter_both(
-                alloc,
-                studied,
-                arena,
-                Box::into_inner(a),
-                Box::into_inner(b),
-                asks,
-            )?;
+            let (a, b) = enter_both(alloc, studied, arena, a, b, asks)?;
             par(arena, a, b)
         }
         Term::Seq(a, b) => {
-            let (a, b) = enter_both(
-                alloc,
-                studied,
-                arena,
-                Box::into_inner(a),
-                Box::into_inner(b),
-                asks,
-            )?;
+            let (a, b) = enter_both(alloc, studied, arena, a, b, asks)?;
             seq(arena, a, b)
         }
         Term::App { name, args } => {
@@ -136,20 +115,20 @@ fn enter_both<L>(
     alloc: Global,
     studied: &Studied,
     arena: &mut Arena,
-    a: Term,
-    b: Term,
+    a: Box<Term>,
+    b: Box<Term>,
     asks: &mut Asks<L>,
 ) -> Result<(usize, usize), Memory>
     ensures grows { Extends arena.old arena.new }
-    ensures first { IfOk result (λ p. Stands arena.new p.0 (normal_lem (definitions_of studied.now.book) (marks_of studied.now) (contract_of a))) }
-    ensures second { IfOk result (λ p. Stands arena.new p.1 (normal_lem (definitions_of studied.now.book) (marks_of studied.now) (contract_of b))) }
+    ensures first { IfOk result (λ p. Stands arena.new p.0 (normal_lem (definitions_of studied.now.book) (marks_of studied.now) (contract_of a.value))) }
+    ensures second { IfOk result (λ p. Stands arena.new p.1 (normal_lem (definitions_of studied.now.book) (marks_of studied.now) (contract_of b.value))) }
     ensures rises { asks.old ≤ asks.new }
-    ensures asks { asks.new ≤ asks.old + questions (contract_of a) + questions (contract_of b) }
-    ensures questions { OnOk result (asks.new + questions (normal_lem (definitions_of studied.now.book) (marks_of studied.now) (contract_of a)) + questions (normal_lem (definitions_of studied.now.book) (marks_of studied.now) (contract_of b)) ≤ asks.old + questions (contract_of a) + questions (contract_of b)) }
-    ensures size { asks.new ≤ asks.old + size (contract_of a) + size (contract_of b) }
-    ensures arguments { asks.new ≤ asks.old + arguments (contract_of a) + arguments (contract_of b) }
+    ensures asks { asks.new ≤ asks.old + questions (contract_of a.value) + questions (contract_of b.value) }
+    ensures questions { OnOk result (asks.new + questions (normal_lem (definitions_of studied.now.book) (marks_of studied.now) (contract_of a.value)) + questions (normal_lem (definitions_of studied.now.book) (marks_of studied.now) (contract_of b.value)) ≤ asks.old + questions (contract_of a.value) + questions (contract_of b.value)) }
+    ensures size { asks.new ≤ asks.old + size (contract_of a.value) + size (contract_of b.value) }
+    ensures arguments { asks.new ≤ asks.old + arguments (contract_of a.value) + arguments (contract_of b.value) }
 {
-    let first = enter_normal(alloc, studied, arena, a, asks)?;
-    let second = enter_normal(alloc, studied, arena, b, asks)?;
+    let first = enter_normal(alloc, studied, arena, Box::into_inner(a), asks)?;
+    let second = enter_normal(alloc, studied, arena, Box::into_inner(b), asks)?;
     Ok((first, second))
 }

@@ -18,13 +18,13 @@ use Rattle.poets_norm.proofs.row_normals.+enter_normal.Goals as goal
 pub enter_normal-merge-requires-clause-first : goal.enter_normal-merge-requires-clause-first
 enter_normal-merge-requires-clause-first g t c =
     let studied = c.args.studied.now in
-    normal_distinct (definitions_of studied.book) (marks_of studied) c.enter_both.new.arena c.in_ok-a-in-Plus.a (contract_of c.into_inner-in-Plus.result)
+    normal_distinct (definitions_of studied.book) (marks_of studied) c.enter_both.new.arena c.in_ok-a-in-Plus.a (contract_of c.in-Plus.a.value)
     c.in_ok-a-in-Plus.ensures.first
 
 pub enter_normal-merge-requires-clause-second : goal.enter_normal-merge-requires-clause-second
 enter_normal-merge-requires-clause-second g t c =
     let studied = c.args.studied.now in
-    normal_distinct (definitions_of studied.book) (marks_of studied) c.enter_both.new.arena c.in_ok-a-in-Plus.b (contract_of c.into_inner-in-Plus-2.result)
+    normal_distinct (definitions_of studied.book) (marks_of studied) c.enter_both.new.arena c.in_ok-a-in-Plus.b (contract_of c.in-Plus.b.value)
     c.in_ok-a-in-Plus.ensures.second
 
 pub enter_normal-returns-in_ok-a-in-Plus-clause-questions : goal.enter_normal-returns-in_ok-a-in-Plus-clause-questions
@@ -33,7 +33,7 @@ enter_normal-returns-in_ok-a-in-Plus-clause-questions g t c =
     let form = normal (definitions_of studied.book) (marks_of studied) in
     let a = c.in-Plus.a.value in
     let b = c.in-Plus.b.value in
-    let both = rw (c.into_inner-in-Plus.ensures, c.into_inner-in-Plus-2.ensures) at c.in_ok-a-in-Plus.ensures.questions in
+    let both = c.in_ok-a-in-Plus.ensures.questions in
     let most = plus-le 0 questions questions-measure (form (contract_of a)) (form (contract_of b)) in
     let made = ap (λ t. questions (form (contract_of t))) c.in-Plus.is in
     let whole = ap (λ t. questions (contract_of t)) c.in-Plus.is in
@@ -69,4 +69,4 @@ pub enter_both-returns-clause-first : goal.enter_both-returns-clause-first
 enter_both-returns-clause-first g t c =
     let studied = c.args.studied.now in
     stands_later c.enter_normal.new.arena c.enter_normal-2.new.arena c.enter_normal-2.ensures.grows c.in_ok-first.first
-    (normal (definitions_of studied.book) (marks_of studied) (contract_of c.args.a)) c.in_ok-first.ensures.normal
+    (normal (definitions_of studied.book) (marks_of studied) (contract_of c.args.a.value)) (rw c.into_inner.ensures at c.in_ok-first.ensures.normal)

@@ -7,4 +7,4 @@ abbrev pub decreases-enter_normal : goal.decreases-enter_normal
 decreases-enter_normal g l = 2 * size (contract_of l.term)
 
 abbrev pub decreases-enter_both : goal.decreases-enter_both
-decreases-enter_both g l = 2 * (size (contract_of l.a) + size (contract_of l.b)) + 1
+decreases-enter_both g l = 2 * (size (contract_of l.a.value) + size (contract_of l.b.value)) + 1
