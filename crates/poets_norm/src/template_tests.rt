@@ -148,6 +148,19 @@ fn the_rows_of_a_normal_form_give_it_back(rt: HostRuntime) -> Result<(), Memory>
     Ok(())
 }
 
+// The normal form over trees is the plain program that the one over rows is compared with.
+#[test]
+fn the_normal_form_of_a_tree_is_that_of_its_rows(rt: HostRuntime) -> Result<(), Memory> {
+    let studied = studied(rt.alloc())?;
+    let mut asks = Asks::new(());
+    let term = dead_or_two(rt.alloc())?;
+    let tree = normal(rt.alloc(), &studied, &term, &mut asks)?;
+    let rows = normal_rows(rt.alloc(), &studied, &term, &mut asks)?;
+    let made = to_term(rt.alloc(), &rows)?;
+    assert!(rt; same(&made, &tree));
+    Ok(())
+}
+
 #[test]
 fn equal_alternatives_are_one_row(rt: HostRuntime) -> Result<(), Memory> {
     let studied = studied(rt.alloc())?;

@@ -344,6 +344,24 @@ fn rows_are_derived_to_rows(rt: HostRuntime) -> Result<(), Memory> {
     Ok(())
 }
 
+// Whether a contract may end, by its tree, which is the plain program, and by its rows.
+fn may_end_by_both(alloc: Global, term: &Term) -> Result<(bool, bool), Memory>
+    requires { CountsFit (counting_lem BINDERS F N) (contract_of term.now) }
+{
+    let studied = studied(alloc)?;
+    let rows = of_term(alloc, term)?;
+    Ok((may_end(&studied, term), may_end_rows(&studied, &rows)))
+}
+
+#[test]
+fn trees_and_rows_may_end_alike(rt: HostRuntime) -> Result<(), Memory> {
+    let both = both_want_oil(rt.alloc())?;
+    assert!(rt; may_end_by_both(rt.alloc(), &both)? == (false, false));
+    let counted = counted(rt.alloc(), Expr::Int(1))?;
+    assert!(rt; may_end_by_both(rt.alloc(), &counted)? == (true, true));
+    Ok(())
+}
+
 // The width of the rows of a contract.
 fn width_of(alloc: Global, term: &Term) -> Result<u64, Memory>
     requires { CountsFit (counting_lem BINDERS F N) (contract_of term.now) }
