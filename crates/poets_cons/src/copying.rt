@@ -14,6 +14,9 @@ use poets_value::Memory;
 use std::alloc::Global;
 use std::sync::Arc;
 
+// For each row of a contract, how many rows a table has room for before it grows.
+const ROOM: usize = 4;
+
 // Adds a row at the end, and answers its number.
 fn append(into: &mut Vec<Node>, node: Node) -> Result<usize, Memory>
     requires table { IsTable into.old.items }
@@ -150,7 +153,7 @@ pub(crate) fn loaded(alloc: Global, nodes: &[Node]) -> Result<Arena, Memory>
     ensures { IfOk result (λ a. rows_of a ≡ rows_of nodes.now) }
 {
     let mut arena = Arena::new(alloc);
-    arena.reserve(nodes.len())?;
+    arena.reserve(nodes.len().saturating_mul(ROOM))?;
     for node in nodes {
         arena.add(copy_node(node)?)?;
     }

@@ -1,3 +1,4 @@
+pub mod Applications
 pub mod Choices
 pub mod Examples
 pub mod Laws

@@ -1,5 +1,5 @@
 //! Applications of templates, with their arguments folded.
-ghost use Rattle.std.specs.Prelude.{◌≡◌, ◌+◌, ◌≤◌, IfOk, map, sum_by};
+ghost use Rattle.std.specs.Prelude.{◌≡◌, ◌+◌, ◌≤◌, IfOk, map, option_map, sum_by};
 ghost use Rattle.std.specs.Option.{option_map_or};
 ghost use Rattle.poets_expr.specs.Env.{declared_of};
 ghost use Rattle.poets_expr.specs.Expression.{expression_of};
@@ -8,6 +8,7 @@ ghost use Rattle.poets_syntax.specs.Book.{definitions_of};
 ghost use Rattle.poets_syntax.specs.Contract.{contract_of};
 ghost use Rattle.poets_syntax.specs.Normal.{folded as folded_lem, app as app_lem};
 ghost use Rattle.poets_syntax.specs.Studied.{marks_of};
+ghost use Rattle.poets_norm.specs.Applications.{applied};
 ghost use Rattle.poets_norm.specs.Questions.{operated, questions};
 
 use poets_expr::{Asks, Decls, Expr, copy, fold_closed};
@@ -56,6 +57,30 @@ fn folded<L>(
     Ok(folded)
 }
 
+// The arguments of an application in its normal form, each closed one that is no literal replaced by the literal of its
+// value. None where the template is not hopeful.
+pub(crate) fn kept_args<L>(
+    alloc: Global,
+    studied: &Studied,
+    name: Name,
+    args: &[Expr],
+    asks: &mut Asks<L>,
+) -> Result<Option<List<Expr>>, Memory>
+    ensures app { IfOk result (λ kept. applied name (option_map (λ r. map expression_of r.items) kept) ≡ app_lem (definitions_of studied.now.book) (marks_of studied.now) name (map expression_of args.now)) }
+    ensures rises { asks.old ≤ asks.new }
+    ensures asks { asks.new ≤ asks.old + sum_by operated (map expression_of args.now) }
+    ensures questions { IfOk result (λ kept. asks.new + questions (applied name (option_map (λ r. map expression_of r.items) kept)) ≤ asks.old + sum_by operated (map expression_of args.now)) }
+{
+    match studied.template(name) {
+        Some((template, mark)) if mark.hopeful => {
+            let params = template.params.as_slice();
+            let args = folded(alloc, &studied.book().decls, params, args, asks)?;
+            Ok(Some(args))
+        }
+        _ => Ok(None),
+    }
+}
+
 /// An application of a template: `Failure` where the template is not hopeful.
 /// Each closed argument that is no literal is replaced by the literal of its value.
 pub fn app<L>(
@@ -70,12 +95,8 @@ pub fn app<L>(
     ensures asks { asks.new ≤ asks.old + sum_by operated (map expression_of args.now) }
     ensures questions { IfOk result (λ r. asks.new + questions (contract_of r) ≤ asks.old + sum_by operated (map expression_of args.now)) }
 {
-    match studied.template(name) {
-        Some((template, mark)) if mark.hopeful => {
-            let params = template.params.as_slice();
-            let args = folded(alloc, &studied.book().decls, params, args, asks)?;
-            Ok(Term::App { name, args })
-        }
-        _ => Ok(Term::Failure),
+    match kept_args(alloc, studied, name, args, asks)? {
+        Some(args) => Ok(Term::App { name, args }),
+        None => Ok(Term::Failure),
     }
 }

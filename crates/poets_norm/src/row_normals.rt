@@ -1,5 +1,5 @@
 //! Normal forms of contracts as rows.
-ghost use Rattle.std.specs.Prelude.{◌≡◌, ◌+◌, ◌≤◌, ◌<◌, IfOk, OnOk, length};
+ghost use Rattle.std.specs.Prelude.{◌≡◌, ◌+◌, ◌≤◌, ◌<◌, IfOk, OnOk, length, map, option_map};
 ghost use Rattle.poets_expr.specs.Expression.{expression_of};
 ghost use Rattle.poets_syntax.specs.Arguments.{arguments};
 ghost use Rattle.poets_syntax.specs.Book.{definitions_of};
@@ -7,15 +7,16 @@ ghost use Rattle.poets_syntax.specs.Contract.{contract_of};
 ghost use Rattle.poets_syntax.specs.Normal.{normal as normal_lem, send as send_lem};
 ghost use Rattle.poets_syntax.specs.Studied.{marks_of};
 ghost use Rattle.poets_syntax.specs.Width.{size};
+ghost use Rattle.poets_norm.specs.Applications.{applied as applied_lem};
 ghost use Rattle.poets_norm.specs.Questions.{questions};
 ghost use Rattle.poets_cons.specs.Table.{contract_at, contract_of_rows, Stands, Extends};
 
-use crate::applications::app;
+use crate::applications::kept_args;
 use crate::joining::{failure, merge, par, seq};
-use poets_cons::{Arena, Node, Rows, enter, rows_at};
+use poets_cons::{Arena, Node, Rows, rows_at};
 use poets_expr::{Asks, Expr};
 use poets_syntax::{Binders, Studied, Term, copy};
-use poets_value::Memory;
+use poets_value::{List, Memory, Name};
 use std::alloc::Global;
 use std::sync::Arc;
 
@@ -80,10 +81,27 @@ pub fn enter_normal<L>(
             seq(arena, a, b)
         }
         Term::App { name, args } => {
-            let term = app(alloc, studied, name, args.as_slice(), asks)?;
-            enter(alloc, arena, &term)
+            let args = kept_args(alloc, studied, name, args.as_slice(), asks)?;
+            applied(alloc, arena, name, args)
         }
     }
+}
+
+// An application, or `Failure` where no arguments are kept.
+fn applied(
+    alloc: Global,
+    arena: &mut Arena,
+    name: Name,
+    args: Option<List<Expr>>,
+) -> Result<usize, Memory>
+    ensures grows { Extends arena.old arena.new }
+    ensures stands { IfOk result (λ p. Stands arena.new p (applied_lem name (option_map (λ r. map expression_of r.items) args))) }
+{
+    let Some(args) = args else {
+        return failure(arena);
+    };
+    let args = Arc::new(alloc, args)?;
+    arena.add(Node::App { name, args })
 }
 
 // A transmission before a row: `Failure` where that is.

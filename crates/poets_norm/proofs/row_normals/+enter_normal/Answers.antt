@@ -41,26 +41,26 @@ enter_normal-returns-in_ok-a-in-Plus-clause-questions g t c =
     (λ p. c.enter_both.new.asks + questions (form (contract_of c.args.term)) ≤ c.args.asks.now + questions (contract_of c.args.term))
     (λ p s. omega (arith, both, most, made, whole)) c.merge.ensures.stands
 
-pub enter_normal-returns-in_err-term-in-App-clause-size : goal.enter_normal-returns-in_err-term-in-App-clause-size
-enter_normal-returns-in_err-term-in-App-clause-size g t c =
+pub enter_normal-returns-in_err-args-in-App-clause-size : goal.enter_normal-returns-in_err-args-in-App-clause-size
+enter_normal-returns-in_err-args-in-App-clause-size g t c =
     let args = ap (λ xs. sum_by operated (map expression_of xs)) c.as_slice.ensures in
     let whole = ap (λ t. size (contract_of t)) c.in-App.is in
     omega (arith, args, whole, operated_of_all-le (map expression_of c.in-App.args.items))
 
-pub enter_normal-returns-in_err-term-in-App-clause-arguments : goal.enter_normal-returns-in_err-term-in-App-clause-arguments
-enter_normal-returns-in_err-term-in-App-clause-arguments g t c =
+pub enter_normal-returns-in_err-args-in-App-clause-arguments : goal.enter_normal-returns-in_err-args-in-App-clause-arguments
+enter_normal-returns-in_err-args-in-App-clause-arguments g t c =
     let args = ap (λ xs. sum_by operated (map expression_of xs)) c.as_slice.ensures in
     let whole = ap (λ t. arguments (contract_of t)) c.in-App.is in
     omega (arith, args, whole, operated_of_all-one (map expression_of c.in-App.args.items))
 
-pub enter_normal-returns-in_ok-term-in-App-clause-size : goal.enter_normal-returns-in_ok-term-in-App-clause-size
-enter_normal-returns-in_ok-term-in-App-clause-size g t c =
+pub enter_normal-returns-in_ok-args-in-App-clause-size : goal.enter_normal-returns-in_ok-args-in-App-clause-size
+enter_normal-returns-in_ok-args-in-App-clause-size g t c =
     let args = ap (λ xs. sum_by operated (map expression_of xs)) c.as_slice.ensures in
     let whole = ap (λ t. size (contract_of t)) c.in-App.is in
     omega (arith, args, whole, operated_of_all-le (map expression_of c.in-App.args.items))
 
-pub enter_normal-returns-in_ok-term-in-App-clause-arguments : goal.enter_normal-returns-in_ok-term-in-App-clause-arguments
-enter_normal-returns-in_ok-term-in-App-clause-arguments g t c =
+pub enter_normal-returns-in_ok-args-in-App-clause-arguments : goal.enter_normal-returns-in_ok-args-in-App-clause-arguments
+enter_normal-returns-in_ok-args-in-App-clause-arguments g t c =
     let args = ap (λ xs. sum_by operated (map expression_of xs)) c.as_slice.ensures in
     let whole = ap (λ t. arguments (contract_of t)) c.in-App.is in
     omega (arith, args, whole, operated_of_all-one (map expression_of c.in-App.args.items))
