@@ -8,8 +8,9 @@ use Rattle.poets_expr.specs.Expression.{Expression}
 use Rattle.poets_syntax.specs.Contract.{Contract, Success, Failure, Transmit, Plus, Par, Seq, App}
 use Rattle.poets_syntax.specs.Same.{same_contract}
 use Rattle.poets_syntax.specs.Book.{Definitions, Definition, template_in}
-use Rattle.poets_syntax.specs.Applied.{CountsFit}
-use Rattle.poets_syntax.specs.Marks.{Marks, nullable}
+use Rattle.poets_syntax.specs.Applied.{CountsFit, BodiesCountsFit}
+use Rattle.poets_syntax.specs.Marks.{Marks, AreRight, nullable}
+use Rattle.poets_syntax.specs.Guarded.{IsGuarded}
 use Rattle.poets_syntax.specs.Exposed.{EachExposed}
 use Rattle.poets_syntax.specs.Residual.{body_of}
 use Rattle.poets_syntax.specs.Width.{width}
@@ -103,7 +104,7 @@ module _ (book : Definitions) (marks : Marks) where
   ready_at-seq zero a b = refl
   ready_at-seq (suc d) a b = refl
 
-  ready_at-failure : (d : ℕ) → ready_at d book marks Failure ≡ []
+  pub ready_at-failure : (d : ℕ) → ready_at d book marks Failure ≡ []
   ready_at-failure zero = refl
   ready_at-failure (suc d) = refl
 
@@ -152,20 +153,32 @@ module _ (book : Definitions) (marks : Marks) where
   ready_by-alike u v (App f args) h = ap (λ cs. App f args ∷ cs) h
 
   -- more unfoldings than enough change nothing
-  ready-steady : (d : ℕ) (c : Contract) → UnfoldsWithin d book marks c → ready_at (suc d) book marks c ≡ ready_at d book marks c
-  ready-steady zero c h =
-      ready_by-alike (λ f args. ready_at zero book marks (body_of book marks (template_in book.templates f) args)) (λ _ _. []) c
+  ready-enough : (d n : ℕ) (c : Contract) → n ≤ d → UnfoldsWithin n book marks c → ready_at d book marks c ≡ ready_at n book marks c
+  ready-enough zero zero c l h = refl
+  ready-enough zero (suc n) c l h = absurd (omega (arith, l))
+  ready-enough (suc d) zero c l h =
+      ready_by-alike (λ f args. ready_at d book marks (body_of book marks (template_in book.templates f) args)) (λ _ _. []) c
       (EachExposed-weaker (λ f args. template_in book.templates f ≡ None)
-      (λ f args. ready_at zero book marks (body_of book marks (template_in book.templates f) args) ≡ []) marks (λ f args k. rw k refl) c h)
-  ready-steady (suc d) c h =
-      ready_by-alike (λ f args. ready_at (suc d) book marks (body_of book marks (template_in book.templates f) args))
-      (λ f args. ready_at d book marks (body_of book marks (template_in book.templates f) args)) c
-      (EachExposed-weaker _ (λ f args. ready_at (suc d) book marks (body_of book marks (template_in book.templates f) args)
-      ≡ ready_at d book marks (body_of book marks (template_in book.templates f) args)) marks
+      (λ f args. ready_at d book marks (body_of book marks (template_in book.templates f) args) ≡ []) marks
+      (λ f args k. rw k (ready_at-failure d)) c h)
+  ready-enough (suc d) (suc n) c l h =
+      ready_by-alike (λ f args. ready_at d book marks (body_of book marks (template_in book.templates f) args))
+      (λ f args. ready_at n book marks (body_of book marks (template_in book.templates f) args)) c
+      (EachExposed-weaker _ (λ f args. ready_at d book marks (body_of book marks (template_in book.templates f) args)
+      ≡ ready_at n book marks (body_of book marks (template_in book.templates f) args)) marks
       (λ f args k. elim (found (template_in book.templates f)) [
-        | inl none ↦ rw none (sym (ready_at-failure d))
-        | inr t ↦ rw t.1 (ready-steady d (body_of book marks (Some t.0) args) (k t.0 t.1).1)
+        | inl none ↦ rw none (ready_at-failure d ∙ sym (ready_at-failure n))
+        | inr t ↦ rw t.1 (ready-enough d n (body_of book marks (Some t.0) args) (omega (arith, l)) (k t.0 t.1).1)
       ]) c h)
+
+  module _ (right : AreRight book marks) (guarded : IsGuarded book) (bodies : BodiesCountsFit book) (c : Contract) (h : CountsFit book c) where
+    -- in a guarded book as many as there are templates are enough
+    pub ready-at_least : (d : ℕ) → length book.templates ≤ d → ready_at d book marks c ≡ ready book marks c
+    ready-at_least d l = ready-enough d (length book.templates) c l (unfolds-guarded book marks right guarded bodies c h)
+
+    -- so the bodies of exposed applications are unfolded in the same way
+    pub ready-unfolded : ready book marks c ≡ ready_by (λ f args. ready book marks (body_of book marks (template_in book.templates f) args)) marks c
+    ready-unfolded = sym (ready-at_least (suc (length book.templates)) (omega arith))
 
   module _ (study : IsStudied book marks) where
     -- what is ready is no wider
@@ -218,7 +231,7 @@ module _ (book : Definitions) (marks : Marks) where
 
     module _ (f : Name) (args : List Expression) (h : CountsFit book (App f args)) where
       ready-app : ready book marks (App f args) ≡ App f args ∷ ready book marks (body_of book marks (template_in book.templates f) args)
-      ready-app = sym (ready-steady (length book.templates) (App f args) (unfolds-guarded book marks study.right study.guarded study.fit (App f args) h))
+      ready-app = ready-unfolded study.right study.guarded study.fit (App f args) h
 
       pub app_ready_itself : IsAmong (App f args) (ready book marks (App f args))
       app_ready_itself = rw ready-app (among_here (App f args) (ready book marks (body_of book marks (template_in book.templates f) args)))

@@ -1,5 +1,5 @@
 -- What residuals mean.
-use Rattle.std.specs.Prelude.{◌≡◌, ◌≢◌, ℕ, List, [], ◌∷◌, ◌++◌, All, ◌↔◌}
+use Rattle.std.specs.Prelude.{◌≡◌, ◌≢◌, ℕ, ◌≤◌, List, [], ◌∷◌, ◌++◌, All, length, ◌↔◌}
 use Rattle.poets_value.specs.declared.event.Event.{Event}
 use Rattle.poets_value.specs.Whole.{IsWholeEvent, IsWholeTrace}
 use Rattle.poets_value.specs.declared.value.Name.{Name}
@@ -13,9 +13,11 @@ use Rattle.poets_syntax.specs.May.{May}
 use Rattle.poets_syntax.specs.Marks.{Marks, AreRight}
 use Rattle.poets_syntax.specs.Normal.{normal}
 use Rattle.poets_syntax.specs.WellFormed.{IsWellFormed, IsDeclaredEvent, AreWellFormed}
+use Rattle.poets_syntax.specs.Guarded.{IsGuarded}
 use Rattle.poets_syntax.specs.Residual.{After, after_at, after, body_of, residual_after}
 use Rattle.poets_syntax.specs.Applied.{CountsFit, BodiesCountsFit}
 use Rattle.poets_syntax.specs.Studied.{marks_in, IsStudiedBook}
+use Rattle.poets_residue.specs.Once.{ready_by, ready_at, ready}
 use Rattle.poets_residue.specs.Unfolding.{UnfoldsWithin, IsStudied}
 
 -- a book that was studied meets what these laws ask
@@ -113,3 +115,21 @@ TraceNormal = (book : Definitions) (marks : Marks) (o : Contract) (s : List Even
 abbrev pub TraceWhole : Type 0
 TraceWhole = (book : Definitions) (marks : Marks) (o : Contract) (s : List Event) →
     AreWholeDefinitions book → IsWholeContract o → IsWholeTrace s → IsWholeContract (residual_after book marks o s)
+
+-- in a guarded book as many unfoldings in a row as there are templates find all that is ready: more find the same
+abbrev pub EnoughUnfoldings : Type 0
+EnoughUnfoldings = (d : ℕ) (book : Definitions) (marks : Marks) (c : Contract) →
+    AreRight book marks → IsGuarded book → BodiesCountsFit book → CountsFit book c →
+    length book.templates ≤ d → ready_at d book marks c ≡ ready book marks c
+
+-- what is ready in the unfolded bodies is ready in the contract, however deep it lies
+abbrev pub ReadyUnfolds : Type 0
+ReadyUnfolds = (book : Definitions) (marks : Marks) (c : Contract) →
+    AreRight book marks → IsGuarded book → BodiesCountsFit book → CountsFit book c →
+    ready book marks c ≡ ready_by (λ f args. ready book marks (body_of book marks (template_in book.templates f) args)) marks c
+
+-- what is ready in an application is itself, and what is ready in its body
+abbrev pub ReadyOfApplication : Type 0
+ReadyOfApplication = (book : Definitions) (marks : Marks) (f : Name) (args : List Expression) →
+    AreRight book marks → IsGuarded book → BodiesCountsFit book → CountsFit book (App f args) →
+    ready book marks (App f args) ≡ App f args ∷ ready book marks (body_of book marks (template_in book.templates f) args)

@@ -1,5 +1,5 @@
 //! The laws of residuals, each carried by a function that does nothing.
-ghost use Rattle.poets_residue.specs.Laws.{StudiedBooks, ResidualFollows, ResidualOne, ResidualIs, ResidualAt, ResidualOfApplication, ResidualWellFormed, ResidualAtWellFormed, ResidualAtCountsFit, ResidualAtNormal, ResidualAtWhole, TraceFollowed, TracePerformed, TraceHopeless, TraceHopeful, TraceWellFormed, TraceNormal, TraceWhole};
+ghost use Rattle.poets_residue.specs.Laws.{StudiedBooks, ResidualFollows, ResidualOne, ResidualIs, ResidualAt, ResidualOfApplication, ResidualWellFormed, ResidualAtWellFormed, ResidualAtCountsFit, ResidualAtNormal, ResidualAtWhole, TraceFollowed, TracePerformed, TraceHopeless, TraceHopeful, TraceWellFormed, TraceNormal, TraceWhole, EnoughUnfoldings, ReadyUnfolds, ReadyOfApplication};
 ghost use Rattle.poets_residue.specs.TypedLaws.{ResidualTyped, ResidualAtTyped, TraceTyped};
 
 /// A studied book meets the premises of these laws.
@@ -66,4 +66,12 @@ pub fn residual_typed()
     ensures by_event { ResidualTyped }
     ensures at { ResidualAtTyped }
     ensures after_trace { TraceTyped }
+{}
+
+/// In a guarded book as many unfoldings in a row as there are templates find all that is ready in a contract, and an
+/// application is ready with what is ready in its body.
+pub fn enough_unfoldings()
+    ensures at_least { EnoughUnfoldings }
+    ensures unfolds { ReadyUnfolds }
+    ensures application { ReadyOfApplication }
 {}
