@@ -16,3 +16,4 @@ mod Derived
 mod Ready
 mod Spending
 mod Asking
+mod ReadyArguments

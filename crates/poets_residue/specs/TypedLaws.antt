@@ -1,13 +1,21 @@
 -- Typed residuals.
-use Rattle.std.specs.Prelude.{ℕ, List, [], All}
+use Rattle.std.specs.Prelude.{◌≡◌, ℕ, true, List, [], All, sum_by}
 use Rattle.poets_value.specs.declared.value.Name.{Name}
 use Rattle.poets_value.specs.declared.event.Event.{Event}
-use Rattle.poets_syntax.specs.Contract.{Contract}
-use Rattle.poets_syntax.specs.Book.{Definitions}
+use Rattle.poets_expr.specs.Expression.{Expression}
+use Rattle.poets_expr.specs.Fold.{is_literal}
+use Rattle.poets_syntax.specs.Contract.{Contract, App}
+use Rattle.poets_syntax.specs.Arguments.{arguments}
+use Rattle.poets_syntax.specs.Book.{Definitions, template_in}
 use Rattle.poets_syntax.specs.Marks.{Marks}
+use Rattle.poets_syntax.specs.Normal.{normal}
 use Rattle.poets_syntax.specs.WellFormed.{IsDeclaredEvent}
 use Rattle.poets_syntax.specs.Residual.{after_at, after, residual_after}
 use Rattle.poets_syntax.specs.Typed.{IsTyped, IsTypedBook}
+use Rattle.poets_syntax.specs.Width.{body_in}
+use Rattle.poets_norm.specs.Questions.{operated}
+use Rattle.poets_residue.specs.Once.{ready, asked_of}
+use Rattle.poets_residue.specs.Spent.{IsAmong}
 
 -- in a typed book the residual of a closed typed contract by a declared event is closed and typed
 abbrev pub ResidualTyped : Type 0
@@ -23,3 +31,29 @@ ResidualAtTyped = (d : ℕ) (book : Definitions) (reports : List Name) (marks : 
 abbrev pub TraceTyped : Type 0
 TraceTyped = (book : Definitions) (reports : List Name) (marks : Marks) (o : Contract) (s : List Event) →
     IsTypedBook book reports → All (IsDeclaredEvent book.declared) s → IsTyped book reports [] o → IsTyped book reports [] (residual_after book marks o s)
+
+-- in a typed book the arguments of each application that is ready in a closed typed contract in normal form are literals or
+-- declared names
+abbrev pub ReadyLiterals : Type 0
+ReadyLiterals = (book : Definitions) (reports : List Name) (marks : Marks) (c : Contract) (f : Name) (args : List Expression) →
+    IsTypedBook book reports → IsTyped book reports [] c → normal book marks c ≡ c → IsAmong (App f args) (ready book marks c) →
+    All (λ a. is_literal book.declared a ≡ true) args
+
+-- so none of these arguments has an operator
+abbrev pub NoneOperated : Type 0
+NoneOperated = (book : Definitions) (reports : List Name) (marks : Marks) (c : Contract) (f : Name) (args : List Expression) →
+    IsTypedBook book reports → IsTyped book reports [] c → normal book marks c ≡ c → IsAmong (App f args) (ready book marks c) →
+    sum_by operated args ≡ 0
+
+-- and what such an application asks at most is one thing for each argument in its template's body
+abbrev pub AskedOfBody : Type 0
+AskedOfBody = (book : Definitions) (reports : List Name) (marks : Marks) (c : Contract) (f : Name) (args : List Expression) →
+    IsTypedBook book reports → IsTyped book reports [] c → normal book marks c ≡ c → IsAmong (App f args) (ready book marks c) →
+    asked_of book (App f args) ≡ body_in (template_in book.templates f) arguments
+
+-- so it is with each application that is ready in the residual after a trace
+abbrev pub TraceAskedOfBody : Type 0
+TraceAskedOfBody = (book : Definitions) (reports : List Name) (marks : Marks) (o : Contract) (s : List Event) (f : Name) (args : List Expression) →
+    IsTypedBook book reports → All (IsDeclaredEvent book.declared) s → IsTyped book reports [] o →
+    IsAmong (App f args) (ready book marks (residual_after book marks o s)) →
+    asked_of book (App f args) ≡ body_in (template_in book.templates f) arguments

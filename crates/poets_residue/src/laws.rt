@@ -1,6 +1,6 @@
 //! The laws of residuals, each carried by a function that does nothing.
 ghost use Rattle.poets_residue.specs.Laws.{StudiedBooks, ResidualFollows, ResidualOne, ResidualIs, ResidualAt, ResidualOfApplication, ResidualWellFormed, ResidualAtWellFormed, ResidualAtCountsFit, ResidualAtNormal, ResidualAtWhole, TraceFollowed, TracePerformed, TraceHopeless, TraceHopeful, TraceWellFormed, TraceNormal, TraceWhole, EnoughUnfoldings, ReadyUnfolds, ReadyOfApplication};
-ghost use Rattle.poets_residue.specs.TypedLaws.{ResidualTyped, ResidualAtTyped, TraceTyped};
+ghost use Rattle.poets_residue.specs.TypedLaws.{ResidualTyped, ResidualAtTyped, TraceTyped, ReadyLiterals, NoneOperated, AskedOfBody, TraceAskedOfBody};
 
 /// A studied book meets the premises of these laws.
 pub fn studied_books()
@@ -74,4 +74,13 @@ pub fn enough_unfoldings()
     ensures at_least { EnoughUnfoldings }
     ensures unfolds { ReadyUnfolds }
     ensures application { ReadyOfApplication }
+{}
+
+/// In a typed book the arguments of applications that are ready in a closed typed contract in normal form, as residuals
+/// are, are literals or declared names: such an application asks at most what its template's body has arguments.
+pub fn arguments_are_values()
+    ensures values { ReadyLiterals }
+    ensures operated { NoneOperated }
+    ensures asked { AskedOfBody }
+    ensures after_trace { TraceAskedOfBody }
 {}
