@@ -4,7 +4,9 @@
 Usage: bench/sharing.py OLDER [PROGRAM]      (PROGRAM: crates/poets/out/poets, made by `rt run` in crates/poets)
 
 Both programs must print the same. Of each family the processor seconds of both are told, the least of seven runs that
-take turns, and the one to the other. It fails where a family takes more than 1.1 times those of the older program.
+take turns, and the one to the other. Of contracts with like parts also what the transmissions alone take: the seconds
+beyond those of the same session where the transmissions are on a name that no contract has. It fails where a family
+takes more than 1.1 times the seconds of the older program, or one with forty or eighty like parts more than a fifth.
 """
 import subprocess
 import sys
@@ -12,6 +14,7 @@ import sys
 from measuring import ANY, COMMANDS, HEAD, PROGRAM, ROUNDS, Case, told
 
 MOST_RATIO = 1.1
+MOST_RATIO_OF_LIKE_PARTS = 0.2
 BARREL = "transmit(a, b, r, t | r = [1 Oil]). Success"
 TRANSMIT = "transmit {} ann bob 1 Oil @2006-01-01;;\n"
 CONTRACTS = 400
@@ -24,6 +27,11 @@ def like_parts(parts):
     contract = "\n|| ".join([BARREL] * parts)
     lines = "".join(f"register c{i} = {contract};;\n" + 10 * TRANSMIT.format(f"c{i}") for i in range(count))
     return Case("run", (HEAD + "clerk;;\n" + lines).encode(), 11 * count)
+
+
+def without_contract(case):
+    """The same commands, with the transmissions on a name that no contract has."""
+    return case._replace(text=case.text.replace(b"transmit c", b"transmit x"))
 
 
 def doubling():
@@ -75,16 +83,32 @@ def printed(program, case):
     return subprocess.run([program, *case.words.split()], input=case.text, stdout=subprocess.PIPE, check=True).stdout
 
 
-def compare(older, program, about, case):
+def least(older, program, case):
+    """The least processor seconds of both programs, whose runs take turns, and their greatest peaks in MB."""
+    runs = [[told(which, case) for which in (older, program)] for _ in range(ROUNDS)]
+    return [min(run[at][0] for run in runs) for at in (0, 1)], [max(run[at][1] for run in runs) / 2**20 for at in (0, 1)]
+
+
+def compare(older, program, about, case, most_ratio=MOST_RATIO):
     """Prints what the case costs in both programs. Answers whether they print the same and the bound was kept."""
     same = printed(older, case) == printed(program, case)
-    runs = [[told(which, case) for which in (older, program)] for _ in range(ROUNDS)]
-    before, after = (min(run[at][0] for run in runs) for at in (0, 1))
-    peaks = [max(run[at][1] for run in runs) / 2**20 for at in (0, 1)]
-    kept = same and after < MOST_RATIO * before
+    (before, after), peaks = least(older, program, case)
+    kept = same and after < most_ratio * before
     print(f"{about}: {after:.3f} s beside {before:.3f} ({after / before:.2f}; {before / after:.1f} times as fast),"
           f" peak {peaks[1]:.1f} MB beside {peaks[0]:.1f}{'' if same else '   PRINTS SOMETHING ELSE'}"
           f"{'' if kept else '   NOT KEPT'}", flush=True)
+    return kept
+
+
+def compare_like(older, program, parts):
+    """The same of contracts of so many like parts, and what their transmissions alone take."""
+    case = like_parts(parts)
+    most_ratio = MOST_RATIO_OF_LIKE_PARTS if parts >= 40 else MOST_RATIO
+    kept = compare(older, program, f"{parts} like deliveries side by side", case, most_ratio)
+    whole, _ = least(older, program, case)
+    rest, _ = least(older, program, without_contract(case))
+    before, after = (of_whole - of_rest for of_whole, of_rest in zip(whole, rest))
+    print(f"  the transmissions alone: {after:.3f} s beside {before:.3f} ({before / after:.1f} times as fast)", flush=True)
     return kept
 
 
@@ -92,10 +116,10 @@ def main():
     if len(sys.argv) < 2:
         sys.exit(__doc__)
     older, program = sys.argv[1], sys.argv[2] if len(sys.argv) > 2 else str(PROGRAM)
-    cases = [(f"{parts} like deliveries side by side", like_parts(parts)) for parts in (10, 40, 80)]
-    cases += [(family.__doc__.partition(",")[0].rstrip("."), family())
+    kept = [compare_like(older, program, parts) for parts in (10, 40, 80)]
+    cases = [(family.__doc__.partition(",")[0].rstrip("."), family())
               for family in (two_ways, doubling, looks, different_parts, plain, demonstration)]
-    kept = [compare(older, program, about, case) for about, case in cases]
+    kept += [compare(older, program, about, case) for about, case in cases]
     sys.exit(0 if all(kept) else 1)
 
 

@@ -39,19 +39,21 @@ ReadyLiterals = (book : Definitions) (reports : List Name) (marks : Marks) (c : 
     IsTypedBook book reports → IsTyped book reports [] c → normal book marks c ≡ c → IsAmong (App f args) (ready book marks c) →
     All (λ a. is_literal book.declared a ≡ true) args
 
--- so none of these arguments has an operator
+-- in a typed book no argument of an application that is ready in a closed typed contract in normal form has an operator
 abbrev pub NoneOperated : Type 0
 NoneOperated = (book : Definitions) (reports : List Name) (marks : Marks) (c : Contract) (f : Name) (args : List Expression) →
     IsTypedBook book reports → IsTyped book reports [] c → normal book marks c ≡ c → IsAmong (App f args) (ready book marks c) →
     sum_by operated args ≡ 0
 
--- and what such an application asks at most is one thing for each argument in its template's body
+-- in a typed book an application that is ready in a closed typed contract in normal form asks at most one thing for each
+-- argument in its template's body
 abbrev pub AskedOfBody : Type 0
 AskedOfBody = (book : Definitions) (reports : List Name) (marks : Marks) (c : Contract) (f : Name) (args : List Expression) →
     IsTypedBook book reports → IsTyped book reports [] c → normal book marks c ≡ c → IsAmong (App f args) (ready book marks c) →
     asked_of book (App f args) ≡ body_in (template_in book.templates f) arguments
 
--- so it is with each application that is ready in the residual after a trace
+-- in a typed book an application that is ready in the residual after a trace asks at most one thing for each argument in its
+-- template's body
 abbrev pub TraceAskedOfBody : Type 0
 TraceAskedOfBody = (book : Definitions) (reports : List Name) (marks : Marks) (o : Contract) (s : List Event) (f : Name) (args : List Expression) →
     IsTypedBook book reports → All (IsDeclaredEvent book.declared) s → IsTyped book reports [] o →
