@@ -81,8 +81,8 @@ def is_checked_so(ran, text, all_of, is_early):
 
 
 def words_of(text):
-    """The tokens of the text without their places."""
-    return [(what, word) for what, word, _ in language.tokens(text)]
+    """The words of the text's tokens, which tell what each of them is."""
+    return [word for _, word, _ in language.tokens(text)]
 
 
 def ends_so(name, text, nth):

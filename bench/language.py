@@ -36,28 +36,49 @@ def is_civil(day):
         return False
 
 
-def token(one, at):
-    """The token as the grammar names it, where the text has one."""
+def fault_of(one):
+    """The fault of what begins no token, or one that is too long."""
     kind = one.lastgroup if one else "none"
     if kind == "name" and len(one[0]) > 64:
-        raise Fault(f"refused at byte {at}: LongName\n")
+        return "LongName"
     if kind == "number" and int(one[0]) > 2**63 - 1:
-        raise Fault(f"refused at byte {at}: LongNumber\n")
-    if kind == "none" or (kind == "day" and not is_civil(one[0])):
-        raise Fault(f"refused at byte {at}: BadByte\n")
+        return "LongNumber"
+    return "BadByte" if kind == "none" or (kind == "day" and not is_civil(one[0])) else None
+
+
+def token(one):
+    """The token as the grammar names it, or nothing for a blank."""
+    kind = one.lastgroup
     word = one[0].decode() if kind != "blank" else ""
     return kind.upper() if kind in ("number", "day") or (kind == "name" and word not in WORDS) else word
 
 
-def tokens(text):
-    """The tokens of the text, each with its place, or the fault of the first byte that begins none."""
+@functools.lru_cache(maxsize=1_000)
+def tokens_of_line(line):
+    """The tokens of the line, each with its place, up to the first byte that begins none; and its place and fault. Those
+    of the last lines are kept, since texts that are tried after one another differ in few."""
     at, found = 0, []
-    while at < len(text):
-        one = TOKEN.match(text, at)
-        what = token(one, at)
-        if what:
-            found.append((what, one[0], at))
+    while at < len(line):
+        one = TOKEN.match(line, at)
+        fault = fault_of(one)
+        if fault:
+            return found, (at, fault)
+        if token(one):
+            found.append((token(one), one[0], at))
         at = one.end()
+    return found, None
+
+
+def tokens(text):
+    """The tokens of the text, each with its place, or the fault of the first byte that begins none. No token goes over
+    the end of a line."""
+    begin, found = 0, []
+    for line in text.split(b"\n"):
+        more, fault = tokens_of_line(line)
+        if fault:
+            raise Fault(f"refused at byte {begin + fault[0]}: {fault[1]}\n")
+        found += [(what, word, begin + at) for what, word, at in more]
+        begin += len(line) + 1
     return found
 
 
@@ -99,7 +120,6 @@ def choice(words):
 RULES = rules()
 
 
-@functools.lru_cache(maxsize=100_000)
 def is_sentence(words):
     """Whether the grammar gives a statement of these tokens."""
     @functools.lru_cache(maxsize=None)
@@ -138,6 +158,14 @@ def is_too_deep(words):
     return most > 200 or sum(word in OPERATORS for word in words) > 1_000
 
 
+@functools.lru_cache(maxsize=100_000)
+def sentence_fault(words, is_ended):
+    """The fault of a statement of these tokens, if it has one."""
+    if is_too_deep(words):
+        return "TooDeep"
+    return None if is_ended and is_sentence(words) else "NoSentence"
+
+
 def place_fault(all_of, form):
     """The first statement that may not stand in its place or is one too many, and its fault."""
     counts, begun = {"clerk": 0, "template": 0, "report": 0, "command": 0}, False
@@ -162,11 +190,9 @@ def early_fault(text, form):
     except Fault as fault:
         return str(fault), []
     for number, (row, is_ended) in enumerate(all_of, 1):
-        words = tuple(what for what, _, _ in row)
-        if is_too_deep(words):
-            return f"refused in statement {number}: TooDeep\n", all_of
-        if not is_ended or not is_sentence(words):
-            return f"refused in statement {number}: NoSentence\n", all_of
+        fault = sentence_fault(tuple(what for what, _, _ in row), is_ended)
+        if fault:
+            return f"refused in statement {number}: {fault}\n", all_of
     found = place_fault(all_of, form)
     return (f"refused in statement {found[0]}: {found[1]}\n" if found else None), all_of
 

@@ -25,6 +25,9 @@ MOST_SECONDS = 120
 # call was refused.
 Ran = namedtuple("Ran", "status out err peak refused")
 
+# The environment, as the system takes it.
+ENVIRONMENT = dict(os.environb)
+
 # What all runs share: the program, and the library that refuses calls, once it is built.
 shared = {"program": str(PROGRAM), "library": None, "child": 0}
 
@@ -61,7 +64,7 @@ def holds(file):
 
 def started(words, files, limits, settings, first):
     """The number of a process of the program that reads and writes these files."""
-    settings = {**os.environ, **(settings or {})}
+    settings = {**ENVIRONMENT, **(settings or {})}
     if not limits and not first:
         actions = [(os.POSIX_SPAWN_DUP2, file, at) for at, file in enumerate(files)]
         return os.posix_spawn(shared["program"], ["poets", *words], settings, file_actions=actions)
@@ -98,8 +101,8 @@ def run(words, text=b"", limits=None, settings=None, source=None, sink=None, fir
         os.close(files[0])
     out = holds(files[1]) if sink is None else b""
     os.close(telling)
-    with os.fdopen(told, "rb") as end:
-        return Ran(os.waitstatus_to_exitcode(status), out, end.read(), usage.ru_maxrss * 1024, False)
+    with os.fdopen(told, "rb", 0) as end:
+        return Ran(os.waitstatus_to_exitcode(status), out, end.readall(), usage.ru_maxrss * 1024, False)
 
 
 def run_refusing(call, at, words, text=b"", on=False, error=errno.EIO, step=0, limits=None):
