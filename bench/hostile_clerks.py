@@ -7,8 +7,8 @@ import signal
 import time
 
 import clerks
-from hostile_memory import is_legal
-from running import held, holds, run, run_refusing, shared, told_wrong
+from hostile_memory import SESSIONS, is_legal
+from running import held, holds, is_so, run, run_refusing, shared, told_wrong
 
 # A user that runs nothing else, so that a limit of processes counts those of the program alone.
 USER = 61_234
@@ -58,13 +58,46 @@ def with_threads_refused(on):
         yield None if is_whole(ran, scripts) else told_wrong(f"64 clerks, thread {at} refused", ran)
 
 
+def wide_portfolio(about, **given):
+    """None where a portfolio whose rows several threads make is whole in such a run, else what is told of it."""
+    words, text, whole = SESSIONS["a wide portfolio"]
+    ran = run(words, text, **given)
+    return None if is_so(ran, 0, whole) else told_wrong(f"a wide portfolio {about}", ran)
+
+
+def portfolio_on_few_processors():
+    """A wide portfolio on one processor and on two, and on all of them with few processes, if the user is root."""
+    every = sorted(os.sched_getaffinity(0))
+    for count in (1, 2):
+        yield wide_portfolio(f"on {count} processors", first=lambda: os.sched_setaffinity(0, every[:count]))
+    for most in range(1, len(every) + 2) if os.geteuid() == 0 else ():
+        for stack in (2**23, 2**21):
+            limits = {resource.RLIMIT_NPROC: most, resource.RLIMIT_STACK: stack}
+            yield wide_portfolio(
+                f"with {most} processes", limits=limits, first=lambda: os.setuid(USER + 100 + most))
+
+
+def portfolio_refused(call, on):
+    """A wide portfolio, each start of a thread, or each question how many processors there are, refused in turn."""
+    words, text, whole = SESSIONS["a wide portfolio"]
+    for at in itertools.count(1):
+        ran = run_refusing(call, at, words, text, on=on)
+        if not ran.refused:
+            break
+        yield None if is_so(ran, 0, whole) else told_wrong(f"a wide portfolio, {call} {at} refused", ran)
+
+
 def threads():
-    """64 clerks with 1,024 commands each, or with 16."""
+    """64 clerks with 1,024 commands each, or with 16; and a portfolio that is made by threads."""
     jobs = [(on_one_processor, seed, is_disturbed) for seed in range(SEEDS) for is_disturbed in (False, True)]
     if os.geteuid() == 0:
         jobs += [(with_few_processes, most, stack) for most in (1, 2, 3, 4, 8, 16, 32, 63, 64, 65)
                  for stack in (2**23, 2**21)]
-    return jobs + ([(with_threads_refused, on) for on in (False, True)] if shared["library"] else [])
+    jobs += [(portfolio_on_few_processors,)]
+    if shared["library"]:
+        jobs += [(with_threads_refused, on) for on in (False, True)]
+        jobs += [(portfolio_refused, call, on) for call in ("thread", "open", "affinity") for on in (False, True)]
+    return jobs
 
 
 def killed(seed):

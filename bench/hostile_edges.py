@@ -90,6 +90,9 @@ def numbers_of_bytes():
         yield case(f"16777217 bytes of {about}", "run", text + piece[:1], 6, LONGER)
     yield case("clerks", "run", b"clerk;;" * (MOST_BYTES // 7), 1, refused % (65, "TooMany"))
     yield case("a zero of so many digits", "run", b"0" * MOST_BYTES, 1, refused % (1, "NoSentence"))
+    for word, status, out in (("check", 0, "book: templates 0, reports 0\n"), ("replay", 1, refused % (1, "Misplaced"))):
+        yield case("16777216 bytes of blanks", word, b" " * MOST_BYTES, status, out)
+        yield case("16777217 bytes of blanks", word, b" " * (MOST_BYTES + 1), 6, LONGER)
     filled = SALE + b"#" * (MOST_BYTES - len(SALE))
     yield case("a sale and a comment", "run", filled, 0, SOLD)
     yield case("a sale and a longer comment", "run", filled + b"#", 6, LONGER)
@@ -139,15 +142,30 @@ def numbers_of_operators():
                    f"refused in statement 4: {'TooDeep' if deep else 'NoSentence'}\n")
 
 
+def alternatives(first):
+    """143 transmissions to choose from, the first with this predicate: each is 6 wide where that is 4 wide, and then all
+    are 1,000 wide."""
+    return " + ".join(f"transmit(a, b, r, t | {first if at == 1 else f'amount(r) = {at}'}). Success"
+                      for at in range(1, 144))
+
+
 def widths():
-    """Contracts of the widths 1,000 and 1,001."""
-    def choice(first):
-        return "register c = " + " + ".join(
-            f"transmit(a, b, r, t | {first if at == 1 else ''}amount(r) = {at}). Success" for at in range(1, 144))
-    yield one_step("a width of 1000", choice(""), "registered 1")
-    yield one_step("a width of 1001", choice("not "), "too large")
+    """Contracts of the widths 1,000 and 1,001, and transmissions after which as much is owed: an application is one wider
+    than its template's body."""
+    yield one_step("a width of 1000", "register c = " + alternatives("amount(r) = 1"), "registered 1")
+    yield one_step("a width of 1001", "register c = " + alternatives("not amount(r) = 1"), "too large")
     transmit = f"register c = transmit(a, b, r, t | {997 * 'not '}true). Success"
     yield one_step("a transmit of the width 1000", transmit, "registered 1")
+    for width, first in ((1_000, "not not true"), (1_001, "amount(r) = 1")):
+        book = f"{HEAD}template wide() = {alternatives(first)};;\n"
+        reply = "registered 1" if width == 1_000 else "too large"
+        yield one_step(f"an application of the width {width}", "register c = wide()", reply, book)
+        later, event = "transmit(a, b, r, t | true). wide()", "transmit c ann bob 1 Oil @2006-01-01"
+        replies = (("recorded 1, may end no", "events 1, may end no, ended no, residual wide()") if width == 1_000
+                   else ("too large", f"events 0, may end no, ended no, residual {later}"))
+        yield case(f"a residual of the width {width}", "run", f"{book}clerk;; register c = {later};; {event};; show c;;",
+                   0, f"1 1: register c = {later} => registered 1\n2 1: {event} => {replies[0]}\n"
+                      f"3 1: show c => {replies[1]}\n")
 
 
 def limits():

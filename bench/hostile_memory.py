@@ -11,6 +11,8 @@ from running import MEMORY, is_so, run, run_refusing, shared, told_wrong
 EXAMPLES = pathlib.Path(__file__).resolve().parent.parent / "examples"
 PAGE = 4_096
 EVENTS = 2_000
+# So many parts of a portfolio are made by several threads.
+PARTS = 4_096
 
 # A sale that is delivered, shown and paid.
 BOOK = b"""agents ann, bob;; kinds Oil, USD;;
@@ -43,12 +45,30 @@ SCRIPTS = [
      "transmit e ann bob 4 Oil @2006-01-01", "show e", "end e", "transmit e ann bob 4 Oil @2006-01-01"],
 ]
 
+# A portfolio over one contract so many times.
+FOLIO = f"portfolio moved() over {', '.join(PARTS * ['c'])}"
+WIDE = f"{clerks.BOOK}clerk;;\nregister c = any();;\ntransmit c ann bob 7 Oil @2006-01-01;;\n{FOLIO};;\n".encode()
+WIDELY = f"""1 1: register c = any() => registered 1
+2 1: transmit c ann bob 7 Oil @2006-01-01 => recorded 1, may end yes
+3 1: {FOLIO} => portfolio {', '.join(PARTS * ['c 7'])}, total {7 * PARTS}
+""".encode()
+
 # A session's words, its text, and what it prints; None for a history of several clerks.
 SESSIONS = {
     "a sale": ("run", SALE, SOLD),
     "an audit": ("replay", AUDIT, AUDITED),
     "four clerks": ("run", clerks.session(SCRIPTS).encode(), None),
     "demo 1": ("demo 1", b"", DEMO),
+    "a book": ("check", (EXAMPLES / "book.poets").read_bytes(), (EXAMPLES / "book.out").read_bytes()),
+    "a wide portfolio": ("run", WIDE, WIDELY),
+}
+
+# Texts that are refused: their words, the line, and the status.
+REFUSALS = {
+    "a text that is refused": ("run", SALE + b"show deal, deal;;", b"refused in statement 9: NoSentence\n", 1),
+    "a book that is refused": ("check", BOOK + b"kinds Oil;;", b"refused in statement 4: Twice Oil\n", 1),
+    "a byte that is refused": ("replay", AUDIT + b"\0", b"refused at byte %d: BadByte\n" % len(AUDIT), 1),
+    "words that are refused": ("run run", SALE, b"", 2),
 }
 
 
@@ -66,6 +86,12 @@ def is_legal(out, is_whole, scripts=None):
             and clerks.is_replayed(history, shared["program"], every))
 
 
+def is_whole(ran, name):
+    """Whether the run of the session ended with the whole result."""
+    whole = SESSIONS[name][2]
+    return is_so(ran, 0, whole) if whole else is_so(ran, 0, ran.out) and is_legal(ran.out, True)
+
+
 def is_front(ran, name):
     """Whether the run of the session ended with the whole result, or with want of memory and a front of its lines."""
     _, _, whole = SESSIONS[name]
@@ -74,19 +100,26 @@ def is_front(ran, name):
         return ran.status in (0, 3) and ran.err == told and is_legal(ran.out, ran.status == 0)
     if ran.status == 0:
         return is_so(ran, 0, whole)
-    lines = whole.splitlines(keepends=True) if name != "demo 1" else []
+    lines = whole.splitlines(keepends=True) if name not in ("demo 1", "a book") else []
     fronts = [b"".join(lines[:count]) for count in range(len(lines) + 1)]
     return ran.out in fronts and is_so(ran, 3, ran.out)
 
 
+def is_refused(ran, name):
+    """Whether the text was refused as it must be, or there was want of memory and nothing is written."""
+    _, _, line, status = REFUSALS[name]
+    return is_so(ran, status, line) or is_so(ran, 3, b"")
+
+
 def refused_growths(name, on):
-    """Each growth of the session in turn, until there is no such growth."""
-    words, text, _ = SESSIONS[name]
+    """Each growth of the session, or of the text that is refused, in turn, until there is no such growth."""
+    words, text = (SESSIONS.get(name) or REFUSALS[name])[:2]
     for at in itertools.count(1):
         ran = run_refusing("growth", at, words, text, on=on)
         if not ran.refused:
             break
-        yield None if is_front(ran, name) else told_wrong(f"{name}, growth {at}{' and all after' if on else ''}", ran)
+        right = is_front(ran, name) if name in SESSIONS else is_refused(ran, name)
+        yield None if right else told_wrong(f"{name}, growth {at}{' and all after' if on else ''}", ran)
 
 
 def least_space():
@@ -127,7 +160,9 @@ def growths():
     """Refused growths; address spaces by pages, and where threads take theirs by 64 KB and then by 1 MB."""
     pages = range(0, 2**20, PAGE)
     spaces = [*pages, *range(2**20, 48 * 2**20, 2**16), *range(48 * 2**20, 600 * 2**20, 2**20)]
-    jobs = [(refused_growths, name, on) for name in SESSIONS for on in (False, True)] if shared["library"] else []
-    jobs += [(limited_space, name, pages, 0, 1) for name in ("a sale", "an audit")]
-    return jobs + [(limited_space, name, spaces, at, 8) for name in ("four clerks", "demo 1") for at in range(8)] + [
+    names = (*SESSIONS, *REFUSALS) if shared["library"] else ()
+    jobs = [(refused_growths, name, on) for name in names for on in (False, True)]
+    jobs += [(limited_space, name, pages, 0, 1) for name in ("a sale", "an audit", "a book")]
+    threaded = ("four clerks", "demo 1", "a wide portfolio")
+    return jobs + [(limited_space, name, spaces, at, 8) for name in threaded for at in range(8)] + [
         (more_than_memory, space * 2**20) for space in (32, 64, 128, 256)]

@@ -6,13 +6,17 @@ import os
 import resource
 import signal
 import threading
+from concurrent.futures import ThreadPoolExecutor
 
-from hostile_memory import AUDIT, AUDITED, DEMO, EXAMPLES, PAGE, SALE, SESSIONS, SOLD
+from hostile_memory import AUDIT, AUDITED, DEMO, EXAMPLES, PAGE, SALE, SESSIONS, SOLD, is_legal, is_whole
 from measuring import COMMANDS
 from running import held, holds, is_so, run, run_refusing, shared, told_wrong
 
 MOST_BYTES = 16_777_216
 LONGER = b"refused: longer than 16777216 bytes\n"
+# The commands of a history whose reader leaves after each number of bytes, which are tried by so many jobs.
+ENDS = 300
+STRIDE = 8
 # A source without an end may take so much memory.
 MOST_MEMORY = 64 * 2**20
 REFUSED = (b"agents ann, ann;;", b"refused in statement 1: Twice ann\n")
@@ -41,25 +45,25 @@ def given_for_ever(piece, sink):
 
 def read_in_steps(name, step):
     """The session through a pipe that gives so many bytes a read, and by reads and writes that move no more."""
-    words, text, whole = SESSIONS[name]
+    words, text, _ = SESSIONS[name]
     source, sink = os.pipe2(os.O_CLOEXEC | os.O_DIRECT)
     threading.Thread(target=given_in_steps, args=(text, step, sink), daemon=True).start()
     ran = run(words, source=source)
     os.close(source)
-    yield None if is_so(ran, 0, whole) else told_wrong(f"{name}, by {step} bytes from a pipe", ran)
+    yield None if is_whole(ran, name) else told_wrong(f"{name}, by {step} bytes from a pipe", ran)
     if shared["library"]:
         ran = run_refusing("none", 0, words, text, step=step)
-        yield None if is_so(ran, 0, whole) else told_wrong(f"{name}, by {step} bytes a read and a write", ran)
+        yield None if is_whole(ran, name) else told_wrong(f"{name}, by {step} bytes a read and a write", ran)
 
 
 def failing_reads(name, step, error):
     """Each read of the session failing in turn. A read that was only interrupted is tried again."""
-    words, text, whole = SESSIONS[name]
+    words, text, _ = SESSIONS[name]
     for at in itertools.count(1):
         ran = run_refusing("read", at, words, text, error=error, step=step)
         if not ran.refused:
             break
-        right = is_so(ran, 0, whole) if error == errno.EINTR else is_so(ran, 4, b"")
+        right = is_whole(ran, name) if error == errno.EINTR else is_so(ran, 4, b"")
         yield None if right else told_wrong(f"{name}, read {at} fails by {errno.errorcode[error]}", ran)
 
 
@@ -89,14 +93,24 @@ def endless(about, words):
     yield None if right else told_wrong(f"{words} on {about} for ever, with a peak of {ran.peak} bytes", ran)
 
 
+def endless_device(path):
+    """A device that gives bytes for ever."""
+    for words in ("run", "replay", "check"):
+        source = os.open(path, os.O_RDONLY)
+        ran = run(words, source=source)
+        os.close(source)
+        right = is_so(ran, 6, LONGER) and ran.peak < MOST_MEMORY
+        yield None if right else told_wrong(f"{words} on {path}, with a peak of {ran.peak} bytes", ran)
+
+
 def reads():
     """Short, failing and endless reads."""
-    one = [name for name, (_, _, whole) in SESSIONS.items() if whole]
-    jobs = [(read_in_steps, name, step) for name in one for step in (1, 7, PAGE)] + [(unreadable,)]
+    jobs = [(read_in_steps, name, step) for name in SESSIONS for step in (1, 7, PAGE)] + [(unreadable,)]
     jobs += [(endless, about, words) for about in ENDLESS for words in ("run", "replay", "check")]
+    jobs += [(endless_device, path) for path in ("/dev/zero", "/dev/urandom")]
     if shared["library"]:
-        jobs += [(failing_reads, name, step, error) for name in ("a sale", "an audit") for step in (1, 7, PAGE)
-                 for error in (errno.EIO, errno.EAGAIN, errno.EINTR)]
+        jobs += [(failing_reads, name, step, error) for name in ("a sale", "an audit", "four clerks", "a book")
+                 for step in (1, 7, PAGE) for error in (errno.EIO, errno.EAGAIN, errno.EINTR)]
     return jobs
 
 
@@ -111,6 +125,18 @@ def failing_writes(words, text, lines, status, error, on):
         right = (is_so(ran, status, b"".join(lines)) if error == errno.EINTR
                  else is_so(ran, 5, b"".join(lines[:at - 1])))
         yield None if right else told_wrong(f"{words}, write {at} fails by {errno.errorcode[error]}", ran)
+
+
+def failing_writes_of_clerks(error, on):
+    """Each write of four clerks' history failing in turn: the lines before it are those of a legal history."""
+    words, text, _ = SESSIONS["four clerks"]
+    for at in itertools.count(1):
+        ran = run_refusing("write", at, words, text, error=error, on=on)
+        if not ran.refused:
+            break
+        right = (is_whole(ran, "four clerks") if error == errno.EINTR
+                 else is_so(ran, 5, ran.out) and ran.out.count(b"\n") == at - 1 and is_legal(ran.out, False))
+        yield None if right else told_wrong(f"four clerks, write {at} fails by {errno.errorcode[error]}", ran)
 
 
 def full_after(words, text, whole, status):
@@ -163,6 +189,35 @@ def read_in_part(most):
     yield None if right else told_wrong(f"a reader that leaves after {most} bytes", ran)
 
 
+def read_up_to(source, most):
+    """At most so many bytes of the pipe, which is then closed."""
+    found = b""
+    while len(found) < most:
+        more = os.read(source, most - len(found))
+        if not more:
+            break
+        found += more
+    os.close(source)
+    return found
+
+
+def left_after(offset):
+    """A pipe that takes a page and whose reader leaves after each number of bytes: he read a front of the history, and
+    the program did not write it all, unless what he left fits into the pipe."""
+    text = b"clerk;;\n" + ENDS * b"end c;;\n"
+    whole = b"".join(b"%d 1: end c => no contract c\n" % at for at in range(1, ENDS + 1))
+    for most in range(offset, len(whole) + 1, STRIDE):
+        source, sink = os.pipe2(os.O_CLOEXEC)
+        fcntl.fcntl(sink, fcntl.F_SETPIPE_SZ, PAGE)
+        with ThreadPoolExecutor(1) as leaving:
+            reading = leaving.submit(read_up_to, source, most)
+            ran = run("run", text, sink=sink)
+            os.close(sink)
+        ended = (is_so(ran, 5, b"") or len(whole) <= most + PAGE and is_so(ran, 0, b""))
+        right = ended and reading.result() == whole[:most]
+        yield None if right else told_wrong(f"a reader who leaves after {most} of {len(whole)} bytes", ran)
+
+
 def full_pipe():
     """A pipe that is full and does not wait: what it took is a front of the history."""
     text, whole = long_history()
@@ -176,6 +231,23 @@ def full_pipe():
     yield None if right else told_wrong("a full pipe that does not wait", ran)
 
 
+def untold():
+    """Runs that have something to tell where standard error takes nothing: the status and what is written stay."""
+    source, sink = os.pipe2(os.O_CLOEXEC)
+    os.close(source)
+    full = os.open("/dev/full", os.O_WRONLY)
+    book = (EXAMPLES / "book.poets").read_bytes()
+    for about, first in (("no standard error", lambda: os.close(2)), ("a full one", lambda: os.dup2(full, 2)),
+                         ("one that nobody reads", lambda: os.dup2(sink, 2))):
+        for words, text, out, status in (("run", *REFUSED, 1), ("run run", SALE, b"", 2), ("replay", AUDIT, AUDITED, 0),
+                                         ("check", book + b"\xff", b"refused at byte %d: BadByte\n" % len(book), 1)):
+            ran = run(words, text, first=first)
+            right = (ran.status, ran.out, ran.err) == (status, out, b"")
+            yield None if right else told_wrong(f"{words} with {about}", ran)
+    os.close(full)
+    os.close(sink)
+
+
 def writes():
     """Failing writes, and sinks that are full, or not there."""
     book = (EXAMPLES / "book.poets").read_bytes()
@@ -185,9 +257,12 @@ def writes():
     jobs = [(full_after, *outcome) for outcome in outcomes] + [(full_pipe,)]
     jobs += [(unwritable, words, text, 5) for words, text, _, _ in outcomes] + [(unwritable, "run", b"", 0)]
     jobs += [(read_in_part, most) for most in (0, 1, PAGE, 65_536, 10**6)]
+    jobs += [(left_after, offset) for offset in range(STRIDE)] + [(untold,)]
     if shared["library"]:
         failures = [(error, on) for error in (errno.EIO, errno.ENOSPC, errno.EAGAIN) for on in (False, True)]
-        jobs += [(failing_writes, *outcome, *failure) for outcome in outcomes for failure in [*failures, (errno.EINTR, False)]]
+        failures += [(errno.EINTR, False)]
+        jobs += [(failing_writes, *outcome, *failure) for outcome in outcomes for failure in failures]
+        jobs += [(failing_writes_of_clerks, *failure) for failure in failures]
     return jobs
 
 

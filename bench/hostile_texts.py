@@ -1,4 +1,5 @@
 """The families of cut and of changed texts."""
+import os
 import re
 
 import language
@@ -14,11 +15,21 @@ REPLY = re.compile(
 TWICE = 8
 
 
-def cut(name, at):
+def run_from_pipe(word, text):
+    """Runs the program on a pipe that is closed after the text, which it has room for."""
+    source, sink = os.pipe2(os.O_CLOEXEC)
+    os.write(sink, text)
+    os.close(sink)
+    ran = run(word, source=source)
+    os.close(source)
+    return ran
+
+
+def cut(name, at, is_piped):
     """The text cut after so many bytes: the lines of its whole commands, or the fault of what is left."""
     word, text, whole = TEXTS[name]
     text = text[:at]
-    ran = run(word, text)
+    ran = run_from_pipe(word, text) if is_piped else run(word, text)
     fault, all_of = language.early_fault(text, word)
     count = sum(row[0][0] not in (*language.BOOK, "clerk", "journal") for row, _ in all_of) if not fault else 0
     lines = b"".join(whole.splitlines(keepends=True)[:count])
@@ -30,8 +41,9 @@ def cut(name, at):
 
 
 def cuts():
-    """Both texts, cut after each number of bytes."""
-    return [(cut, name, at) for name, (_, text, _) in TEXTS.items() for at in range(len(text) + 1)]
+    """Both texts, cut after each number of bytes, from a file and from a pipe that is closed there."""
+    return [(cut, name, at, is_piped) for name, (_, text, _) in TEXTS.items() for at in range(len(text) + 1)
+            for is_piped in (False, True)]
 
 
 def shape(found):

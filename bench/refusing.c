@@ -1,11 +1,14 @@
 // Loaded before the C library (LD_PRELOAD), this refuses a call that the program makes of it, or cuts its reads and
-// writes short. REFUSED_CALL is growth, read, write or thread; REFUSED_AT the number of the call, from 1; with
+// writes short. REFUSED_CALL is growth, read, write, thread, open or affinity; REFUSED_AT the number of the call, from 1; with
 // REFUSED_ON all that follow are refused too. REFUSED_ERROR is the error's number. REFUSED_STEP is the most bytes that
 // a read or a write moves. Each refusal writes a byte to the file REFUSED_TOLD, a number.
 #define _GNU_SOURCE
 #include <dlfcn.h>
 #include <errno.h>
+#include <fcntl.h>
 #include <pthread.h>
+#include <sched.h>
+#include <stdarg.h>
 #include <stdatomic.h>
 #include <stdlib.h>
 #include <string.h>
@@ -75,4 +78,25 @@ int pthread_create(pthread_t *thread, const pthread_attr_t *how, void *(*start)(
         return EAGAIN;
     int (*create)(pthread_t *, const pthread_attr_t *, void *(*)(void *), void *) = dlsym(RTLD_NEXT, "pthread_create");
     return create(thread, how, start, given);
+}
+
+int open(const char *path, int flags, ...) {
+    if (is_refused("open")) {
+        errno = (int)number("REFUSED_ERROR");
+        return -1;
+    }
+    va_list more;
+    va_start(more, flags);
+    int mode = flags & O_CREAT ? va_arg(more, int) : 0;
+    va_end(more);
+    return (int)syscall(SYS_openat, AT_FDCWD, path, flags, mode);
+}
+
+int sched_getaffinity(pid_t process, size_t size, cpu_set_t *processors) {
+    if (is_refused("affinity")) {
+        errno = (int)number("REFUSED_ERROR");
+        return -1;
+    }
+    int (*get)(pid_t, size_t, cpu_set_t *) = dlsym(RTLD_NEXT, "sched_getaffinity");
+    return get(process, size, processors);
 }
