@@ -5,15 +5,16 @@ Usage: bench/hostile.py [PROGRAM] [FAMILY..]   (PROGRAM: crates/poets/out/poets,
 
 growths   each growth of memory refused, alone and with all that follow; the address space limited, step by step
 reads     short reads; each read failing in turn; sources that cannot be read, or give bytes for ever
-writes    short writes; each write failing in turn, and each byte that is too much; sinks that cannot be written
-cuts      two sessions cut after each number of bytes
+writes    each write failing in turn, and each byte that is too much; sinks that cannot be written, or are left
+cuts      two sessions cut after each number of bytes, in a file and in a pipe
 bytes     each byte of them replaced by each of the 256
 limits    statements at and one past each limit of the language
-depths    200 brackets and 1,000 operators, on the main stack and on a thread's, of 8 MB, 4 MB, or without limit
+depths    200 brackets and 1,000 operators, on the main stack and on a thread's, of 8, 4 or 3 MB, or without limit
 edges     names, numbers and days at their edges
 unknown   65,536 commands of each kind on names that nothing has
 words     words that are no command form
-threads   64 clerks on one processor, stopped and continued, with a limit of processes, and with threads refused
+threads   64 clerks on one processor, stopped and continued, with a limit of processes, and with threads refused; and
+          a portfolio that is made by threads
 kills     64 clerks, killed while they work or write
 
 What a run must end with is what docs/LANGUAGE.md says: of a cut or changed text by bench/language.py, of a history by

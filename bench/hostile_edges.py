@@ -11,8 +11,8 @@ from running import is_so, kept_text, run, told_wrong
 TAKEN = "report taken(n: Int): Int = fold x = n with (s, v, r, t) in x;;\n"
 HELD = "report held(n: Bool): Bool = fold x = n with (s, v, r, t) in x;;\n"
 BOOK_OF_ALL = HEAD + TAKEN + HELD + ANY
-# A stack of the usual size, of half of it, and of no limit, where those of threads have 2 MB.
-STACKS = (2**23, 2**22, resource.RLIM_INFINITY)
+# A stack of the usual size, of half of it, of 3 MB, and of no limit, where those of threads have 2 MB.
+STACKS = (2**23, 2**22, 3 * 2**20, resource.RLIM_INFINITY)
 
 
 def case(about, words, text, status, out, limits=None):
@@ -90,7 +90,8 @@ def numbers_of_bytes():
         yield case(f"16777217 bytes of {about}", "run", text + piece[:1], 6, LONGER)
     yield case("clerks", "run", b"clerk;;" * (MOST_BYTES // 7), 1, refused % (65, "TooMany"))
     yield case("a zero of so many digits", "run", b"0" * MOST_BYTES, 1, refused % (1, "NoSentence"))
-    for word, status, out in (("check", 0, "book: templates 0, reports 0\n"), ("replay", 1, refused % (1, "Misplaced"))):
+    empty = "book: templates 0, reports 0\n"
+    for word, status, out in (("check", 0, empty), ("replay", 1, refused % (1, "Misplaced"))):
         yield case("16777216 bytes of blanks", word, b" " * MOST_BYTES, status, out)
         yield case("16777217 bytes of blanks", word, b" " * (MOST_BYTES + 1), 6, LONGER)
     filled = SALE + b"#" * (MOST_BYTES - len(SALE))
@@ -143,15 +144,14 @@ def numbers_of_operators():
 
 
 def alternatives(first):
-    """143 transmissions to choose from, the first with this predicate: each is 6 wide where that is 4 wide, and then all
-    are 1,000 wide."""
+    """143 transmissions to choose from, the first with this predicate. Where that is 4 wide, all are 1,000 wide."""
     return " + ".join(f"transmit(a, b, r, t | {first if at == 1 else f'amount(r) = {at}'}). Success"
                       for at in range(1, 144))
 
 
 def widths():
-    """Contracts of the widths 1,000 and 1,001, and transmissions after which as much is owed: an application is one wider
-    than its template's body."""
+    """Contracts of the widths 1,000 and 1,001, and transmissions after which as much is owed. An application is one
+    wider than its template's body."""
     yield one_step("a width of 1000", "register c = " + alternatives("amount(r) = 1"), "registered 1")
     yield one_step("a width of 1001", "register c = " + alternatives("not amount(r) = 1"), "too large")
     transmit = f"register c = transmit(a, b, r, t | {997 * 'not '}true). Success"
@@ -163,9 +163,10 @@ def widths():
         later, event = "transmit(a, b, r, t | true). wide()", "transmit c ann bob 1 Oil @2006-01-01"
         replies = (("recorded 1, may end no", "events 1, may end no, ended no, residual wide()") if width == 1_000
                    else ("too large", f"events 0, may end no, ended no, residual {later}"))
-        yield case(f"a residual of the width {width}", "run", f"{book}clerk;; register c = {later};; {event};; show c;;",
-                   0, f"1 1: register c = {later} => registered 1\n2 1: {event} => {replies[0]}\n"
-                      f"3 1: show c => {replies[1]}\n")
+        text = f"{book}clerk;; register c = {later};; {event};; show c;;"
+        lines = (f"1 1: register c = {later} => registered 1\n2 1: {event} => {replies[0]}\n"
+                 f"3 1: show c => {replies[1]}\n")
+        yield case(f"a residual of the width {width}", "run", text, 0, lines)
 
 
 def limits():

@@ -98,7 +98,7 @@ def words_of(text):
 
 
 def ends_so(name, text, nth):
-    """How the run of the changed text ended, and whether it ended as it must: as before where its tokens are the same."""
+    """How the run of the changed text ended, and whether as it must: as before where its tokens are the same."""
     word, first, whole = TEXTS[name]
     ran = run(word, text)
     fault, all_of = language.early_fault(text, word)

@@ -55,8 +55,8 @@ def token(one):
 
 @functools.lru_cache(maxsize=1_000)
 def tokens_of_line(line):
-    """The tokens of the line, each with its place, up to the first byte that begins none; and its place and fault. Those
-    of the last lines are kept, since texts that are tried after one another differ in few."""
+    """The tokens of the line, each with its place, up to the first byte that begins none; and its place and fault. What
+    was found of the last lines is kept, since texts that are tried after one another differ in few."""
     at, found = 0, []
     while at < len(line):
         one = TOKEN.match(line, at)

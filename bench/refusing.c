@@ -1,7 +1,7 @@
 // Loaded before the C library (LD_PRELOAD), this refuses a call that the program makes of it, or cuts its reads and
-// writes short. REFUSED_CALL is growth, read, write, thread, open or affinity; REFUSED_AT the number of the call, from 1; with
-// REFUSED_ON all that follow are refused too. REFUSED_ERROR is the error's number. REFUSED_STEP is the most bytes that
-// a read or a write moves. Each refusal writes a byte to the file REFUSED_TOLD, a number.
+// writes short. REFUSED_CALL is growth, read, write, thread, open or affinity; REFUSED_AT the number of the call, from
+// 1; with REFUSED_ON all that follow are refused too. REFUSED_ERROR is the error's number. REFUSED_STEP is the most
+// bytes that a read or a write moves. Each refusal writes a byte to the file REFUSED_TOLD, a number.
 #define _GNU_SOURCE
 #include <dlfcn.h>
 #include <errno.h>
