@@ -164,29 +164,10 @@ def unwritable(words, text, status):
         os.close(file)
 
 
-def long_history():
-    """A session of one clerk whose history is some MB, and that history."""
-    ends = COMMANDS * b"end c;;\n"
-    return b"clerk;;\n" + ends, b"".join(b"%d 1: end c => no contract c\n" % at for at in range(1, COMMANDS + 1))
-
-
-def read_in_part(most):
-    """A pipe whose reader leaves after so many bytes: what it read is a front of the history."""
-    text, whole = long_history()
-    source, sink = os.pipe2(os.O_CLOEXEC)
-    found = []
-
-    def reader():
-        while sum(map(len, found)) < most:
-            found.append(os.read(source, 4_096))
-        os.close(source)
-    leaving = threading.Thread(target=reader)
-    leaving.start()
-    ran = run("run", text, sink=sink)._replace(out=b"")
-    leaving.join()
-    os.close(sink)
-    right = is_so(ran, 5, b"") and whole.startswith(b"".join(found))
-    yield None if right else told_wrong(f"a reader that leaves after {most} bytes", ran)
+def long_history(count=COMMANDS):
+    """A session of one clerk with so many commands, and its history, which is some MB by default."""
+    ends = count * b"end c;;\n"
+    return b"clerk;;\n" + ends, b"".join(b"%d 1: end c => no contract c\n" % at for at in range(1, count + 1))
 
 
 def read_up_to(source, most):
@@ -201,20 +182,33 @@ def read_up_to(source, most):
     return found
 
 
+def run_into_pipe(text, most, room):
+    """Runs the session into a pipe with such room, whose reader leaves after so many bytes; and what he read."""
+    source, sink = os.pipe2(os.O_CLOEXEC)
+    fcntl.fcntl(sink, fcntl.F_SETPIPE_SZ, room)
+    with ThreadPoolExecutor(1) as leaving:
+        reading = leaving.submit(read_up_to, source, most)
+        ran = run("run", text, sink=sink)
+        os.close(sink)
+    return ran, reading.result()
+
+
+def read_in_part(most):
+    """A pipe of the usual size whose reader leaves after so many bytes: what he read is a front of the history."""
+    text, whole = long_history()
+    ran, found = run_into_pipe(text, most, 65_536)
+    right = is_so(ran, 5, b"") and found == whole[:most]
+    yield None if right else told_wrong(f"a reader that leaves after {most} bytes", ran)
+
+
 def left_after(offset):
-    """A pipe that takes a page and whose reader leaves after each number of bytes: he read a front of the history, and
-    the program did not write it all, unless what he left fits into the pipe."""
-    text = b"clerk;;\n" + ENDS * b"end c;;\n"
-    whole = b"".join(b"%d 1: end c => no contract c\n" % at for at in range(1, ENDS + 1))
+    """A pipe of a page whose reader leaves after each number of bytes: he read a front of the history, and the program
+    did not write it all, unless what he left has room in the pipe."""
+    text, whole = long_history(ENDS)
     for most in range(offset, len(whole) + 1, STRIDE):
-        source, sink = os.pipe2(os.O_CLOEXEC)
-        fcntl.fcntl(sink, fcntl.F_SETPIPE_SZ, PAGE)
-        with ThreadPoolExecutor(1) as leaving:
-            reading = leaving.submit(read_up_to, source, most)
-            ran = run("run", text, sink=sink)
-            os.close(sink)
-        ended = (is_so(ran, 5, b"") or len(whole) <= most + PAGE and is_so(ran, 0, b""))
-        right = ended and reading.result() == whole[:most]
+        ran, found = run_into_pipe(text, most, PAGE)
+        ended = is_so(ran, 5, b"") or len(whole) <= most + PAGE and is_so(ran, 0, b"")
+        right = ended and found == whole[:most]
         yield None if right else told_wrong(f"a reader who leaves after {most} of {len(whole)} bytes", ran)
 
 
