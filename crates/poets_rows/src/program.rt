@@ -11,13 +11,15 @@ use std::test::Fail;
 use std::thread::Threads;
 
 /// How the source, the sink and the gate behave: the bytes of a read, the reads and writes that fail, and the clerks'
-/// calls that are held before their turns, or behind them.
+/// calls that are held: before their turns until another call is answered, before them until another's turn is over, or
+/// behind their own turns until another call is answered.
 #[derive(Clone, Copy)]
 pub(crate) struct Edges<'a> {
     pub step: usize,
     pub reads: &'a [u64],
     pub writes: &'a [u64],
     pub held: &'a [Hold],
+    pub held_behind: &'a [Hold],
     pub held_outside: &'a [Hold],
 }
 
@@ -26,6 +28,7 @@ pub(crate) const SOUND: Edges = Edges {
     reads: &[],
     writes: &[],
     held: &[],
+    held_behind: &[],
     held_outside: &[],
 };
 
@@ -120,7 +123,7 @@ pub(crate) fn ask<R: Threads + Wait + Sync>(
     let writes = list(alloc, edges.writes)?;
     let mut source = TextSource::new(alloc, bytes, edges.step.max(1), reads);
     let mut sink = TextSink::new(alloc, writes)?;
-    let gate = HoldingGate::new(alloc, edges.held, edges.held_outside)?;
+    let gate = HoldingGate::new(alloc, edges.held, edges.held_behind, edges.held_outside)?;
     let outcome = run(rt, alloc, words.as_slice(), &mut source, &mut sink, &gate);
     Ok(Answer {
         status: outcome.status,
