@@ -44,7 +44,7 @@ const BEHIND: &str = "1 1: register c = any() => registered 1
 fn a_portfolio_is_made_while_others_work(rt: HostRuntime) -> Result<(), Fail> {
     let alloc = rt.alloc();
     let text = joined(alloc, &[HEAD, ANY, SUM, BESIDE])?;
-    // The second clerk waits for the portfolio's turn to be over, and the portfolio is then made once he has his answer.
+    // The second clerk waits until the portfolio's turn is over, and the portfolio is made once he has his answer.
     let edges = Edges {
         held_behind: &[((2, 1), (1, 2))],
         held_outside: &[((1, 2), (2, 1))],
