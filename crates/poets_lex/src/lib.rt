@@ -9,8 +9,6 @@ mod lexer;
 mod names;
 mod piece;
 mod sign;
-#[cfg(test)]
-mod tests;
 mod token;
 mod word;
 

@@ -14,8 +14,6 @@ mod list;
 mod literal;
 mod sentence;
 mod step;
-#[cfg(test)]
-mod tests;
 
 pub use depth::is_too_deep;
 pub use fault::SyntaxFault;

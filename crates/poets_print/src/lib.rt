@@ -11,8 +11,6 @@ mod lines;
 mod pieces;
 mod replies;
 mod requests;
-#[cfg(test)]
-mod tests;
 mod words;
 
 pub use contracts::term_text;

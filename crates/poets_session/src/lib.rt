@@ -11,8 +11,6 @@ mod reading;
 mod scripts;
 mod session;
 mod splitting;
-#[cfg(test)]
-mod tests;
 mod validity;
 
 pub use fault::{SessionCause, SessionFault};

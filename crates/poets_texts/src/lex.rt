@@ -1,6 +1,6 @@
 //! Texts and their tokens, as the rules of the language have them.
 
-use crate::{LexFault, Names, Sign, Tok, Token, Word, tokens};
+use poets_lex::{LexFault, Names, Sign, Tok, Token, Word, tokens};
 use poets_value::{Day, List, Name};
 use std::alloc::Global;
 use std::process::Abort;

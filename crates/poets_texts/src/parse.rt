@@ -1,9 +1,9 @@
 //! Statements that are read, and how deep one may be nested.
 ghost use Rattle.std.specs.Prelude.{◌≡◌};
 
-use crate::{SyntaxFault, statement};
 use poets_call::{Command, Statement};
 use poets_lex::{Names, tokens};
+use poets_parse::{SyntaxFault, statement};
 use poets_value::Memory;
 use std::alloc::{AllocError, Global};
 use std::test::Fail;

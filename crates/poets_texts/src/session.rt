@@ -1,9 +1,9 @@
 //! Texts read, and statements checked, with ample memory.
 ghost use Rattle.std.specs.Prelude.{◌≤◌, length};
 
-use crate::{Form, SessionFault, fault_text, read, session_of};
+use crate::names::names_of;
 use poets_call::Statement;
-use poets_lex::{Names, tokens};
+use poets_session::{Form, SessionFault, fault_text, read, session_of};
 use poets_value::{List, Memory, Name, push};
 use std::alloc::Global;
 use std::process::Abort;
@@ -136,10 +136,7 @@ fn agents(alloc: Global, times: usize) -> Result<List<Statement>, Memory> {
 
 // The line of the first fault of the statements as a book, and no bytes where they are one. The table has `ann`.
 fn line_of_book(alloc: Global, statements: List<Statement>) -> Result<String, Memory> {
-    let mut names = Names::new(alloc);
-    if tokens(alloc, b"ann", &mut names).is_err() {
-        return Err(Memory);
-    }
+    let names = names_of(alloc, b"ann")?;
     match session_of(alloc, names, statements, Form::Book) {
         Ok(_) => Ok(String::new(alloc)),
         Err(fault) => fault_text(alloc, &fault),

@@ -1,10 +1,11 @@
 //! Tests that the printed texts are those of the language's rules.
 
-use crate::{command_text, line_text, reply_text, term_text};
+use crate::names::names_of;
 use poets_call::{Command, Entry, Folio, Reply};
 use poets_expr::build::boxed;
 use poets_expr::{Expr, Op};
-use poets_lex::{Names, tokens};
+use poets_lex::Names;
+use poets_print::{command_text, line_text, reply_text, term_text};
 use poets_report::Answer;
 use poets_syntax::build::{par, plus, seq, transmit};
 use poets_syntax::{Binders, Term};
@@ -37,11 +38,7 @@ const D: Name = Name { id: 10 };
 
 // The table of the names above.
 fn names(alloc: Global) -> Result<Names, Memory> {
-    let mut names = Names::new(alloc);
-    match tokens(alloc, b"ann bob Oil USD x y r t f c d", &mut names) {
-        Ok(_) => Ok(names),
-        Err(_) => Err(Memory),
-    }
+    names_of(alloc, b"ann bob Oil USD x y r t f c d")
 }
 
 // The day 2006-05-03.

@@ -1,0 +1,13 @@
+//! Texts cut, read and printed, and sessions, by the public functions of the front end.
+#![tactic(auto)]
+
+#[cfg(test)]
+mod lex;
+#[cfg(test)]
+mod names;
+#[cfg(test)]
+mod parse;
+#[cfg(test)]
+mod print;
+#[cfg(test)]
+mod session;
