@@ -1,28 +1,38 @@
 -- What the reader of statements answers, in the words of the grammar.
-use Rattle.std.proofs.Common.{◌≡◌, List, Some, None, sym, ◌∙◌, subst}
-use Rattle.std.specs.Prelude.{IfSome, IfOk, Result, Ok, Err}
+use Rattle.std.proofs.Common.{◌≡◌, ℕ, List, Some, None, sym, ◌∙◌, subst}
+use Rattle.std.specs.Prelude.{IfSome, IsErrAnd, Result, Ok, Err}
+use Rattle.std.specs.Result.{result_err}
 use Rattle.poets_lex.specs.declared.token.Tok.{Tok}
 use Rattle.poets_call.specs.declared.statement.Statement.{Statement}
 use Rattle.poets_call.specs.Sentences.{Sentence, sentence_of}
 use Rattle.poets_grammar.specs.Statements.{IsSentence}
 use Rattle.poets_grammar.specs.StatementReading.{sentence}
 use Rattle.poets_grammar.proofs.Statements.{sentence_sound, sentence_complete}
-use Rattle.poets_parse.specs.Gives.{Gives}
+use Rattle.poets_parse.specs.Gives.{Gives, Refuses, syntax_fault}
 use Rattle.poets_parse.specs.declared.fault.SyntaxFault.{SyntaxFault}
 use Rattle.poets_parse.specs.declared.fault.SyntaxFault.TheVariants as F
+use Rattle.poets_parse.specs.declared.fault.ReadFault.{ReadFault}
+use Rattle.poets_parse.specs.declared.fault.ReadFault.TheVariants as R
 
 -- a statement that was read is one
-pub read_is : (ts : List Tok) (r : Result Statement SyntaxFault) → Gives sentence_of r (sentence ts) → IfOk r (λ s. IsSentence ts (sentence_of s))
-read_is ts (Ok s) g = subst (λ x. IfSome x (IsSentence ts)) g (sentence_sound ts)
-read_is ts (Err f) g = tt
+pub read_is : (ts : List Tok) (s : Statement) → sentence ts ≡ Some (sentence_of s) → IsSentence ts (sentence_of s)
+read_is ts s g = subst (λ x. IfSome x (IsSentence ts)) g (sentence_sound ts)
+
+-- where a reader gave up there is none
+pub unfit_is : (ts : List Tok) → sentence ts ≡ None → (s : Sentence) → ¬ (IsSentence ts s)
+unfit_is ts g t i = let clash : None ≡ Some t = sym g ∙ sentence_complete i in absurd cc
+
+-- a reader that gave up has read nothing
+pub unfit_was : (ts : List Tok) (r : Result Statement ReadFault) (left : ℕ) → Gives sentence_of r (sentence ts) → result_err r ≡ Some (R.Unfit left) → sentence ts ≡ None
+unfit_was ts (Ok s) left g e = absurd cc
+unfit_was ts (Err (R.Unfit n)) left g e = g
+unfit_was ts (Err R.Memory) left g e = absurd cc
 
 -- where none was read there is none
-pub none_is : (ts : List Tok) (r : Result Statement SyntaxFault) → Gives sentence_of r (sentence ts) → r ≡ Err F.NoSentence → (s : Sentence) → ¬ (IsSentence ts s)
-none_is ts (Ok s) g e t i = absurd cc
-none_is ts (Err F.NoSentence) g e t i = let clash : None ≡ Some t = sym g ∙ sentence_complete i in absurd cc
-none_is ts (Err F.TooDeep) g e t i = absurd cc
-none_is ts (Err F.Memory) g e t i = absurd cc
+none_by : (ts : List Tok) (f : ReadFault) → Refuses f (sentence ts) → F.NoSentence ≡ syntax_fault f → (s : Sentence) → ¬ (IsSentence ts s)
+none_by ts (R.Unfit left) g e = unfit_is ts g
+none_by ts R.Memory g e = absurd cc
 
-pub if_read : {P : Type 0} (r : Result Statement SyntaxFault) → P → IfOk r (λ _. P)
-if_read (Ok s) p = p
-if_read (Err f) p = tt
+pub none_is : (ts : List Tok) (f : ReadFault) (r : Result Statement SyntaxFault) → Refuses f (sentence ts) → IsErrAnd r (λ e. e ≡ syntax_fault f) → r ≡ Err F.NoSentence →
+    (s : Sentence) → ¬ (IsSentence ts s)
+none_is ts f r g told e = none_by ts f g (subst (λ x. IsErrAnd x (λ y. y ≡ syntax_fault f)) e told)

@@ -6,9 +6,9 @@ ghost use Rattle.poets_grammar.specs.Tokens.{toks};
 ghost use Rattle.poets_grammar.specs.StatementReading as reading;
 ghost use Rattle.poets_parse.specs.Gives.{Gives};
 
-use crate::SyntaxFault;
 use crate::build::registration;
 use crate::contract::whole_contract;
+use crate::fault::ReadFault;
 use crate::list::{arguments, names};
 use crate::step::{first, last_day, last_name, name, natural, number, sign, whole, word};
 use poets_call::Command;
@@ -19,7 +19,7 @@ use std::alloc::Global;
 
 // names, up to the end
 #[tactic(auto, unfolding(poets_grammar::specs::StatementReading::whole_names))]
-pub(crate) fn whole_names(alloc: Global, tokens: &[Token]) -> Result<List<Name>, SyntaxFault>
+pub(crate) fn whole_names(alloc: Global, tokens: &[Token]) -> Result<List<Name>, ReadFault>
     ensures { Gives (λ names. names.items) result (reading.whole_names (toks tokens.now)) }
 {
     let (names, rest) = names(alloc, tokens)?;
@@ -28,7 +28,7 @@ pub(crate) fn whole_names(alloc: Global, tokens: &[Token]) -> Result<List<Name>,
 
 // "(" [ expression { "," expression } ] ")", up to the end
 #[tactic(auto, unfolding(poets_grammar::specs::StatementReading::whole_arguments))]
-fn whole_arguments(alloc: Global, tokens: &[Token]) -> Result<List<Expr>, SyntaxFault>
+fn whole_arguments(alloc: Global, tokens: &[Token]) -> Result<List<Expr>, ReadFault>
     ensures { Gives (λ args. map expression_of args.items) result (reading.whole_arguments (toks tokens.now)) }
 {
     let (args, rest) = arguments(alloc, tokens)?;
@@ -37,7 +37,7 @@ fn whole_arguments(alloc: Global, tokens: &[Token]) -> Result<List<Expr>, Syntax
 
 // "register" NAME "=" contract
 #[tactic(auto, unfolding(poets_grammar::specs::StatementReading::register))]
-fn register(alloc: Global, tokens: &[Token]) -> Result<Command, SyntaxFault>
+fn register(alloc: Global, tokens: &[Token]) -> Result<Command, ReadFault>
     ensures { Gives request_of result (reading.register (toks tokens.now)) }
 {
     let (name, rest) = name(tokens)?;
@@ -48,7 +48,7 @@ fn register(alloc: Global, tokens: &[Token]) -> Result<Command, SyntaxFault>
 
 // "transmit" NAME NAME NAME NUMBER NAME DAY: the contract, the sender, the receiver, the amount, the kind and the day
 #[tactic(auto, unfolding(poets_grammar::specs::StatementReading::transmission))]
-fn transmission(tokens: &[Token]) -> Result<Command, SyntaxFault>
+fn transmission(tokens: &[Token]) -> Result<Command, ReadFault>
     ensures { Gives request_of result (reading.transmission (toks tokens.now)) }
 {
     let (contract, rest) = name(tokens)?;
@@ -69,7 +69,7 @@ fn transmission(tokens: &[Token]) -> Result<Command, SyntaxFault>
 
 // "tally" NAME "(" [ expression { "," expression } ] ")"
 #[tactic(auto, unfolding(poets_grammar::specs::StatementReading::tally))]
-fn tally(alloc: Global, tokens: &[Token]) -> Result<Command, SyntaxFault>
+fn tally(alloc: Global, tokens: &[Token]) -> Result<Command, ReadFault>
     ensures { Gives request_of result (reading.tally (toks tokens.now)) }
 {
     let (report, rest) = name(tokens)?;
@@ -79,7 +79,7 @@ fn tally(alloc: Global, tokens: &[Token]) -> Result<Command, SyntaxFault>
 
 // "portfolio" NAME "(" [ expression { "," expression } ] ")" "over" names
 #[tactic(auto, unfolding(poets_grammar::specs::StatementReading::portfolio))]
-fn portfolio(alloc: Global, tokens: &[Token]) -> Result<Command, SyntaxFault>
+fn portfolio(alloc: Global, tokens: &[Token]) -> Result<Command, ReadFault>
     ensures { Gives request_of result (reading.portfolio (toks tokens.now)) }
 {
     let (report, rest) = name(tokens)?;
@@ -91,7 +91,7 @@ fn portfolio(alloc: Global, tokens: &[Token]) -> Result<Command, SyntaxFault>
 
 // "watch" NAME "(" [ expression { "," expression } ] ")"
 #[tactic(auto, unfolding(poets_grammar::specs::StatementReading::watch))]
-fn watch(alloc: Global, tokens: &[Token]) -> Result<Command, SyntaxFault>
+fn watch(alloc: Global, tokens: &[Token]) -> Result<Command, ReadFault>
     ensures { Gives request_of result (reading.watch (toks tokens.now)) }
 {
     let (report, rest) = name(tokens)?;
@@ -101,7 +101,7 @@ fn watch(alloc: Global, tokens: &[Token]) -> Result<Command, SyntaxFault>
 
 // "read" NUMBER
 #[tactic(auto, unfolding(poets_grammar::specs::StatementReading::read_watch))]
-fn read_watch(tokens: &[Token]) -> Result<Command, SyntaxFault>
+fn read_watch(tokens: &[Token]) -> Result<Command, ReadFault>
     ensures { Gives request_of result (reading.read_watch (toks tokens.now)) }
 {
     let (number, rest) = natural(tokens)?;
@@ -113,7 +113,7 @@ pub(crate) fn command_word(
     alloc: Global,
     word: Word,
     tokens: &[Token],
-) -> Result<Command, SyntaxFault>
+) -> Result<Command, ReadFault>
     ensures { Gives request_of result (reading.command_word word (toks tokens.now)) }
 {
     match word {
@@ -131,17 +131,17 @@ pub(crate) fn command_word(
         Word::Portfolio => portfolio(alloc, tokens),
         Word::Watch => watch(alloc, tokens),
         Word::Read => read_watch(tokens),
-        _ => Err(SyntaxFault::NoSentence),
+        _ => Err(ReadFault::ahead_of(tokens)),
     }
 }
 
 // command
 #[tactic(auto, unfolding(poets_grammar::specs::StatementReading::command))]
-pub(crate) fn command(alloc: Global, tokens: &[Token]) -> Result<Command, SyntaxFault>
+pub(crate) fn command(alloc: Global, tokens: &[Token]) -> Result<Command, ReadFault>
     ensures { Gives request_of result (reading.command (toks tokens.now)) }
 {
     match first(tokens) {
         Some((Tok::Word(word), rest)) => command_word(alloc, word, rest),
-        _ => Err(SyntaxFault::NoSentence),
+        _ => Err(ReadFault::at(tokens)),
     }
 }

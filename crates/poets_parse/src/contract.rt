@@ -5,8 +5,8 @@ ghost use Rattle.poets_grammar.specs.Tokens.{toks};
 ghost use Rattle.poets_grammar.specs.ContractReading as reading;
 ghost use Rattle.poets_parse.specs.Gives.{Gives, GivesFront, LeavesLess};
 
-use crate::SyntaxFault;
 use crate::expression::expression;
+use crate::fault::ReadFault;
 use crate::list::{arguments, binders};
 use crate::step::{behind_sign, first, sign, whole};
 use poets_lex::{Sign, Tok, Token, Word};
@@ -17,7 +17,7 @@ use std::alloc::Global;
 // contract = parallel { "+" parallel }
 #[tactic(auto, using(crate::proofs::Loops::joining), unfolding(poets_grammar::specs::ContractReading::contract, poets_grammar::specs::ContractReading::choice))]
 #[cycle(contract)]
-pub(crate) fn contract(alloc: Global, tokens: &[Token]) -> Result<(Term, &[Token]), SyntaxFault>
+pub(crate) fn contract(alloc: Global, tokens: &[Token]) -> Result<(Term, &[Token]), ReadFault>
     ensures gives { GivesFront contract_of result (reading.contract (toks tokens.now)) }
     ensures shorter { LeavesLess tokens.now result }
 {
@@ -33,7 +33,7 @@ pub(crate) fn contract(alloc: Global, tokens: &[Token]) -> Result<(Term, &[Token
 // parallel = sequence { "||" sequence }
 #[tactic(auto, using(crate::proofs::Loops::joining), unfolding(poets_grammar::specs::ContractReading::parallel))]
 #[cycle(contract)]
-fn parallel(alloc: Global, tokens: &[Token]) -> Result<(Term, &[Token]), SyntaxFault>
+fn parallel(alloc: Global, tokens: &[Token]) -> Result<(Term, &[Token]), ReadFault>
     ensures gives { GivesFront contract_of result (reading.parallel reading.simple (toks tokens.now)) }
     ensures shorter { LeavesLess tokens.now result }
 {
@@ -49,7 +49,7 @@ fn parallel(alloc: Global, tokens: &[Token]) -> Result<(Term, &[Token]), SyntaxF
 // sequence = simple { ";" simple }
 #[tactic(auto, using(crate::proofs::Loops::joining), unfolding(poets_grammar::specs::ContractReading::sequence))]
 #[cycle(contract)]
-fn sequence(alloc: Global, tokens: &[Token]) -> Result<(Term, &[Token]), SyntaxFault>
+fn sequence(alloc: Global, tokens: &[Token]) -> Result<(Term, &[Token]), ReadFault>
     ensures gives { GivesFront contract_of result (reading.sequence reading.simple (toks tokens.now)) }
     ensures shorter { LeavesLess tokens.now result }
 {
@@ -65,7 +65,7 @@ fn sequence(alloc: Global, tokens: &[Token]) -> Result<(Term, &[Token]), SyntaxF
 // simple, by its first token
 #[tactic(auto, using(poets_grammar::proofs::ContractComplete::simple_again), unfolding(poets_grammar::specs::ContractReading::simple_step))]
 #[cycle(contract)]
-fn simple(alloc: Global, tokens: &[Token]) -> Result<(Term, &[Token]), SyntaxFault>
+fn simple(alloc: Global, tokens: &[Token]) -> Result<(Term, &[Token]), ReadFault>
     ensures gives { GivesFront contract_of result (reading.simple (toks tokens.now)) }
     ensures shorter { LeavesLess tokens.now result }
 {
@@ -75,14 +75,14 @@ fn simple(alloc: Global, tokens: &[Token]) -> Result<(Term, &[Token]), SyntaxFau
         Some((Tok::Word(Word::Failure), rest)) => Ok((Term::Failure, rest)),
         Some((Tok::Name(name), rest)) => application(alloc, name, rest),
         Some((Tok::Sign(Sign::LeftParen), rest)) => closed(alloc, rest),
-        _ => Err(SyntaxFault::NoSentence),
+        _ => Err(ReadFault::at(tokens)),
     }
 }
 
 // contract ")"
 #[tactic(auto, unfolding(poets_grammar::specs::ContractReading::closed_contract, poets_grammar::specs::ContractReading::contract))]
 #[cycle(contract)]
-fn closed(alloc: Global, tokens: &[Token]) -> Result<(Term, &[Token]), SyntaxFault>
+fn closed(alloc: Global, tokens: &[Token]) -> Result<(Term, &[Token]), ReadFault>
     ensures gives { GivesFront contract_of result (reading.closed_contract reading.simple (toks tokens.now)) }
     ensures shorter { LeavesLess tokens.now result }
 {
@@ -94,7 +94,7 @@ fn closed(alloc: Global, tokens: &[Token]) -> Result<(Term, &[Token]), SyntaxFau
 // "transmit" "(" NAME "," NAME "," NAME "," NAME "|" expr ")" "." simple, after the word
 #[tactic(auto, unfolding(poets_grammar::specs::ContractReading::transmit))]
 #[cycle(contract)]
-fn transmit(alloc: Global, tokens: &[Token]) -> Result<(Term, &[Token]), SyntaxFault>
+fn transmit(alloc: Global, tokens: &[Token]) -> Result<(Term, &[Token]), ReadFault>
     ensures gives { GivesFront contract_of result (reading.transmit reading.simple (toks tokens.now)) }
     ensures shorter { LeavesLess tokens.now result }
 {
@@ -110,7 +110,7 @@ fn transmit(alloc: Global, tokens: &[Token]) -> Result<(Term, &[Token]), SyntaxF
 
 // call, after its name
 #[tactic(auto, unfolding(poets_grammar::specs::ContractReading::application))]
-fn application(alloc: Global, name: Name, tokens: &[Token]) -> Result<(Term, &[Token]), SyntaxFault>
+fn application(alloc: Global, name: Name, tokens: &[Token]) -> Result<(Term, &[Token]), ReadFault>
     ensures gives { GivesFront contract_of result (reading.application name (toks tokens.now)) }
     ensures shorter { LeavesLess tokens.now result }
 {
@@ -120,7 +120,7 @@ fn application(alloc: Global, name: Name, tokens: &[Token]) -> Result<(Term, &[T
 
 // contract, up to the end
 #[tactic(auto, unfolding(poets_grammar::specs::ContractReading::whole_contract))]
-pub(crate) fn whole_contract(alloc: Global, tokens: &[Token]) -> Result<Term, SyntaxFault>
+pub(crate) fn whole_contract(alloc: Global, tokens: &[Token]) -> Result<Term, ReadFault>
     ensures { Gives contract_of result (reading.whole_contract (toks tokens.now)) }
 {
     let (contract, rest) = contract(alloc, tokens)?;

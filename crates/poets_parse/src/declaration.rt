@@ -7,9 +7,9 @@ ghost use Rattle.poets_grammar.specs.Reading as expressions;
 ghost use Rattle.poets_grammar.specs.StatementReading as reading;
 ghost use Rattle.poets_parse.specs.Gives.{Gives, GivesFront};
 
-use crate::SyntaxFault;
 use crate::contract::whole_contract;
 use crate::expression::expression;
+use crate::fault::ReadFault;
 use crate::list::{binders, parameters};
 use crate::step::{behind_word, name, sign, type_name, whole, word};
 use poets_call::Statement;
@@ -22,7 +22,7 @@ use std::alloc::Global;
 
 // "template" NAME "(" [ params ] ")" "=" contract
 #[tactic(auto, unfolding(poets_grammar::specs::StatementReading::template))]
-pub(crate) fn template(alloc: Global, tokens: &[Token]) -> Result<Statement, SyntaxFault>
+pub(crate) fn template(alloc: Global, tokens: &[Token]) -> Result<Statement, ReadFault>
     ensures { Gives sentence_of result (reading.template (toks tokens.now)) }
 {
     let (name, rest) = name(tokens)?;
@@ -37,7 +37,7 @@ pub(crate) fn template(alloc: Global, tokens: &[Token]) -> Result<Statement, Syn
 fn report_head(
     alloc: Global,
     tokens: &[Token],
-) -> Result<((Name, List<Param>, Ty), &[Token]), SyntaxFault>
+) -> Result<((Name, List<Param>, Ty), &[Token]), ReadFault>
     ensures { GivesFront (λ head. (head.0, head.1.items, head.2)) result (reading.report_head (toks tokens.now)) }
 {
     let (name, rest) = name(tokens)?;
@@ -50,7 +50,7 @@ fn report_head(
 
 // "fold" NAME "=" expression
 #[tactic(auto, unfolding(poets_grammar::specs::StatementReading::report_start))]
-fn report_start(alloc: Global, tokens: &[Token]) -> Result<((Name, Expr), &[Token]), SyntaxFault>
+fn report_start(alloc: Global, tokens: &[Token]) -> Result<((Name, Expr), &[Token]), ReadFault>
     ensures { GivesFront (λ start. (start.0, expression_of start.1)) result (reading.report_start (toks tokens.now)) }
 {
     let rest = word(Word::Fold, tokens)?;
@@ -62,7 +62,7 @@ fn report_start(alloc: Global, tokens: &[Token]) -> Result<((Name, Expr), &[Toke
 
 // "with" "(" NAME "," NAME "," NAME "," NAME ")" "in"
 #[tactic(auto, unfolding(poets_grammar::specs::StatementReading::report_binders))]
-fn report_binders(tokens: &[Token]) -> Result<(Binders, &[Token]), SyntaxFault>
+fn report_binders(tokens: &[Token]) -> Result<(Binders, &[Token]), ReadFault>
     ensures { GivesFront (λ x. x) result (reading.report_binders (toks tokens.now)) }
 {
     let rest = word(Word::With, tokens)?;
@@ -75,7 +75,7 @@ fn report_binders(tokens: &[Token]) -> Result<(Binders, &[Token]), SyntaxFault>
 
 // expression, up to the end
 #[tactic(auto, unfolding(poets_grammar::specs::Reading::whole_expression))]
-fn whole_expression(alloc: Global, tokens: &[Token]) -> Result<Expr, SyntaxFault>
+fn whole_expression(alloc: Global, tokens: &[Token]) -> Result<Expr, ReadFault>
     ensures { Gives expression_of result (expressions.whole_expression (toks tokens.now)) }
 {
     let (expression, rest) = expression(alloc, tokens)?;
@@ -84,7 +84,7 @@ fn whole_expression(alloc: Global, tokens: &[Token]) -> Result<Expr, SyntaxFault
 
 // expression [ "by" expression ]
 #[tactic(auto, unfolding(poets_grammar::specs::StatementReading::report_step))]
-fn report_step(alloc: Global, tokens: &[Token]) -> Result<(Expr, Option<Expr>), SyntaxFault>
+fn report_step(alloc: Global, tokens: &[Token]) -> Result<(Expr, Option<Expr>), ReadFault>
     ensures { Gives (λ r. (expression_of r.0, option_map expression_of r.1)) result (reading.report_step (toks tokens.now)) }
 {
     let (step, rest) = expression(alloc, tokens)?;
@@ -100,7 +100,7 @@ fn report_step(alloc: Global, tokens: &[Token]) -> Result<(Expr, Option<Expr>), 
 // "report" NAME "(" [ params ] ")" ":" type "=" "fold" NAME "=" expression
 // "with" "(" NAME "," NAME "," NAME "," NAME ")" "in" expression [ "by" expression ]
 #[tactic(auto, unfolding(poets_grammar::specs::StatementReading::report))]
-pub(crate) fn report(alloc: Global, tokens: &[Token]) -> Result<Statement, SyntaxFault>
+pub(crate) fn report(alloc: Global, tokens: &[Token]) -> Result<Statement, ReadFault>
     ensures { Gives sentence_of result (reading.report (toks tokens.now)) }
 {
     let ((name, params, ty), rest) = report_head(alloc, tokens)?;

@@ -5,11 +5,12 @@ ghost use Rattle.poets_grammar.specs.Tokens.{toks};
 ghost use Rattle.poets_grammar.specs.Reading as reading;
 ghost use Rattle.poets_parse.specs.Gives.{GivesFront, LeavesLess};
 
+use crate::build;
+use crate::fault::ReadFault;
 use crate::literal::{day_literal, literal, negative, resource, undefined_of};
 use crate::step::{
     AND, COMPARE, OR, PRODUCT, SUM, behind_sign, behind_word, first, operator, sign, word,
 };
-use crate::{SyntaxFault, build};
 use poets_expr::Expr;
 use poets_expr::build::boxed;
 use poets_lex::{Sign, Tok, Token, Word};
@@ -18,7 +19,7 @@ use std::alloc::Global;
 // expression = conjunction { "or" conjunction }
 #[tactic(auto, using(crate::proofs::Loops::joining, poets_grammar::proofs::Complete::expression_again), unfolding(poets_grammar::specs::Reading::disjunction))]
 #[cycle(expression)]
-pub(crate) fn expression(alloc: Global, tokens: &[Token]) -> Result<(Expr, &[Token]), SyntaxFault>
+pub(crate) fn expression(alloc: Global, tokens: &[Token]) -> Result<(Expr, &[Token]), ReadFault>
     ensures gives { GivesFront expression_of result (reading.expression (toks tokens.now)) }
     ensures shorter { LeavesLess tokens.now result }
 {
@@ -34,7 +35,7 @@ pub(crate) fn expression(alloc: Global, tokens: &[Token]) -> Result<(Expr, &[Tok
 // conjunction = negation { "and" negation }
 #[tactic(auto, using(crate::proofs::Loops::joining), unfolding(poets_grammar::specs::Reading::conjunction))]
 #[cycle(expression)]
-fn conjunction(alloc: Global, tokens: &[Token]) -> Result<(Expr, &[Token]), SyntaxFault>
+fn conjunction(alloc: Global, tokens: &[Token]) -> Result<(Expr, &[Token]), ReadFault>
     ensures gives { GivesFront expression_of result (reading.conjunction reading.expression (toks tokens.now)) }
     ensures shorter { LeavesLess tokens.now result }
 {
@@ -50,7 +51,7 @@ fn conjunction(alloc: Global, tokens: &[Token]) -> Result<(Expr, &[Token]), Synt
 // negation = "not" negation | comparison
 #[tactic(auto, unfolding(poets_grammar::specs::Reading::negation))]
 #[cycle(expression)]
-fn negation(alloc: Global, tokens: &[Token]) -> Result<(Expr, &[Token]), SyntaxFault>
+fn negation(alloc: Global, tokens: &[Token]) -> Result<(Expr, &[Token]), ReadFault>
     ensures gives { GivesFront expression_of result (reading.negation reading.expression (toks tokens.now)) }
     ensures shorter { LeavesLess tokens.now result }
 {
@@ -64,7 +65,7 @@ fn negation(alloc: Global, tokens: &[Token]) -> Result<(Expr, &[Token]), SyntaxF
 // comparison = sum [ ( "=" | "<>" | "<" | "<=" | ">" | ">=" ) sum ]
 #[tactic(auto, unfolding(poets_grammar::specs::Reading::comparison))]
 #[cycle(expression)]
-fn comparison(alloc: Global, tokens: &[Token]) -> Result<(Expr, &[Token]), SyntaxFault>
+fn comparison(alloc: Global, tokens: &[Token]) -> Result<(Expr, &[Token]), ReadFault>
     ensures gives { GivesFront expression_of result (reading.comparison reading.expression (toks tokens.now)) }
     ensures shorter { LeavesLess tokens.now result }
 {
@@ -75,7 +76,7 @@ fn comparison(alloc: Global, tokens: &[Token]) -> Result<(Expr, &[Token]), Synta
     let (right, rest) = sum(alloc, behind)?;
     // Comparisons do not chain.
     if operator(COMPARE, rest).is_some() {
-        return Err(SyntaxFault::NoSentence);
+        return Err(ReadFault::at(rest));
     }
     Ok((build::binary(alloc, op, left, right)?, rest))
 }
@@ -83,7 +84,7 @@ fn comparison(alloc: Global, tokens: &[Token]) -> Result<(Expr, &[Token]), Synta
 // sum = product { ( "+" | "-" ) product }
 #[tactic(auto, using(crate::proofs::Loops::joining), unfolding(poets_grammar::specs::Reading::sum))]
 #[cycle(expression)]
-fn sum(alloc: Global, tokens: &[Token]) -> Result<(Expr, &[Token]), SyntaxFault>
+fn sum(alloc: Global, tokens: &[Token]) -> Result<(Expr, &[Token]), ReadFault>
     ensures gives { GivesFront expression_of result (reading.sum reading.expression (toks tokens.now)) }
     ensures shorter { LeavesLess tokens.now result }
 {
@@ -99,7 +100,7 @@ fn sum(alloc: Global, tokens: &[Token]) -> Result<(Expr, &[Token]), SyntaxFault>
 // product = prefixed { ( "*" | "/" | "%" ) prefixed }
 #[tactic(auto, using(crate::proofs::Loops::joining), unfolding(poets_grammar::specs::Reading::product))]
 #[cycle(expression)]
-fn product(alloc: Global, tokens: &[Token]) -> Result<(Expr, &[Token]), SyntaxFault>
+fn product(alloc: Global, tokens: &[Token]) -> Result<(Expr, &[Token]), ReadFault>
     ensures gives { GivesFront expression_of result (reading.product reading.expression (toks tokens.now)) }
     ensures shorter { LeavesLess tokens.now result }
 {
@@ -115,7 +116,7 @@ fn product(alloc: Global, tokens: &[Token]) -> Result<(Expr, &[Token]), SyntaxFa
 // prefixed = "-" NUMBER | "-" prefixed | primary, where a "-" directly before a NUMBER is the first
 #[tactic(auto, unfolding(poets_grammar::specs::Reading::prefixed))]
 #[cycle(expression)]
-fn prefixed(alloc: Global, tokens: &[Token]) -> Result<(Expr, &[Token]), SyntaxFault>
+fn prefixed(alloc: Global, tokens: &[Token]) -> Result<(Expr, &[Token]), ReadFault>
     ensures gives { GivesFront expression_of result (reading.prefixed reading.expression (toks tokens.now)) }
     ensures shorter { LeavesLess tokens.now result }
 {
@@ -132,12 +133,12 @@ fn prefixed(alloc: Global, tokens: &[Token]) -> Result<(Expr, &[Token]), SyntaxF
 // primary = NUMBER | DAY | NAME | "[" [ "-" ] NUMBER NAME "]" | "(" expression ")", and what begins with a word
 #[tactic(auto, unfolding(poets_grammar::specs::Reading::primary))]
 #[cycle(expression)]
-fn primary(alloc: Global, tokens: &[Token]) -> Result<(Expr, &[Token]), SyntaxFault>
+fn primary(alloc: Global, tokens: &[Token]) -> Result<(Expr, &[Token]), ReadFault>
     ensures gives { GivesFront expression_of result (reading.primary reading.expression (toks tokens.now)) }
     ensures shorter { LeavesLess tokens.now result }
 {
     let Some((tok, rest)) = first(tokens) else {
-        return Err(SyntaxFault::NoSentence);
+        return Err(ReadFault::at(tokens));
     };
     match tok {
         Tok::Number(_) => literal(tokens),
@@ -146,17 +147,13 @@ fn primary(alloc: Global, tokens: &[Token]) -> Result<(Expr, &[Token]), SyntaxFa
         Tok::Word(word) => primary_word(alloc, word, rest),
         Tok::Sign(Sign::LeftBracket) => resource(rest),
         Tok::Sign(Sign::LeftParen) => closed(alloc, rest),
-        Tok::Sign(_) => Err(SyntaxFault::NoSentence),
+        Tok::Sign(_) => Err(ReadFault::at(tokens)),
     }
 }
 
 // "true" | "false" | "undefined" type | "amount" .. | "kind" .. | "res" .. | "if" .., after the word
 #[cycle(expression)]
-fn primary_word(
-    alloc: Global,
-    word: Word,
-    tokens: &[Token],
-) -> Result<(Expr, &[Token]), SyntaxFault>
+fn primary_word(alloc: Global, word: Word, tokens: &[Token]) -> Result<(Expr, &[Token]), ReadFault>
     ensures gives { GivesFront expression_of result (reading.primary_word reading.expression word (toks tokens.now)) }
     ensures shorter { IfOk result (λ r. length r.1.now ≤ length tokens.now) }
 {
@@ -168,14 +165,14 @@ fn primary_word(
         Word::Kind => kind_of(alloc, tokens),
         Word::Res => made(alloc, tokens),
         Word::If => conditional(alloc, tokens),
-        _ => Err(SyntaxFault::NoSentence),
+        _ => Err(ReadFault::ahead_of(tokens)),
     }
 }
 
 // expression ")"
 #[tactic(auto, unfolding(poets_grammar::specs::Reading::closed))]
 #[cycle(expression)]
-fn closed(alloc: Global, tokens: &[Token]) -> Result<(Expr, &[Token]), SyntaxFault>
+fn closed(alloc: Global, tokens: &[Token]) -> Result<(Expr, &[Token]), ReadFault>
     ensures gives { GivesFront expression_of result (reading.closed reading.expression (toks tokens.now)) }
     ensures shorter { LeavesLess tokens.now result }
 {
@@ -187,7 +184,7 @@ fn closed(alloc: Global, tokens: &[Token]) -> Result<(Expr, &[Token]), SyntaxFau
 // "amount" "(" expression ")", after the word
 #[tactic(auto, unfolding(poets_grammar::specs::Reading::applied))]
 #[cycle(expression)]
-fn amount_of(alloc: Global, tokens: &[Token]) -> Result<(Expr, &[Token]), SyntaxFault>
+fn amount_of(alloc: Global, tokens: &[Token]) -> Result<(Expr, &[Token]), ReadFault>
     ensures gives { GivesFront expression_of result (reading.applied AmountOf reading.expression (toks tokens.now)) }
     ensures shorter { LeavesLess tokens.now result }
 {
@@ -199,7 +196,7 @@ fn amount_of(alloc: Global, tokens: &[Token]) -> Result<(Expr, &[Token]), Syntax
 // "kind" "(" expression ")", after the word
 #[tactic(auto, unfolding(poets_grammar::specs::Reading::applied))]
 #[cycle(expression)]
-fn kind_of(alloc: Global, tokens: &[Token]) -> Result<(Expr, &[Token]), SyntaxFault>
+fn kind_of(alloc: Global, tokens: &[Token]) -> Result<(Expr, &[Token]), ReadFault>
     ensures gives { GivesFront expression_of result (reading.applied KindOf reading.expression (toks tokens.now)) }
     ensures shorter { LeavesLess tokens.now result }
 {
@@ -211,7 +208,7 @@ fn kind_of(alloc: Global, tokens: &[Token]) -> Result<(Expr, &[Token]), SyntaxFa
 // "res" "(" expression "," expression ")", after the word
 #[tactic(auto, unfolding(poets_grammar::specs::Reading::made))]
 #[cycle(expression)]
-fn made(alloc: Global, tokens: &[Token]) -> Result<(Expr, &[Token]), SyntaxFault>
+fn made(alloc: Global, tokens: &[Token]) -> Result<(Expr, &[Token]), ReadFault>
     ensures gives { GivesFront expression_of result (reading.made reading.expression (toks tokens.now)) }
     ensures shorter { LeavesLess tokens.now result }
 {
@@ -225,7 +222,7 @@ fn made(alloc: Global, tokens: &[Token]) -> Result<(Expr, &[Token]), SyntaxFault
 // "if" expression "then" expression "else" expression "end", after the first word
 #[tactic(auto, unfolding(poets_grammar::specs::Reading::conditional))]
 #[cycle(expression)]
-fn conditional(alloc: Global, tokens: &[Token]) -> Result<(Expr, &[Token]), SyntaxFault>
+fn conditional(alloc: Global, tokens: &[Token]) -> Result<(Expr, &[Token]), ReadFault>
     ensures gives { GivesFront expression_of result (reading.conditional reading.expression (toks tokens.now)) }
     ensures shorter { LeavesLess tokens.now result }
 {

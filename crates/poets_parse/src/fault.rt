@@ -1,6 +1,8 @@
 //! Why tokens are no statement.
-ghost use Rattle.std.specs.Prelude.{◌≡◌};
+ghost use Rattle.std.specs.Prelude.{◌≡◌, ◌+◌, length};
+ghost use Rattle.poets_parse.specs.declared.fault.ReadFault.TheVariants as R;
 
+use poets_lex::Token;
 use poets_value::Memory;
 use thiserror::Error;
 
@@ -20,12 +22,55 @@ pub enum SyntaxFault {
     Memory,
 }
 
-impl From<Memory> for SyntaxFault {
-    ghost use Rattle.poets_parse.specs.declared.fault.SyntaxFault.{SyntaxFault};
+/// Why a reader gave up.
+#[derive(Debug, Clone, Copy, PartialEq, Eq)]
+pub(crate) enum ReadFault {
+    /// The first token that is not yet read, with which so many are left, is not what has to stand there.
+    Unfit { left: usize },
 
-    ghost from_gives = { λ _ e. e ≡ SyntaxFault.Memory };
+    /// Want of memory.
+    Memory,
+}
 
-    fn from(_: Memory) -> SyntaxFault {
-        SyntaxFault::Memory
+impl ReadFault {
+    /// The first of these tokens, or their end, is not what has to stand there.
+    pub(crate) fn at(tokens: &[Token]) -> ReadFault
+        ensures { result ≡ R.Unfit (length tokens.now) }
+    {
+        ReadFault::Unfit { left: tokens.len() }
+    }
+
+    /// The token right ahead of these is not what has to stand there.
+    pub(crate) fn ahead_of(tokens: &[Token]) -> ReadFault
+        ensures { result ≡ R.Unfit (length tokens.now + 1) }
+    {
+        ReadFault::Unfit {
+            left: tokens.len() + 1,
+        }
+    }
+}
+
+impl From<Memory> for ReadFault {
+    ghost use Rattle.std.specs.Prelude.{◌≡◌};
+    ghost use Rattle.poets_parse.specs.declared.fault.ReadFault.TheVariants as R;
+
+    ghost from_gives = { λ _ e. e ≡ R.Memory };
+
+    fn from(_: Memory) -> ReadFault {
+        ReadFault::Memory
+    }
+}
+
+impl From<ReadFault> for SyntaxFault {
+    ghost use Rattle.std.specs.Prelude.{◌≡◌};
+    ghost use Rattle.poets_parse.specs.Gives.{syntax_fault};
+
+    ghost from_gives = { λ fault e. e ≡ syntax_fault fault };
+
+    fn from(fault: ReadFault) -> SyntaxFault {
+        match fault {
+            ReadFault::Unfit { .. } => SyntaxFault::NoSentence,
+            ReadFault::Memory => SyntaxFault::Memory,
+        }
     }
 }

@@ -17,4 +17,4 @@ mod step;
 
 pub use depth::is_too_deep;
 pub use fault::SyntaxFault;
-pub use sentence::statement;
+pub use sentence::{begun, statement};

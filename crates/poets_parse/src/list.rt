@@ -7,8 +7,8 @@ ghost use Rattle.poets_grammar.specs.ContractReading as contracts;
 ghost use Rattle.poets_grammar.specs.StatementReading as statements;
 ghost use Rattle.poets_parse.specs.Gives.{GivesFront, LeavesLess};
 
-use crate::SyntaxFault;
 use crate::expression::expression;
+use crate::fault::ReadFault;
 use crate::step::{behind_sign, name, sign, type_name};
 use poets_expr::Expr;
 use poets_lex::{Sign, Token};
@@ -18,7 +18,7 @@ use std::alloc::Global;
 
 // NAME "," NAME "," NAME "," NAME
 #[tactic(auto, unfolding(poets_grammar::specs::ContractReading::binders))]
-pub(crate) fn binders(tokens: &[Token]) -> Result<(Binders, &[Token]), SyntaxFault>
+pub(crate) fn binders(tokens: &[Token]) -> Result<(Binders, &[Token]), ReadFault>
     ensures gives { GivesFront (λ x. x) result (contracts.binders (toks tokens.now)) }
     ensures shorter { LeavesLess tokens.now result }
 {
@@ -40,7 +40,7 @@ pub(crate) fn binders(tokens: &[Token]) -> Result<(Binders, &[Token]), SyntaxFau
 
 // names = NAME { "," NAME }
 #[tactic(auto, using(crate::proofs::Lists::listing))]
-pub(crate) fn names(alloc: Global, tokens: &[Token]) -> Result<(List<Name>, &[Token]), SyntaxFault>
+pub(crate) fn names(alloc: Global, tokens: &[Token]) -> Result<(List<Name>, &[Token]), ReadFault>
     ensures gives { GivesFront (λ l. l.items) result (reading.listed reading.name (toks tokens.now)) }
     ensures shorter { LeavesLess tokens.now result }
 {
@@ -58,7 +58,7 @@ pub(crate) fn names(alloc: Global, tokens: &[Token]) -> Result<(List<Name>, &[To
 
 // NAME ":" type
 #[tactic(auto, unfolding(poets_grammar::specs::StatementReading::parameter))]
-fn parameter(tokens: &[Token]) -> Result<(Param, &[Token]), SyntaxFault>
+fn parameter(tokens: &[Token]) -> Result<(Param, &[Token]), ReadFault>
     ensures gives { GivesFront (λ x. x) result (statements.parameter (toks tokens.now)) }
     ensures shorter { LeavesLess tokens.now result }
 {
@@ -70,7 +70,7 @@ fn parameter(tokens: &[Token]) -> Result<(Param, &[Token]), SyntaxFault>
 
 // params = NAME ":" type { "," NAME ":" type }
 #[tactic(auto, using(crate::proofs::Lists::listing))]
-fn some_parameters(alloc: Global, tokens: &[Token]) -> Result<(List<Param>, &[Token]), SyntaxFault>
+fn some_parameters(alloc: Global, tokens: &[Token]) -> Result<(List<Param>, &[Token]), ReadFault>
     ensures gives { GivesFront (λ l. l.items) result (reading.listed statements.parameter (toks tokens.now)) }
     ensures shorter { LeavesLess tokens.now result }
 {
@@ -91,7 +91,7 @@ fn some_parameters(alloc: Global, tokens: &[Token]) -> Result<(List<Param>, &[To
 pub(crate) fn parameters(
     alloc: Global,
     tokens: &[Token],
-) -> Result<(List<Param>, &[Token]), SyntaxFault>
+) -> Result<(List<Param>, &[Token]), ReadFault>
     ensures gives { GivesFront (λ l. l.items) result (statements.parameters (toks tokens.now)) }
     ensures shorter { LeavesLess tokens.now result }
 {
@@ -106,7 +106,7 @@ pub(crate) fn parameters(
 
 // expression { "," expression }
 #[tactic(auto, using(crate::proofs::Lists::listing))]
-fn some_arguments(alloc: Global, tokens: &[Token]) -> Result<(List<Expr>, &[Token]), SyntaxFault>
+fn some_arguments(alloc: Global, tokens: &[Token]) -> Result<(List<Expr>, &[Token]), ReadFault>
     ensures gives { GivesFront (λ l. map expression_of l.items) result (reading.listed reading.expression (toks tokens.now)) }
     ensures shorter { LeavesLess tokens.now result }
 {
@@ -127,7 +127,7 @@ fn some_arguments(alloc: Global, tokens: &[Token]) -> Result<(List<Expr>, &[Toke
 pub(crate) fn arguments(
     alloc: Global,
     tokens: &[Token],
-) -> Result<(List<Expr>, &[Token]), SyntaxFault>
+) -> Result<(List<Expr>, &[Token]), ReadFault>
     ensures gives { GivesFront (λ l. map expression_of l.items) result (reading.arguments (toks tokens.now)) }
     ensures shorter { LeavesLess tokens.now result }
 {

@@ -5,7 +5,7 @@ ghost use Rattle.poets_grammar.specs.Tokens.{toks};
 ghost use Rattle.poets_grammar.specs.Reading as reading;
 ghost use Rattle.poets_parse.specs.Gives.{GivesFront, LeavesLess};
 
-use crate::SyntaxFault;
+use crate::fault::ReadFault;
 use crate::step::{behind_sign, name, number, sign, type_name};
 use poets_expr::Expr;
 use poets_lex::{Sign, Tok, Token};
@@ -13,7 +13,7 @@ use poets_value::Resource;
 
 // NUMBER NAME "]"
 #[tactic(auto, unfolding(poets_grammar::specs::Reading::amount))]
-fn amount(tokens: &[Token]) -> Result<(Resource, &[Token]), SyntaxFault>
+fn amount(tokens: &[Token]) -> Result<(Resource, &[Token]), ReadFault>
     ensures gives { GivesFront (λ x. x) result (reading.amount (toks tokens.now)) }
     ensures natural { IfOk result (λ r. pos 0 ≤ℤ r.0.amount) }
     ensures shorter { LeavesLess tokens.now result }
@@ -26,7 +26,7 @@ fn amount(tokens: &[Token]) -> Result<(Resource, &[Token]), SyntaxFault>
 
 // The same, of a resource that is held
 #[tactic(auto, unfolding(poets_grammar::specs::Reading::credit))]
-fn credit(tokens: &[Token]) -> Result<(Expr, &[Token]), SyntaxFault>
+fn credit(tokens: &[Token]) -> Result<(Expr, &[Token]), ReadFault>
     ensures gives { GivesFront expression_of result (reading.credit (toks tokens.now)) }
     ensures shorter { LeavesLess tokens.now result }
 {
@@ -36,7 +36,7 @@ fn credit(tokens: &[Token]) -> Result<(Expr, &[Token]), SyntaxFault>
 
 // The same, after the "-" of a resource that is owed
 #[tactic(auto, unfolding(poets_grammar::specs::Reading::debt))]
-fn debt(tokens: &[Token]) -> Result<(Expr, &[Token]), SyntaxFault>
+fn debt(tokens: &[Token]) -> Result<(Expr, &[Token]), ReadFault>
     ensures gives { GivesFront expression_of result (reading.debt (toks tokens.now)) }
     ensures shorter { LeavesLess tokens.now result }
 {
@@ -48,7 +48,7 @@ fn debt(tokens: &[Token]) -> Result<(Expr, &[Token]), SyntaxFault>
 
 // "[" NUMBER NAME "]" | "[" "-" NUMBER NAME "]", after the bracket
 #[tactic(auto, unfolding(poets_grammar::specs::Reading::resource))]
-pub(crate) fn resource(tokens: &[Token]) -> Result<(Expr, &[Token]), SyntaxFault>
+pub(crate) fn resource(tokens: &[Token]) -> Result<(Expr, &[Token]), ReadFault>
     ensures gives { GivesFront expression_of result (reading.resource (toks tokens.now)) }
     ensures shorter { LeavesLess tokens.now result }
 {
@@ -60,7 +60,7 @@ pub(crate) fn resource(tokens: &[Token]) -> Result<(Expr, &[Token]), SyntaxFault
 
 // "undefined" type, after the word
 #[tactic(auto, unfolding(poets_grammar::specs::Reading::undefined_of))]
-pub(crate) fn undefined_of(tokens: &[Token]) -> Result<(Expr, &[Token]), SyntaxFault>
+pub(crate) fn undefined_of(tokens: &[Token]) -> Result<(Expr, &[Token]), ReadFault>
     ensures gives { GivesFront expression_of result (reading.undefined_of (toks tokens.now)) }
     ensures shorter { LeavesLess tokens.now result }
 {
@@ -70,7 +70,7 @@ pub(crate) fn undefined_of(tokens: &[Token]) -> Result<(Expr, &[Token]), SyntaxF
 
 // "-" NUMBER, after the sign
 #[tactic(auto, unfolding(poets_grammar::specs::Reading::negative))]
-pub(crate) fn negative(tokens: &[Token]) -> Result<(Expr, &[Token]), SyntaxFault>
+pub(crate) fn negative(tokens: &[Token]) -> Result<(Expr, &[Token]), ReadFault>
     ensures gives { GivesFront expression_of result (reading.negative (toks tokens.now)) }
     ensures shorter { LeavesLess tokens.now result }
 {
@@ -80,7 +80,7 @@ pub(crate) fn negative(tokens: &[Token]) -> Result<(Expr, &[Token]), SyntaxFault
 
 // NUMBER
 #[tactic(auto, unfolding(poets_grammar::specs::Reading::literal))]
-pub(crate) fn literal(tokens: &[Token]) -> Result<(Expr, &[Token]), SyntaxFault>
+pub(crate) fn literal(tokens: &[Token]) -> Result<(Expr, &[Token]), ReadFault>
     ensures gives { GivesFront expression_of result (reading.literal (toks tokens.now)) }
     ensures shorter { LeavesLess tokens.now result }
 {
@@ -89,15 +89,15 @@ pub(crate) fn literal(tokens: &[Token]) -> Result<(Expr, &[Token]), SyntaxFault>
 }
 
 // DAY
-pub(crate) fn day_literal(tokens: &[Token]) -> Result<(Expr, &[Token]), SyntaxFault>
+pub(crate) fn day_literal(tokens: &[Token]) -> Result<(Expr, &[Token]), ReadFault>
     ensures gives { GivesFront expression_of result (reading.day_literal (toks tokens.now)) }
     ensures shorter { LeavesLess tokens.now result }
 {
     let Some((token, rest)) = tokens.split_first() else {
-        return Err(SyntaxFault::NoSentence);
+        return Err(ReadFault::at(tokens));
     };
     match &token.what {
         Tok::Day(day) => Ok((Expr::Day(*day), rest)),
-        _ => Err(SyntaxFault::NoSentence),
+        _ => Err(ReadFault::at(tokens)),
     }
 }

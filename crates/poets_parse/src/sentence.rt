@@ -1,5 +1,5 @@
 //! Statements.
-ghost use Rattle.std.specs.Prelude.{◌≡◌, IfOk, Err};
+ghost use Rattle.std.specs.Prelude.{◌≡◌, ◌≤◌, length, IfOk, Err};
 ghost use Rattle.poets_call.specs.Sentences.{Sentence, sentence_of};
 ghost use Rattle.poets_grammar.specs.Tokens.{toks, AreNatural};
 ghost use Rattle.poets_grammar.specs.StatementReading as reading;
@@ -11,13 +11,15 @@ use crate::SyntaxFault;
 use crate::command::{command, command_word, whole_names};
 use crate::declaration::{report, template};
 use crate::depth::is_too_deep;
+use crate::fault::ReadFault;
 use crate::step::{first, natural, sign, whole};
 use poets_call::Statement;
 use poets_lex::{Sign, Tok, Token, Word};
+use poets_value::Memory;
 use std::alloc::Global;
 
 // statement, after the word that is its first token
-fn sentence_word(alloc: Global, word: Word, tokens: &[Token]) -> Result<Statement, SyntaxFault>
+fn sentence_word(alloc: Global, word: Word, tokens: &[Token]) -> Result<Statement, ReadFault>
     ensures { Gives sentence_of result (reading.sentence_word word (toks tokens.now)) }
 {
     match word {
@@ -33,7 +35,7 @@ fn sentence_word(alloc: Global, word: Word, tokens: &[Token]) -> Result<Statemen
 
 // NUMBER ":" command
 #[tactic(auto, unfolding(poets_grammar::specs::StatementReading::numbered))]
-fn numbered(alloc: Global, tokens: &[Token]) -> Result<Statement, SyntaxFault>
+fn numbered(alloc: Global, tokens: &[Token]) -> Result<Statement, ReadFault>
     ensures { Gives sentence_of result (reading.numbered (toks tokens.now)) }
 {
     let (clerk, rest) = natural(tokens)?;
@@ -44,13 +46,13 @@ fn numbered(alloc: Global, tokens: &[Token]) -> Result<Statement, SyntaxFault>
 
 // statement, by its first token
 #[tactic(auto, unfolding(poets_grammar::specs::StatementReading::sentence))]
-fn sentence(alloc: Global, tokens: &[Token]) -> Result<Statement, SyntaxFault>
+fn sentence(alloc: Global, tokens: &[Token]) -> Result<Statement, ReadFault>
     ensures { Gives sentence_of result (reading.sentence (toks tokens.now)) }
 {
     match first(tokens) {
         Some((Tok::Word(word), rest)) => sentence_word(alloc, word, rest),
         Some((Tok::Number(_), _)) => numbered(alloc, tokens),
-        _ => Err(SyntaxFault::NoSentence),
+        _ => Err(ReadFault::at(tokens)),
     }
 }
 
@@ -68,5 +70,23 @@ pub fn statement(alloc: Global, tokens: &[Token]) -> Result<Statement, SyntaxFau
     if is_too_deep(tokens) {
         return Err(SyntaxFault::TooDeep);
     }
-    sentence(alloc, tokens)
+    Ok(sentence(alloc, tokens)?)
+}
+
+/// How many of the tokens, which stand before a `;;`, begin a sentence: all, or those ahead of the first one that cannot stand
+/// where it does. Of tokens that are nested too deep it is none.
+///
+/// The readers look at one token, take it or give up, and never go back.
+pub fn begun(alloc: Global, tokens: &[Token]) -> Result<usize, Memory>
+    ensures within { IfOk result (λ count. count ≤ length tokens.now) }
+    ensures whole { ¬ (IsTooDeep (toks tokens.now)) → (s : Sentence) → IsSentence (toks tokens.now) s → IfOk result (λ count. count ≡ length tokens.now) }
+{
+    if is_too_deep(tokens) {
+        return Ok(0);
+    }
+    match sentence(alloc, tokens).err() {
+        None => Ok(tokens.len()),
+        Some(ReadFault::Unfit { left }) => Ok(tokens.len().saturating_sub(left)),
+        Some(ReadFault::Memory) => Err(Memory),
+    }
 }

@@ -5,7 +5,7 @@ ghost use Rattle.poets_grammar.specs.Reading as reading;
 ghost use Rattle.poets_grammar.specs.StatementReading as statements;
 ghost use Rattle.poets_parse.specs.Gives.{Gives, GivesFront, LeavesLess};
 
-use crate::SyntaxFault;
+use crate::fault::ReadFault;
 use poets_expr::Op;
 use poets_lex::{Sign, Tok, Token, Word};
 use poets_value::{Day, Name, Ty};
@@ -43,74 +43,78 @@ pub(crate) fn behind_word(wanted: Word, tokens: &[Token]) -> Option<&[Token]>
 }
 
 // What stands after the sign.
-pub(crate) fn sign(wanted: Sign, tokens: &[Token]) -> Result<&[Token], SyntaxFault>
+pub(crate) fn sign(wanted: Sign, tokens: &[Token]) -> Result<&[Token], ReadFault>
     ensures gives { Gives (λ r. toks r.now) result (reading.behind_sign wanted (toks tokens.now)) }
     ensures shorter { IfOk result (λ r. length r.now < length tokens.now) }
 {
-    behind_sign(wanted, tokens).ok_or(SyntaxFault::NoSentence)
+    behind_sign(wanted, tokens).ok_or(ReadFault::at(tokens))
 }
 
 // What stands after the word.
-pub(crate) fn word(wanted: Word, tokens: &[Token]) -> Result<&[Token], SyntaxFault>
+pub(crate) fn word(wanted: Word, tokens: &[Token]) -> Result<&[Token], ReadFault>
     ensures gives { Gives (λ r. toks r.now) result (reading.behind_word wanted (toks tokens.now)) }
     ensures shorter { IfOk result (λ r. length r.now < length tokens.now) }
 {
-    behind_word(wanted, tokens).ok_or(SyntaxFault::NoSentence)
+    behind_word(wanted, tokens).ok_or(ReadFault::at(tokens))
 }
 
 // The NAME, and what stands after it.
-pub(crate) fn name(tokens: &[Token]) -> Result<(Name, &[Token]), SyntaxFault>
+pub(crate) fn name(tokens: &[Token]) -> Result<(Name, &[Token]), ReadFault>
     ensures gives { GivesFront (λ x. x) result (reading.name (toks tokens.now)) }
     ensures shorter { LeavesLess tokens.now result }
 {
     match first(tokens) {
         Some((Tok::Name(name), rest)) => Ok((name, rest)),
-        _ => Err(SyntaxFault::NoSentence),
+        _ => Err(ReadFault::at(tokens)),
     }
 }
 
 // The NUMBER, which is not below 0, and what stands after it.
-pub(crate) fn number(tokens: &[Token]) -> Result<(i64, &[Token]), SyntaxFault>
+pub(crate) fn number(tokens: &[Token]) -> Result<(i64, &[Token]), ReadFault>
     ensures gives { GivesFront (λ x. x) result (reading.number (toks tokens.now)) }
     ensures natural { IfOk result (λ r. pos 0 ≤ℤ r.0) }
     ensures shorter { LeavesLess tokens.now result }
 {
     match first(tokens) {
         Some((Tok::Number(number), rest)) if number >= 0 => Ok((number, rest)),
-        _ => Err(SyntaxFault::NoSentence),
+        _ => Err(ReadFault::at(tokens)),
     }
 }
 
 // The NUMBER of something that is counted, and what stands after it.
-pub(crate) fn natural(tokens: &[Token]) -> Result<(u64, &[Token]), SyntaxFault>
+pub(crate) fn natural(tokens: &[Token]) -> Result<(u64, &[Token]), ReadFault>
     ensures gives { GivesFront (λ x. x) result (statements.natural (toks tokens.now)) }
 {
     match first(tokens) {
         Some((Tok::Number(number), rest)) if number >= 0 => Ok((number as u64, rest)),
-        _ => Err(SyntaxFault::NoSentence),
+        _ => Err(ReadFault::at(tokens)),
     }
 }
 
 // The NAME that is the last token.
-pub(crate) fn last_name(tokens: &[Token]) -> Result<Name, SyntaxFault>
+pub(crate) fn last_name(tokens: &[Token]) -> Result<Name, ReadFault>
     ensures { Gives (λ x. x) result (statements.last_name (toks tokens.now)) }
 {
     match first(tokens) {
         Some((Tok::Name(name), [])) => Ok(name),
-        _ => Err(SyntaxFault::NoSentence),
+        Some((Tok::Name(_), rest)) => Err(ReadFault::at(rest)),
+        _ => Err(ReadFault::at(tokens)),
     }
 }
 
 // The DAY that is the last token.
-pub(crate) fn last_day(tokens: &[Token]) -> Result<Day, SyntaxFault>
+pub(crate) fn last_day(tokens: &[Token]) -> Result<Day, ReadFault>
     ensures { Gives (λ d. d) result (statements.last_day (toks tokens.now)) }
 {
-    let Some((token, [])) = tokens.split_first() else {
-        return Err(SyntaxFault::NoSentence);
+    let Some((token, rest)) = tokens.split_first() else {
+        return Err(ReadFault::at(tokens));
     };
-    match &token.what {
-        Tok::Day(day) => Ok(*day),
-        _ => Err(SyntaxFault::NoSentence),
+    let Tok::Day(day) = &token.what else {
+        return Err(ReadFault::at(tokens));
+    };
+    match rest {
+        [] => Ok(*day),
+        _ => Err(ReadFault::at(rest)),
     }
 }
 
@@ -130,16 +134,16 @@ fn type_of(word: Word) -> Option<Ty>
 }
 
 // The type, and what stands after its word.
-pub(crate) fn type_name(tokens: &[Token]) -> Result<(Ty, &[Token]), SyntaxFault>
+pub(crate) fn type_name(tokens: &[Token]) -> Result<(Ty, &[Token]), ReadFault>
     ensures gives { GivesFront (λ x. x) result (reading.type_name (toks tokens.now)) }
     ensures shorter { LeavesLess tokens.now result }
 {
     let Some((Tok::Word(word), rest)) = first(tokens) else {
-        return Err(SyntaxFault::NoSentence);
+        return Err(ReadFault::at(tokens));
     };
     match type_of(word) {
         Some(ty) => Ok((ty, rest)),
-        None => Err(SyntaxFault::NoSentence),
+        None => Err(ReadFault::at(tokens)),
     }
 }
 
@@ -191,11 +195,11 @@ pub(crate) fn operator(level: u8, tokens: &[Token]) -> Option<(Op, &[Token])>
 }
 
 // The value, where nothing stands after it.
-pub(crate) fn whole<T: Drop>(value: T, rest: &[Token]) -> Result<T, SyntaxFault>
+pub(crate) fn whole<T: Drop>(value: T, rest: &[Token]) -> Result<T, ReadFault>
     ensures { Gives (λ x. x) result (reading.whole value (toks rest.now)) }
 {
     match rest {
         [] => Ok(value),
-        _ => Err(SyntaxFault::NoSentence),
+        _ => Err(ReadFault::at(rest)),
     }
 }
