@@ -1,7 +1,7 @@
 -- Where statements begin.
-use Rattle.std.proofs.Common.{◌≡◌, ◌≢◌, ℕ, zero, suc, ◌+◌, ◌-◌, ◌<◌, ◌≤◌, Bool, true, false, List, [], ◌∷◌, Option, None, Some, IfSome, inl, inr, length, drop, get_or, refl, sym, ap, ◌∙◌, arith}
+use Rattle.std.proofs.Common.{◌≡◌, ℕ, zero, suc, ◌+◌, ◌-◌, ◌<◌, ◌≤◌, Bool, true, false, List, [], ◌∷◌, ◌++◌, Option, None, Some, IfSome, inl, inr, length, take, drop, get_or, refl, sym, ap, subst, ◌∙◌, arith}
 use Rattle.std.specs.Prelude.{unwrap_or, if◌then◌else◌}
-use Rattle.std.proofs.lemmas.List.{drop_more, drop_all}
+use Rattle.std.proofs.lemmas.List.{append-nil, take-append-drop, take_all, take_more, drop_more}
 use Rattle.poets_lex.specs.declared.token.Token.{Token}
 use Rattle.poets_lex.specs.declared.fault.LexFault.{LexFault}
 use Rattle.poets_lex.specs.declared.fault.LexFault.TheVariants as L
@@ -9,6 +9,7 @@ use Rattle.poets_lex.specs.Table.{Table}
 use Rattle.poets_lex.specs.Lexes.{FirstFault}
 use Rattle.poets_lex.specs.Laws.{Stand}
 use Rattle.poets_lex.proofs.Standing.{standing}
+use Rattle.poets_parse.specs.declared.fault.SyntaxFault.TheVariants as F
 use Rattle.poets_call.specs.Sentences.{Sentence}
 use Rattle.poets_session.specs.declared.form.Form.{Form}
 use Rattle.poets_session.specs.declared.fault.SessionCause.{SessionCause}
@@ -17,60 +18,89 @@ use Rattle.poets_session.specs.Pieces.{Piece, is_end}
 use Rattle.poets_session.specs.Sessions.{Text}
 use Rattle.poets_session.specs.Refusals.{Refusal, BadByte, LongNumber, LongName, refusal_at_byte, IsUnread, IsUnreadable, AreRefused, IsRefused}
 use Rattle.poets_session.specs.Causes.{IsCauseOf}
-use Rattle.poets_mark.specs.Places.{after_end, statement_tokens, first_place, byte_of, IsBeginOf, IsPlaceOf}
+use Rattle.poets_mark.specs.Places.{ahead_of_end, after_end, statement_tokens, first_place, byte_of, IsBeginOf, IsWithin, IsPlaceOf}
 
--- a `;;` ends a statement
-ended : (n : ℕ) (t : Token) (ts : List Token) → is_end t.what ≡ true → statement_tokens (suc n) (t ∷ ts) ≡ statement_tokens n ts
-ended n t ts e = rw e refl
+-- ---- the end of a statement
 
--- any other token belongs to the statement that goes on after it
-going : (n : ℕ) (t : Token) (ts : List Token) → is_end t.what ≡ false → statement_tokens (suc n) (t ∷ ts) ≡ statement_tokens (suc n) ts
-going n t ts e = rw e refl
+-- no token ends a statement
+abbrev pub NoEnd : List Token → Type 0
+NoEnd [] = Unit {0}
+NoEnd (t ∷ ts) = (is_end t.what ≡ false) × NoEnd ts
 
--- after the last token there is no statement
-nothing_after : (n : ℕ) → statement_tokens n [] ≡ []
-nothing_after zero = refl
-nothing_after (suc n) = nothing_after n
+no_end_more : (ts : List Token) (t : Token) → NoEnd ts → is_end t.what ≡ false → NoEnd (ts ++ t ∷ [])
+no_end_more [] t h e = (e, tt)
+no_end_more (u ∷ ts) t h e = (h.0, no_end_more ts t h.1 e)
 
--- one token on in the list, where it ends a statement
-pub ended_at : (m n i : ℕ) (l : List Token) (t : Token) → i < length l → t ≡ get_or l i t → suc m ≡ n → is_end t.what ≡ true → statement_tokens m (drop (i + 1) l) ≡ statement_tokens n (drop i l)
-ended_at m n i l t h at next e =
-    let rest : drop i l ≡ t ∷ drop (i + 1) l = drop_more l i t h ∙ ap (λ x. x ∷ drop (i + 1) l) (sym at) in
-    sym (ap (λ k. statement_tokens k (drop i l)) (sym next) ∙ ap (statement_tokens (suc m)) rest ∙ ended m t (drop (i + 1) l) e)
+-- one token on that ends none
+pub no_end_next : (l : List Token) (i : ℕ) (t : Token) → i < length l → t ≡ get_or l i t → NoEnd (take i l) → is_end t.what ≡ false → NoEnd (take (i + 1) l)
+no_end_next l i t h at none e = subst NoEnd (sym (take_more l i t h ∙ ap (λ x. take i l ++ x ∷ []) (sym at))) (no_end_more (take i l) t none e)
 
--- and where it does not
-pub going_at : (n i : ℕ) (l : List Token) (t : Token) → i < length l → t ≡ get_or l i t → n ≢ 0 → is_end t.what ≡ false
-    → statement_tokens n (drop (i + 1) l) ≡ statement_tokens n (drop i l)
-going_at zero i l t h at some e = absurd (some refl)
-going_at (suc n) i l t h at some e =
-    sym (ap (statement_tokens (suc n)) (drop_more l i t h ∙ ap (λ x. x ∷ drop (i + 1) l) (sym at)) ∙ going n t (drop (i + 1) l) e)
+ahead_of_none : (ts us : List Token) → NoEnd ts → ahead_of_end (ts ++ us) ≡ ts ++ ahead_of_end us
+ahead_of_none [] us h = refl
+ahead_of_none (t ∷ ts) us h = rw h.0 (ap (λ x. t ∷ x) (ahead_of_none ts us h.1))
 
--- past the last token no statement begins
-pub none_after : (n i : ℕ) (l : List Token) → length l ≤ i → first_place (statement_tokens n (drop i l)) ≡ None
-none_after n i l h = rw (drop_all i l h, nothing_after n) refl
+after_none : (ts us : List Token) → NoEnd ts → after_end (ts ++ us) ≡ after_end us
+after_none [] us h = refl
+after_none (t ∷ ts) us h = rw h.0 (after_none ts us h.1)
+
+-- the tokens up to one that ends a statement, that one, and those after it
+cut : (l : List Token) (i : ℕ) (t : Token) → i < length l → t ≡ get_or l i t → l ≡ take i l ++ t ∷ drop (i + 1) l
+cut l i t h at = sym (take-append-drop i l) ∙ ap (λ x. take i l ++ x) (drop_more l i t h ∙ ap (λ x. x ∷ drop (i + 1) l) (sym at))
+
+pub ahead_at : (l : List Token) (i : ℕ) (t : Token) → i < length l → t ≡ get_or l i t → NoEnd (take i l) → is_end t.what ≡ true → ahead_of_end l ≡ take i l
+ahead_at l i t h at none e =
+    let here : ahead_of_end (t ∷ drop (i + 1) l) ≡ [] = rw e refl in
+    ap ahead_of_end (cut l i t h at) ∙ ahead_of_none (take i l) (t ∷ drop (i + 1) l) none ∙ ap (λ x. take i l ++ x) here ∙ append-nil (take i l)
+
+pub after_at : (l : List Token) (i : ℕ) (t : Token) → i < length l → t ≡ get_or l i t → NoEnd (take i l) → is_end t.what ≡ true → after_end l ≡ drop (i + 1) l
+after_at l i t h at none e =
+    let here : after_end (t ∷ drop (i + 1) l) ≡ drop (i + 1) l = rw e refl in
+    ap after_end (cut l i t h at) ∙ after_none (take i l) (t ∷ drop (i + 1) l) none ∙ here
+
+-- no token of all ends a statement
+pub never_ahead : (l : List Token) (i : ℕ) → length l ≤ i → NoEnd (take i l) → (ahead_of_end l ≡ l) × (after_end l ≡ [])
+never_ahead l i h none =
+    let all = subst NoEnd (take_all i l h) none in
+    let whole : l ++ [] ≡ l = append-nil l in
+    (ap ahead_of_end (sym whole) ∙ ahead_of_none l [] all ∙ whole, ap after_end (sym whole) ∙ after_none l [] all)
+
+-- one statement less stands ahead of the tokens after its end
+pub one_on : (n k : ℕ) (ts : List Token) → k < n → statement_tokens (n - (k + 1)) (after_end ts) ≡ statement_tokens (n - k) ts
+one_on n k ts h = let more : n - k ≡ suc (n - (k + 1)) = omega (arith, h) in sym (ap (λ m. statement_tokens m ts) more)
 
 -- ---- within the text
 
--- a statement begins within the text where its tokens stand in it
-first_inside : (table : Table) (text : Text) (place n : ℕ) (ts : List Token) → Stand table text place ts → IfSome (first_place (statement_tokens n ts)) (λ p. p ≤ length text)
+-- a token stands within the text
+first_inside : (table : Table) (text : Text) (place count : ℕ) (ts : List Token) → Stand table text place ts → IfSome (first_place (drop count ts)) (λ p. p ≤ length text)
 first_inside table text place zero [] h = tt
 first_inside table text place zero (t ∷ ts) h = omega (arith, h.1, h.2)
-first_inside table text place (suc n) [] h = rw (nothing_after n) tt
-first_inside table text place (suc n) (t ∷ ts) h = by (is_end t.what) (first_inside table text t.to n ts h.4) (first_inside table text t.to (suc n) ts h.4)
+first_inside table text place (suc k) [] h = tt
+first_inside table text place (suc k) (t ∷ ts) h = first_inside table text t.to k ts h.4
+
+-- so does one of a statement
+later_inside : (table : Table) (text : Text) (place count n : ℕ) (ts : List Token) → Stand table text place ts → IfSome (first_place (drop count (statement_tokens n ts))) (λ p. p ≤ length text)
+later_inside table text place count zero ts h = first_inside table text place count ts h
+later_inside table text place count (suc n) [] h = later_inside table text place count n [] tt
+later_inside table text place count (suc n) (t ∷ ts) h = by (is_end t.what) (later_inside table text t.to count n ts h.4) (later_inside table text t.to count (suc n) ts h.4)
   where
     Inside : List Token → Type 0
-    Inside us = IfSome (first_place (statement_tokens n us)) (λ p. p ≤ length text)
+    Inside us = IfSome (first_place (drop count (statement_tokens n us))) (λ p. p ≤ length text)
 
     by : (b : Bool) → Inside ts → Inside (after_end ts) → Inside (if b then ts else after_end ts)
     by true here later = here
     by false here later = later
 
+or_end : (text : Text) (place : ℕ) (first : Option ℕ) → IfSome first (λ p. p ≤ length text) → place ≡ unwrap_or first (length text) → place ≤ length text
+or_end text place None h e = omega (arith, e)
+or_end text place (Some p) h e = omega (arith, h, e)
+
 begin_inside : (text : Text) (number place : ℕ) → IsBeginOf text number place → place ≤ length text
-begin_inside text number place b = by (first_place (statement_tokens (number - 1) b.tokens)) (first_inside b.names text 0 (number - 1) b.tokens (standing b.lexed text [] refl refl)) b.here
-  where
-    by : (first : Option ℕ) → IfSome first (λ p. p ≤ length text) → place ≡ unwrap_or first (length text) → place ≤ length text
-    by None h e = omega (arith, e)
-    by (Some p) h e = omega (arith, h, e)
+begin_inside text number place b =
+    or_end text place (first_place (statement_tokens (number - 1) b.tokens)) (later_inside b.names text 0 0 (number - 1) b.tokens (standing b.lexed text [] refl refl)) b.here
+
+within_inside : (text : Text) (number place : ℕ) → IsWithin text number place → place ≤ length text
+within_inside text number place b =
+    or_end text place (first_place (drop b.count (statement_tokens (number - 1) b.tokens))) (later_inside b.names text 0 b.count (number - 1) b.tokens (standing b.lexed text [] refl refl)) b.here
 
 -- the byte that a refusal tells
 abbrev byte_in : Refusal → Option ℕ
@@ -112,7 +142,9 @@ refusal_inside text form names r place (IsRefused.Invalid {statements = statemen
 pub fault_inside : (text : Text) (form : Form) (names : Table) (cause : SessionCause) (place : ℕ) → IsCauseOf (IsRefused text form names) cause → IsPlaceOf text cause place → place ≤ length text
 fault_inside text form names (C.Lex fault) place (inl e) is = absurd cc
 fault_inside text form names (C.Lex fault) place (inr (r, told, refused)) is = refusal_inside text form names r place refused (sym (byte_told fault r told) ∙ is)
-fault_inside text form names (C.Syntax number fault) place h is = begin_inside text number place is
+fault_inside text form names (C.Syntax number F.NoSentence) place h is = within_inside text number place is
+fault_inside text form names (C.Syntax number F.TooDeep) place h is = begin_inside text number place is
+fault_inside text form names (C.Syntax number F.Memory) place h is = begin_inside text number place is
 fault_inside text form names (C.Misplaced number) place h is = begin_inside text number place is
 fault_inside text form names (C.TooMany number) place h is = begin_inside text number place is
 fault_inside text form names (C.Types fault) place h is = begin_inside text fault.statement place is

@@ -1,4 +1,5 @@
 pub mod Keeping
+pub mod Lines
 pub mod Marking
 pub mod Places
 pub mod Spots

@@ -1,14 +1,20 @@
 -- Where a fault stands in its text.
-use Rattle.std.specs.Prelude.{◌≡◌, ℕ, zero, suc, ◌-◌, List, [], ◌∷◌, length, Option, None, Some, unwrap_or, if◌then◌else◌}
+use Rattle.std.specs.Prelude.{◌≡◌, ℕ, zero, suc, ◌-◌, List, [], ◌∷◌, length, Option, None, Some, unwrap_or, drop, ◌≤◌, if◌then◌else◌}
 use Rattle.poets_lex.specs.declared.token.Token.{Token}
 use Rattle.poets_lex.specs.declared.fault.LexFault.{LexFault}
 use Rattle.poets_lex.specs.declared.fault.LexFault.TheVariants as L
 use Rattle.poets_lex.specs.Table.{Table}
 use Rattle.poets_lex.specs.Lexes.{Lexes}
+use Rattle.poets_parse.specs.declared.fault.SyntaxFault.TheVariants as F
 use Rattle.poets_session.specs.Pieces.{is_end}
 use Rattle.poets_session.specs.Sessions.{Text}
 use Rattle.poets_session.specs.declared.fault.SessionCause.{SessionCause}
 use Rattle.poets_session.specs.declared.fault.SessionCause.TheVariants as C
+
+-- the tokens ahead of the first `;;`
+abbrev pub ahead_of_end : List Token → List Token
+ahead_of_end [] = []
+ahead_of_end (t ∷ ts) = if is_end t.what then [] else t ∷ ahead_of_end ts
 
 -- the tokens after the first `;;`
 abbrev pub after_end : List Token → List Token
@@ -33,6 +39,16 @@ pub record IsBeginOf (text : Text) (number place : ℕ) : Type 0 where
   pub lexed : Lexes [] text 0 tokens names
   pub here : place ≡ unwrap_or (first_place (statement_tokens (number - 1) tokens)) (length text)
 
+-- the statement with the number is left here: at one of its tokens, or at what stands after them, its `;;` or the end of the text
+pub record IsWithin (text : Text) (number place : ℕ) : Type 0 where
+  pub tokens : List Token
+  pub names : Table
+  pub lexed : Lexes [] text 0 tokens names
+  -- so many of its tokens stand ahead of the place
+  pub count : ℕ
+  pub inside : count ≤ length (ahead_of_end (statement_tokens (number - 1) tokens))
+  pub here : place ≡ unwrap_or (first_place (drop count (statement_tokens (number - 1) tokens))) (length text)
+
 -- where the bytes cannot be cut into tokens; want of memory has no place
 abbrev pub byte_of : LexFault → Option ℕ
 byte_of (L.BadByte at) = Some at
@@ -40,9 +56,10 @@ byte_of (L.LongNumber at) = Some at
 byte_of (L.LongName at) = Some at
 byte_of L.Memory = None
 
--- the fault stands here: at the byte, or where the statement begins
+-- the fault stands here: at the byte, or where the statement begins, or within a statement that is no sentence
 abbrev pub IsPlaceOf : Text → SessionCause → ℕ → Type 0
 IsPlaceOf text (C.Lex fault) place = byte_of fault ≡ Some place
+IsPlaceOf text (C.Syntax number F.NoSentence) place = IsWithin text number place
 IsPlaceOf text (C.Syntax number fault) place = IsBeginOf text number place
 IsPlaceOf text (C.Misplaced number) place = IsBeginOf text number place
 IsPlaceOf text (C.TooMany number) place = IsBeginOf text number place

@@ -1,6 +1,7 @@
 //! A fault's line with a mark below it.
-ghost use Rattle.std.specs.Prelude.{◌≤◌, length, IfOk, IfSome, IfNone};
-ghost use Rattle.poets_mark.specs.Marking.{IsFaultSpot, IsSomeSession};
+ghost use Rattle.std.specs.Prelude.{◌≡◌, ◌≤◌, ◌++◌, length, map, replicate, IfOk, IfSome, IfNone, OnOk, string_bytes};
+ghost use Rattle.poets_mark.specs.Marking.{IsFaultSpot, IsMarkOf, IsSomeSession};
+ghost use Rattle.poets_mark.specs.Lines.{shown as shown_lem, place_line as place_line_lem, text_line, mark_line};
 
 use crate::places::place_of;
 use crate::spots::{Spot, spot_at};
@@ -32,7 +33,9 @@ fn fault_spot(alloc: Global, text: &[u8], form: Form) -> Result<Option<Spot>, Me
 }
 
 // A byte as it is shown: a tab or CR as a space, and one that is no sign of ASCII that prints as `?`.
-fn shown(byte: u8) -> char {
+fn shown(byte: u8) -> char
+    ensures { result ≡ shown_lem byte }
+{
     match byte {
         b' '..=b'~' => byte as char,
         b'\t' | b'\r' => ' ',
@@ -40,27 +43,52 @@ fn shown(byte: u8) -> char {
     }
 }
 
+// Adds the bytes as they are shown.
+fn add_shown(lines: &mut String, bytes: &[u8]) -> Result<(), Memory>
+    ensures { OnOk result (string_bytes lines.new ≡ string_bytes lines.old ++ map shown_lem bytes.now) }
+{
+    for byte in bytes {
+        lines.push(shown(*byte))?;
+    }
+    Ok(())
+}
+
+// Adds so many spaces.
+fn add_spaces(lines: &mut String, count: usize) -> Result<(), Memory>
+    ensures { OnOk result (string_bytes lines.new ≡ string_bytes lines.old ++ replicate count 32) }
+{
+    for _ in 0..count {
+        lines.push(' ')?;
+    }
+    Ok(())
+}
+
 // Adds the part of the line around the place, and a mark below the place.
 fn add_line(lines: &mut String, text: &[u8], spot: &Spot) -> Result<(), Memory>
     requires { (spot.now.begin ≤ spot.now.place) × (spot.now.place ≤ spot.now.end) × (spot.now.end ≤ length text.now) }
+    ensures { OnOk result (string_bytes lines.new ≡ string_bytes lines.old ++ (text_line text.now spot.now ++ mark_line spot.now)) }
 {
     let from = spot.begin.max(spot.place.saturating_sub(BEFORE));
     let to = spot.end.min(spot.place.saturating_add(AFTER));
-    for byte in &text[from..to] {
-        lines.push(shown(*byte))?;
-    }
+    add_shown(lines, &text[from..to])?;
     lines.push('\n')?;
-    for _ in from..spot.place {
-        lines.push(' ')?;
-    }
+    add_spaces(lines, spot.place - from)?;
     lines.push_str("^\n")?;
     Ok(())
+}
+
+// The line that tells the place.
+fn place_line(alloc: Global, spot: &Spot) -> Result<String, Memory>
+    ensures { IfOk result (λ line. string_bytes line ≡ place_line_lem spot.now) }
+{
+    Ok(format!(in alloc; "line {}, column {}\n", spot.line, spot.column)?)
 }
 
 /// Where the first fault of the text stands, as a session of the form: its line and its column, counted from 1, the part of
 /// the line around it, and a mark below its first byte. None where the text is a session, or is longer than one may be.
 pub fn mark_of(alloc: Global, text: &[u8], form: Form) -> Result<Option<String>, Memory>
     ensures none { IfOk result (λ found. IfNone found (length text.now ≤ 16_777_216 → IsSomeSession text.now form)) }
+    ensures some { IfOk result (λ found. IfSome found (λ lines. IsMarkOf text.now form (string_bytes lines))) }
 {
     if text.len() > LONGEST {
         return Ok(None);
@@ -68,7 +96,7 @@ pub fn mark_of(alloc: Global, text: &[u8], form: Form) -> Result<Option<String>,
     let Some(spot) = fault_spot(alloc, text, form)? else {
         return Ok(None);
     };
-    let mut lines = format!(in alloc; "line {}, column {}\n", spot.line, spot.column)?;
+    let mut lines = place_line(alloc, &spot)?;
     add_line(&mut lines, text, &spot)?;
     Ok(Some(lines))
 }

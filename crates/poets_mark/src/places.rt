@@ -1,9 +1,10 @@
 //! The places of faults.
-ghost use Rattle.std.specs.Prelude.{◌≡◌, ◌≤◌, ◌-◌, length, IfOk, option_map};
+ghost use Rattle.std.specs.Prelude.{◌≡◌, [], ◌<◌, ◌≤◌, ◌+◌, ◌-◌, length, take, drop, unwrap_or, IfOk, IfSome, IfNone};
 ghost use Rattle.poets_session.specs.Pieces.{is_end as is_end_lem};
-ghost use Rattle.poets_mark.specs.Places.{first_place, statement_tokens, IsBeginOf, IsPlaceOf};
+ghost use Rattle.poets_mark.specs.Places.{ahead_of_end as ahead_of_end_lem, after_end as after_end_lem, first_place, statement_tokens, IsBeginOf, IsWithin, IsPlaceOf};
 
 use poets_lex::{LexFault, Names, Sign, Tok, Token, tokens};
+use poets_parse::{SyntaxFault, begun};
 use poets_session::SessionCause;
 use poets_value::Memory;
 use std::alloc::Global;
@@ -18,20 +19,60 @@ fn is_end(token: &Token) -> bool
     }
 }
 
-// The place of the first token of the statement with the number, if there is one.
-fn first_of(tokens: &[Token], number: u64) -> Option<usize>
-    ensures { result ≡ first_place (statement_tokens (number - 1) tokens.now) }
+// The number of tokens ahead of the first `;;`, if there is one.
+fn end_of(tokens: &[Token]) -> Option<usize>
+    ensures ahead { IfSome result (λ n. (n < length tokens.now) × (ahead_of_end_lem tokens.now ≡ take n tokens.now)) }
+    ensures after { IfSome result (λ n. after_end_lem tokens.now ≡ drop (n + 1) tokens.now) }
+    ensures none { IfNone result ((ahead_of_end_lem tokens.now ≡ tokens.now) × (after_end_lem tokens.now ≡ [])) }
 {
-    let mut ends = number.saturating_sub(1);
-    for token in tokens {
-        if ends == 0 {
-            return Some(token.from as usize);
-        }
+    for (place, token) in tokens.iter().enumerate() {
         if is_end(token) {
-            ends -= 1;
+            return Some(place);
         }
     }
     None
+}
+
+// The tokens ahead of the first `;;`.
+fn ahead_of_end(tokens: &[Token]) -> &[Token]
+    ensures ahead { result.now ≡ ahead_of_end_lem tokens.now }
+    ensures few { length result.now ≤ length tokens.now }
+{
+    match end_of(tokens) {
+        Some(end) => &tokens[..end],
+        None => tokens,
+    }
+}
+
+// The tokens after the first `;;`.
+fn after_end(tokens: &[Token]) -> &[Token]
+    ensures { result.now ≡ after_end_lem tokens.now }
+{
+    match end_of(tokens) {
+        Some(end) => &tokens[end + 1..],
+        None => &[],
+    }
+}
+
+// The tokens from the statement with the number on.
+fn from_statement(tokens: &[Token], number: u64) -> &[Token]
+    ensures { result.now ≡ statement_tokens (number - 1) tokens.now }
+{
+    let mut rest = tokens;
+    for _ in 1..number {
+        rest = after_end(rest);
+    }
+    rest
+}
+
+// Where the first token stands, or else the end of the text.
+fn place_of_first(tokens: &[Token], text: &[u8]) -> usize
+    ensures { result ≡ unwrap_or (first_place tokens.now) (length text.now) }
+{
+    match tokens {
+        [] => text.len(),
+        [first, ..] => first.from as usize,
+    }
 }
 
 // Where the statement with the number begins, or the end of the text where there is none.
@@ -43,11 +84,27 @@ fn begin_of(alloc: Global, text: &[u8], number: u64) -> Result<usize, Memory>
     let Ok(tokens) = tokens(alloc, text, &mut names) else {
         return Err(Memory);
     };
-    Ok(first_of(tokens.as_slice(), number).unwrap_or(text.len()))
+    let rest = from_statement(tokens.as_slice(), number);
+    Ok(place_of_first(rest, text))
 }
 
-/// Where a fault of the text stands: the byte that it tells, or the begin of its statement. Bytes count from 0. `Err` is
-/// want of memory, also where the fault is that.
+// Where the statement with the number, which is no sentence, ceases to begin one: at the first of its tokens that cannot stand
+// there, or after them all.
+fn stop_of(alloc: Global, text: &[u8], number: u64) -> Result<usize, Memory>
+    requires { length text.now ≤ 16_777_216 }
+    ensures { IfOk result (IsWithin text.now number) }
+{
+    let mut names = Names::new(alloc);
+    let Ok(tokens) = tokens(alloc, text, &mut names) else {
+        return Err(Memory);
+    };
+    let rest = from_statement(tokens.as_slice(), number);
+    let count = begun(alloc, ahead_of_end(rest))?;
+    Ok(place_of_first(&rest[count..], text))
+}
+
+/// Where a fault of the text stands: the byte that it tells, or the begin of its statement, or of a statement that is no
+/// sentence the first token with which it begins none. Bytes count from 0. `Err` is want of memory, also where the fault is that.
 pub(crate) fn place_of(alloc: Global, text: &[u8], cause: &SessionCause) -> Result<usize, Memory>
     requires { length text.now ≤ 16_777_216 }
     ensures { IfOk result (IsPlaceOf text.now cause.now) }
@@ -56,6 +113,10 @@ pub(crate) fn place_of(alloc: Global, text: &[u8], cause: &SessionCause) -> Resu
         SessionCause::Lex(
             LexFault::BadByte { at } | LexFault::LongNumber { at } | LexFault::LongName { at },
         ) => Ok(*at as usize),
+        SessionCause::Syntax {
+            statement,
+            fault: SyntaxFault::NoSentence,
+        } => stop_of(alloc, text, *statement),
         SessionCause::Syntax { statement, .. }
         | SessionCause::Misplaced { statement }
         | SessionCause::TooMany { statement }

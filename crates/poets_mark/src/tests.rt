@@ -24,7 +24,7 @@ fn marked(rt: &impl Abort, alloc: Global, form: Form, cases: &[(&[u8], &str)]) -
     Ok(())
 }
 
-const BOOKS: [(&[u8], &str); 12] = [
+const BOOKS: [(&[u8], &str); 15] = [
     // A session has no mark.
     (b"agents ann;;\n", ""),
     (b"", ""),
@@ -62,10 +62,20 @@ const BOOKS: [(&[u8], &str); 12] = [
     ),
     // A statement that has its `;;` alone.
     (b"agents ann;;\n ;;\n", "line 2, column 2\n ;;\n ^\n"),
-    // A statement without its `;;`.
+    // A statement without its `;;`, and one that is no sentence, too.
+    (b"agents ann;;\nkinds Oil\n", "line 3, column 1\n\n^\n"),
     (
-        b"agents ann;;\nkinds Oil\n",
+        b"agents ann\nkinds Oil\n",
         "line 2, column 1\nkinds Oil\n^\n",
+    ),
+    // The first token with which no sentence begins, and the `;;` where one goes on.
+    (
+        b"kinds Oil, Gas Coal;;",
+        "line 1, column 16\nkinds Oil, Gas Coal;;\n               ^\n",
+    ),
+    (
+        b"agents ann,\n  bob, ;;\n",
+        "line 2, column 8\n  bob, ;;\n       ^\n",
     ),
     // A template that unfolds for ever.
     (
