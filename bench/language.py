@@ -120,12 +120,23 @@ def choice(words):
 RULES = rules()
 
 
-def is_sentence(words):
-    """Whether the grammar gives a statement of these tokens."""
+@functools.lru_cache(maxsize=100_000)
+def reading(words):
+    """Whether the grammar gives a statement of these tokens, and how many of them, from the first on, begin one: since
+    each rule gives something, all those up to one that stands in a row of which everything ahead of it is there."""
+    begun = 0
+
+    def ends_of_word(is_there, at):
+        nonlocal begun
+        if not is_there:
+            return frozenset()
+        begun = max(begun, at + 1)
+        return frozenset([at + 1])
+
     @functools.lru_cache(maxsize=None)
     def ends_of_rule(name, at):
         if name not in RULES:
-            return frozenset([at + 1] if at < len(words) and words[at] == name else [])
+            return ends_of_word(words[at:at + 1] == (name,), at)
         return ends_of_choice(RULES[name], at)
 
     def ends_of_choice(rows, at):
@@ -139,14 +150,25 @@ def is_sentence(words):
 
     def ends_of_part(part, at):
         kind, what = part
-        if kind in ("word", "rule"):
-            known = ends_of_rule if kind == "rule" else lambda word, at: [at + 1] if words[at:at + 1] == (word,) else []
-            return known(what, at)
+        if kind == "rule":
+            return ends_of_rule(what, at)
+        if kind == "word":
+            return ends_of_word(words[at:at + 1] == (what,), at)
         ends = ends_of_choice(what, at)
         if kind == "{":
             ends = ends.union(*(ends_of_part(part, end) for end in ends if end > at))
         return ends if kind == "(" else ends | {at}
-    return len(words) in ends_of_rule("statement", 0)
+    return len(words) in ends_of_rule("statement", 0), begun
+
+
+def is_sentence(words):
+    """Whether the grammar gives a statement of these tokens."""
+    return reading(words)[0]
+
+
+def begun(words):
+    """How many of the tokens, from the first on, begin a statement of the grammar."""
+    return reading(words)[1]
 
 
 def is_too_deep(words):
