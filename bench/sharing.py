@@ -11,7 +11,7 @@ takes more than 1.1 times the seconds of the older program, or one with forty or
 import subprocess
 import sys
 
-from measuring import ANY, COMMANDS, HEAD, PROGRAM, ROUNDS, Case, told
+from measuring import ANY, COMMANDS, HEAD, PROGRAM, ROUNDS, Case, ratio_of, told
 
 MOST_RATIO = 1.1
 MOST_RATIO_OF_LIKE_PARTS = 0.2
@@ -90,25 +90,27 @@ def least(older, program, case):
 
 
 def compare(older, program, about, case, most_ratio=MOST_RATIO):
-    """Prints what the case costs in both programs. Answers whether they print the same and the bound was kept."""
+    """Prints what the case costs in both programs. Answers whether they print the same and the bound was kept, and the
+    seconds of both."""
     same = printed(older, case) == printed(program, case)
     (before, after), peaks = least(older, program, case)
     kept = same and after < most_ratio * before
     print(f"{about}: {after:.3f} s beside {before:.3f} ({after / before:.2f}; {before / after:.1f} times as fast),"
           f" peak {peaks[1]:.1f} MB beside {peaks[0]:.1f}{'' if same else '   PRINTS SOMETHING ELSE'}"
           f"{'' if kept else '   NOT KEPT'}", flush=True)
-    return kept
+    return kept, (before, after)
 
 
 def compare_like(older, program, parts):
-    """The same of contracts of so many like parts, and what their transmissions alone take."""
+    """Prints what contracts of so many like parts cost in both programs, and what their transmissions alone take.
+    Answers whether both print the same and the bound was kept."""
     case = like_parts(parts)
     most_ratio = MOST_RATIO_OF_LIKE_PARTS if parts >= 40 else MOST_RATIO
-    kept = compare(older, program, f"{parts} like deliveries side by side", case, most_ratio)
-    whole, _ = least(older, program, case)
+    kept, whole = compare(older, program, f"{parts} like deliveries side by side", case, most_ratio)
     rest, _ = least(older, program, without_contract(case))
     before, after = (of_whole - of_rest for of_whole, of_rest in zip(whole, rest))
-    print(f"  the transmissions alone: {after:.3f} s beside {before:.3f} ({before / after:.1f} times as fast)", flush=True)
+    print(f"  the transmissions alone: {after:.3f} s beside {before:.3f} ({ratio_of(before, after):.1f} times as fast)",
+          flush=True)
     return kept
 
 
@@ -119,7 +121,7 @@ def main():
     kept = [compare_like(older, program, parts) for parts in (10, 40, 80)]
     cases = [(family.__doc__.partition(",")[0].rstrip("."), family())
               for family in (two_ways, doubling, looks, different_parts, plain, demonstration)]
-    kept += [compare(older, program, about, case) for about, case in cases]
+    kept += [compare(older, program, about, case)[0] for about, case in cases]
     sys.exit(0 if all(kept) else 1)
 
 
