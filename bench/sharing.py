@@ -6,7 +6,7 @@ Usage: bench/sharing.py OLDER [PROGRAM]      (PROGRAM: crates/poets/out/poets, m
 Both programs must print the same. Of each family the processor seconds of both are told, the least of seven runs that
 take turns, and the one to the other. Of contracts with like parts also what the transmissions alone take: the seconds
 beyond those of the same session where the transmissions are on a name that no contract has. It fails where a family
-takes more than 1.1 times the seconds of the older program, or one with forty or eighty like parts more than a fifth.
+takes more than 1.1 times the seconds of the older program, or the transmissions on like parts more than a fifth.
 """
 import subprocess
 import sys
@@ -17,13 +17,14 @@ MOST_RATIO = 1.1
 MOST_RATIO_OF_LIKE_PARTS = 0.2
 BARREL = "transmit(a, b, r, t | r = [1 Oil]). Success"
 TRANSMIT = "transmit {} ann bob 1 Oil @2006-01-01;;\n"
+PARTS = 40_000
 CONTRACTS = 400
 LOOKS = 5_000
 
 
 def like_parts(parts):
     """Contracts of so many like deliveries side by side, of which ten are taken one by one."""
-    count = CONTRACTS * 10 // parts
+    count = PARTS // parts
     contract = "\n|| ".join([BARREL] * parts)
     lines = "".join(f"register c{i} = {contract};;\n" + 10 * TRANSMIT.format(f"c{i}") for i in range(count))
     return Case("run", (HEAD + "clerk;;\n" + lines).encode(), 11 * count)
@@ -89,12 +90,12 @@ def least(older, program, case):
     return [min(run[at][0] for run in runs) for at in (0, 1)], [max(run[at][1] for run in runs) / 2**20 for at in (0, 1)]
 
 
-def compare(older, program, about, case, most_ratio=MOST_RATIO):
+def compare(older, program, about, case):
     """Prints what the case costs in both programs. Answers whether they print the same and the bound was kept, and the
     seconds of both."""
     same = printed(older, case) == printed(program, case)
     (before, after), peaks = least(older, program, case)
-    kept = same and after < most_ratio * before
+    kept = same and after < MOST_RATIO * before
     print(f"{about}: {after:.3f} s beside {before:.3f} ({after / before:.2f}; {before / after:.1f} times as fast),"
           f" peak {peaks[1]:.1f} MB beside {peaks[0]:.1f}{'' if same else '   PRINTS SOMETHING ELSE'}"
           f"{'' if kept else '   NOT KEPT'}", flush=True)
@@ -103,15 +104,15 @@ def compare(older, program, about, case, most_ratio=MOST_RATIO):
 
 def compare_like(older, program, parts):
     """Prints what contracts of so many like parts cost in both programs, and what their transmissions alone take.
-    Answers whether both print the same and the bound was kept."""
+    Answers whether both print the same and the bounds were kept."""
     case = like_parts(parts)
-    most_ratio = MOST_RATIO_OF_LIKE_PARTS if parts >= 40 else MOST_RATIO
-    kept, whole = compare(older, program, f"{parts} like deliveries side by side", case, most_ratio)
+    kept, whole = compare(older, program, f"{parts} like deliveries side by side", case)
     rest, _ = least(older, program, without_contract(case))
     before, after = (of_whole - of_rest for of_whole, of_rest in zip(whole, rest))
-    print(f"  the transmissions alone: {after:.3f} s beside {before:.3f} ({ratio_of(before, after):.1f} times as fast)",
-          flush=True)
-    return kept
+    fast = after < MOST_RATIO_OF_LIKE_PARTS * before
+    print(f"  the transmissions alone: {after:.3f} s beside {before:.3f} ({ratio_of(before, after):.1f} times as fast)"
+          f"{'' if fast else '   NOT KEPT'}", flush=True)
+    return kept and fast
 
 
 def main():
