@@ -13,15 +13,15 @@ use Rattle.poets_syntax.specs.Contract.{Contract}
 use Rattle.poets_syntax.specs.Between.{Between}
 use Rattle.poets_syntax.specs.Perf.{Perf}
 use Rattle.poets_syntax.specs.May.{May}
-use Rattle.poets_syntax.specs.Plain.{plain}
+use Rattle.poets_syntax.specs.NoTemplates.{without_templates}
 use Rattle.poets_report.specs.Keys.{Key, same_key}
-use Rattle.poets_report.specs.Query.{Query, folded, key_on, with_key}
-use Rattle.poets_report.specs.Answers.{Finding}
+use Rattle.poets_report.specs.Plain.{Report, Answer}
+use Rattle.poets_report.specs.Reports.{folded, key_on, with_key}
 use Rattle.poets_report.specs.Keyed.{row_at}
 use Rattle.poets_report.proofs.FoldsByKey.{if_any, rows_by_key}
-use Rattle.poets_call.specs.Calls.{Request, Response, HistoryEntry}
+use Rattle.poets_call.specs.Plain.{Command, Reply, Entry}
 use Rattle.poets_call.specs.Frame.{Frame}
-use Rattle.poets_call.specs.Plain.{plain_frame}
+use Rattle.poets_call.specs.NoTemplates.{frame_without_templates}
 use Rattle.poets_call.specs.Replies.{Legal, widest}
 
 abbrev name : ℕ → Name
@@ -47,7 +47,7 @@ abbrev binders : Binders
 binders = record { sender = name 10; receiver = name 11; what = name 12; day = name 13 }
 
 -- report sum(): Int = fold x = 0 with (s, v, r, t) in x + amount(r)
-abbrev sum : Query
+abbrev sum : Report
 sum = record {
   name = name 20;
   params = [];
@@ -60,11 +60,11 @@ sum = record {
 }
 
 -- report moved(): the same by kind(r)
-abbrev moved : Query
+abbrev moved : Report
 moved = record sum { name = name 21; key = Some (Unary KindOf (Named (name 12))) }
 
 abbrev frame : Frame
-frame = plain_frame declared (sum ∷ moved ∷ [])
+frame = frame_without_templates declared (sum ∷ moved ∷ [])
 
 -- transmit(s, v, r, t | kind(r) = Oil). then
 abbrev oil_then : Contract → Contract
@@ -74,8 +74,8 @@ oil_then c = Contract.Transmit binders (Binary O.Eq (Unary KindOf (Named (name 1
 abbrev moves : ℤ → ℕ → Event
 moves amount day = record { sender = ann; receiver = bob; what = record { kind = oil; amount = amount }; day = pos (13148 + day) }
 
-abbrev by : ℕ → Request → Response → HistoryEntry
-by clerk request response = record { clerk = clerk; request = request; response = response }
+abbrev by : ℕ → Command → Reply → Entry
+by clerk command reply = record { clerk = clerk; command = command; reply = reply }
 
 abbrev a : Name
 a = name 30
@@ -90,27 +90,27 @@ is_not_too_large : {n : ℕ} → n ≤ widest → widest < n → ⊥
 is_not_too_large small large = omega (arith, small, large)
 
 -- a contract is registered, shown and ended once; a second one of its name, and an event that it does not want, are refused
-abbrev first_day : List HistoryEntry
+abbrev first_day : List Entry
 first_day =
-    by 1 (Request.Register a Contract.Success) (Response.Registered 1)
-    ∷ by 2 (Request.Register a Contract.Failure) (Response.NameTaken 1)
-    ∷ by 2 (Request.Transmit a (moves (pos 1) 1)) Response.Unmatched
-    ∷ by 1 (Request.Show a) (Response.Shown Contract.Success 0 true false)
-    ∷ by 1 (Request.End a) Response.EndedNow
-    ∷ by 1 (Request.End a) Response.AlreadyEnded
-    ∷ by 2 (Request.Transmit a (moves (pos 1) 1)) Response.Ended
-    ∷ by 1 (Request.Show a) (Response.Shown Contract.Success 0 true true)
-    ∷ by 1 (Request.Register d (oil_then Contract.Failure)) Response.Hopeless
-    ∷ by 1 (Request.Show d) (Response.NoContract d)
+    by 1 (Command.Register a Contract.Success) (Reply.Registered 1)
+    ∷ by 2 (Command.Register a Contract.Failure) (Reply.NameTaken 1)
+    ∷ by 2 (Command.Transmit a (moves (pos 1) 1)) Reply.Unmatched
+    ∷ by 1 (Command.Show a) (Reply.Shown Contract.Success 0 true false)
+    ∷ by 1 (Command.End a) Reply.EndedNow
+    ∷ by 1 (Command.End a) Reply.AlreadyEnded
+    ∷ by 2 (Command.Transmit a (moves (pos 1) 1)) Reply.Ended
+    ∷ by 1 (Command.Show a) (Reply.Shown Contract.Success 0 true true)
+    ∷ by 1 (Command.Register d (oil_then Contract.Failure)) Reply.Hopeless
+    ∷ by 1 (Command.Show d) (Reply.NoContract d)
     ∷ []
 
-success_is_over : {env : Env} {e : Event} {n : ℕ} → May (plain declared) env Contract.Success (e ∷ []) n → ⊥
+success_is_over : {env : Env} {e : Event} {n : ℕ} → May (without_templates declared) env Contract.Success (e ∷ []) n → ⊥
 success_is_over m = elim m [ ]
 
-failure_is_hopeless : {env : Env} {n : ℕ} → May (plain declared) env (oil_then Contract.Failure) [] n → ⊥
+failure_is_hopeless : {env : Env} {n : ℕ} → May (without_templates declared) env (oil_then Contract.Failure) [] n → ⊥
 failure_is_hopeless (May.Granted m) = elim m [ ]
 
-success_is_performed : IsTrue true ↔ Perf (plain declared) [] Contract.Success []
+success_is_performed : IsTrue true ↔ Perf (without_templates declared) [] Contract.Success []
 success_is_performed = (λ _. Perf.Done, λ _. refl)
 
 no : IsTrue false → ⊥
@@ -130,38 +130,38 @@ first_day_is_legal =
     Legal.More _ h₉ refl
 
 -- two events are recorded, though not out of order, and told by a watch, a tally and a portfolio
-abbrev trade : List HistoryEntry
+abbrev trade : List Entry
 trade =
-    by 1 (Request.Register c (oil_then (oil_then Contract.Success))) (Response.Registered 1)
-    ∷ by 1 (Request.Register a Contract.Success) (Response.Registered 2)
-    ∷ by 2 (Request.Watch moved.name []) (Response.Watching 1)
-    ∷ by 1 (Request.Transmit c (moves (pos 5) 2)) (Response.Recorded 1 false)
-    ∷ by 1 (Request.Transmit c (moves (pos 2) 1)) (Response.Late (pos 13150))
-    ∷ by 1 (Request.Show c) (Response.Shown (oil_then Contract.Success) 1 false false)
-    ∷ by 1 (Request.End c) Response.NotPerformed
-    ∷ by 1 (Request.Transmit c (moves (pos 2) 2)) (Response.Recorded 2 true)
-    ∷ by 2 (Request.Read 1) (Response.Answered (Finding.Rows ((Some (V.Kind oil), Some (V.Int (pos 7))) ∷ [])))
-    ∷ by 2 (Request.Read 2) (Response.NoWatch 2)
-    ∷ by 2 (Request.Read 0) (Response.NoWatch 0)
-    ∷ by 2 (Request.Tally sum.name []) (Response.Answered (Finding.Single (Some (V.Int (pos 7)))))
-    ∷ by 2 (Request.Portfolio sum.name [] (c ∷ a ∷ c ∷ []))
-    (Response.Folio
-    ((c, Finding.Single (Some (V.Int (pos 7)))) ∷ (a, Finding.Single (Some (V.Int (pos 0)))) ∷ (c, Finding.Single (Some (V.Int (pos 7)))) ∷ [])
+    by 1 (Command.Register c (oil_then (oil_then Contract.Success))) (Reply.Registered 1)
+    ∷ by 1 (Command.Register a Contract.Success) (Reply.Registered 2)
+    ∷ by 2 (Command.Watch moved.name []) (Reply.Watching 1)
+    ∷ by 1 (Command.Transmit c (moves (pos 5) 2)) (Reply.Recorded 1 false)
+    ∷ by 1 (Command.Transmit c (moves (pos 2) 1)) (Reply.Late (pos 13150))
+    ∷ by 1 (Command.Show c) (Reply.Shown (oil_then Contract.Success) 1 false false)
+    ∷ by 1 (Command.End c) Reply.NotPerformed
+    ∷ by 1 (Command.Transmit c (moves (pos 2) 2)) (Reply.Recorded 2 true)
+    ∷ by 2 (Command.Read 1) (Reply.Answered (Answer.Rows ((Some (V.Kind oil), Some (V.Int (pos 7))) ∷ [])))
+    ∷ by 2 (Command.Read 2) (Reply.NoWatch 2)
+    ∷ by 2 (Command.Read 0) (Reply.NoWatch 0)
+    ∷ by 2 (Command.Tally sum.name []) (Reply.Answered (Answer.Single (Some (V.Int (pos 7)))))
+    ∷ by 2 (Command.Portfolio sum.name [] (c ∷ a ∷ c ∷ []))
+    (Reply.Folio
+    ((c, Answer.Single (Some (V.Int (pos 7)))) ∷ (a, Answer.Single (Some (V.Int (pos 0)))) ∷ (c, Answer.Single (Some (V.Int (pos 7)))) ∷ [])
     (Some (Some (V.Int (pos 14)))))
-    ∷ by 2 (Request.Portfolio sum.name [] (c ∷ d ∷ [])) (Response.NoContract d)
-    ∷ by 1 (Request.End c) Response.EndedNow
+    ∷ by 2 (Command.Portfolio sum.name [] (c ∷ d ∷ [])) (Reply.NoContract d)
+    ∷ by 1 (Command.End c) Reply.EndedNow
     ∷ []
 
-one_is_too_few : Perf (plain declared) [] (oil_then (oil_then Contract.Success)) (moves (pos 5) 2 ∷ []) → ⊥
+one_is_too_few : Perf (without_templates declared) [] (oil_then (oil_then Contract.Success)) (moves (pos 5) 2 ∷ []) → ⊥
 one_is_too_few (Perf.Taken h p) = none_is_too_few p
   where
-    none_is_too_few : {env : Env} → Perf (plain declared) env (oil_then Contract.Success) [] → ⊥
+    none_is_too_few : {env : Env} → Perf (without_templates declared) env (oil_then Contract.Success) [] → ⊥
     none_is_too_few p = elim p [ ]
 
-two_are_enough : Perf (plain declared) [] (oil_then (oil_then Contract.Success)) (moves (pos 5) 2 ∷ moves (pos 2) 2 ∷ [])
+two_are_enough : Perf (without_templates declared) [] (oil_then (oil_then Contract.Success)) (moves (pos 5) 2 ∷ moves (pos 2) 2 ∷ [])
 two_are_enough = Perf.Taken refl (Perf.Taken refl Perf.Done)
 
-is_not : (IsTrue false) ↔ Perf (plain declared) [] (oil_then (oil_then Contract.Success)) (moves (pos 5) 2 ∷ [])
+is_not : (IsTrue false) ↔ Perf (without_templates declared) [] (oil_then (oil_then Contract.Success)) (moves (pos 5) 2 ∷ [])
 is_not = (λ e. absurd (no e), λ p. absurd (one_is_too_few p))
 
 -- the row of oil is the sum of both amounts, and there is no other row
@@ -190,15 +190,15 @@ trade_is_legal =
     let h₈ : Legal frame (take 8 trade) = Legal.More _ h₇
     (inr (no, inr ((0, May.Taken refl (May.Taken refl May.Done)), inr (is_not_too_large (omega arith), (true, (λ _. two_are_enough, λ _. refl), refl))))) in
     let h₉ : Legal frame (take 9 trade) = Legal.More _ h₈
-    (moved, refl, (Finding.Rows ((Some (V.Kind oil), Some (V.Int (pos 7))) ∷ []), rows_by_key declared moved [] _ _ _ tt seven_moved, refl)) in
+    (moved, refl, (Answer.Rows ((Some (V.Kind oil), Some (V.Int (pos 7))) ∷ []), rows_by_key declared moved [] _ _ _ tt seven_moved, refl)) in
     let h₁₀ : Legal frame (take 10 trade) = Legal.More _ h₉ refl in
     let h₁₁ : Legal frame (take 11 trade) = Legal.More _ h₁₀ refl in
-    let h₁₂ : Legal frame (take 12 trade) = Legal.More _ h₁₁ (sum, refl, (Finding.Single (Some (V.Int (pos 7))), refl, refl)) in
+    let h₁₂ : Legal frame (take 12 trade) = Legal.More _ h₁₁ (sum, refl, (Answer.Single (Some (V.Int (pos 7))), refl, refl)) in
     let h₁₃ : Legal frame (take 13 trade) = Legal.More _ h₁₂ (
       sum,
       refl,
       (
-        (c, Finding.Single (Some (V.Int (pos 7)))) ∷ (a, Finding.Single (Some (V.Int (pos 0)))) ∷ (c, Finding.Single (Some (V.Int (pos 7)))) ∷ [],
+        (c, Answer.Single (Some (V.Int (pos 7)))) ∷ (a, Answer.Single (Some (V.Int (pos 0)))) ∷ (c, Answer.Single (Some (V.Int (pos 7)))) ∷ [],
         ((refl, refl), ((refl, refl), ((refl, refl), tt))),
         refl,
       ),
@@ -211,24 +211,24 @@ abbrev usd_then_success : Contract
 usd_then_success = Contract.Transmit binders (Binary O.Eq (Unary KindOf (Named (name 12))) (Named usd)) Contract.Success
 
 -- an event that both sides want leaves both open
-abbrev either_side : List HistoryEntry
+abbrev either_side : List Entry
 either_side =
-    by 1 (Request.Register c (Contract.Par (oil_then Contract.Success) (oil_then usd_then_success))) (Response.Registered 1)
-    ∷ by 1 (Request.Transmit c (moves (pos 1) 1)) (Response.Recorded 1 false)
-    ∷ by 1 (Request.Show c)
-    (Response.Shown
+    by 1 (Command.Register c (Contract.Par (oil_then Contract.Success) (oil_then usd_then_success))) (Reply.Registered 1)
+    ∷ by 1 (Command.Transmit c (moves (pos 1) 1)) (Reply.Recorded 1 false)
+    ∷ by 1 (Command.Show c)
+    (Reply.Shown
     (Contract.Plus (oil_then usd_then_success) (Contract.Par (oil_then Contract.Success) usd_then_success)) 1 false false)
     ∷ []
 
 three_are_wanted : {s₁ s₂ : List Event} {e : Event} → Between s₁ s₂ (e ∷ []) →
-    Perf (plain declared) [] (oil_then Contract.Success) s₁ → Perf (plain declared) [] (oil_then usd_then_success) s₂ → ⊥
+    Perf (without_templates declared) [] (oil_then Contract.Success) s₁ → Perf (without_templates declared) [] (oil_then usd_then_success) s₂ → ⊥
 three_are_wanted (Between.First b) (Perf.Taken h p) (Perf.Taken h' (Perf.Taken h'' q)) = elim b [ ]
 three_are_wanted (Between.Second b) (Perf.Taken h p) (Perf.Taken h' (Perf.Taken h'' q)) = elim b [ ]
 
-not_both : IsTrue false ↔ Perf (plain declared) [] (Contract.Par (oil_then Contract.Success) (oil_then usd_then_success)) (moves (pos 1) 1 ∷ [])
+not_both : IsTrue false ↔ Perf (without_templates declared) [] (Contract.Par (oil_then Contract.Success) (oil_then usd_then_success)) (moves (pos 1) 1 ∷ [])
 not_both = (λ e. absurd (no e), λ p. absurd (one_is_no_three p))
   where
-    one_is_no_three : Perf (plain declared) [] (Contract.Par (oil_then Contract.Success) (oil_then usd_then_success)) (moves (pos 1) 1 ∷ []) → ⊥
+    one_is_no_three : Perf (without_templates declared) [] (Contract.Par (oil_then Contract.Success) (oil_then usd_then_success)) (moves (pos 1) 1 ∷ []) → ⊥
     one_is_no_three (Perf.Beside b p q) = three_are_wanted b p q
 
 pub either_side_is_legal : Legal frame either_side
@@ -255,10 +255,10 @@ abbrev wide_by : ℕ → Contract
 wide_by n = Contract.Transmit binders (nots n) Contract.Success
 
 -- a width of 1000 is taken, and one of 1001 is not
-abbrev at_the_limit : List HistoryEntry
+abbrev at_the_limit : List Entry
 at_the_limit =
-    by 1 (Request.Register a (wide_by 998)) Response.TooLarge
-    ∷ by 1 (Request.Register a (wide_by 997)) (Response.Registered 1)
+    by 1 (Command.Register a (wide_by 998)) Reply.TooLarge
+    ∷ by 1 (Command.Register a (wide_by 997)) (Reply.Registered 1)
     ∷ []
 
 pub at_the_limit_is_legal : Legal frame at_the_limit

@@ -4,20 +4,21 @@ use Rattle.std.proofs.lemmas.Bool.{eq-eqb}
 use Rattle.std.proofs.lemmas.List.{map-append, append-nil}
 use Rattle.std.proofs.lemmas.List.Elements.{filter-append}
 use Rattle.std.proofs.lemmas.List.Sums.{fold_push}
-use Rattle.poets_call.specs.Calls.{HistoryEntry, Call, calls_of, own_calls, own}
+use Rattle.poets_call.specs.Plain.{Entry}
+use Rattle.poets_call.specs.Calls.{Call, calls_of, own_calls, own}
 use Rattle.poets_call.specs.Ledger.{ledger_of, with_entry, empty_ledger}
 use Rattle.poets_call.specs.Frame.{Frame}
 use Rattle.poets_call.specs.Replies.{Replies, Legal}
 use Rattle.poets_call.specs.Laws.{OneHistory}
 use Rattle.poets_call.proofs.OneReplies.{one_reply}
 
-pub ledger_last : (h : List HistoryEntry) (e : HistoryEntry) → ledger_of (h ++ e ∷ []) ≡ with_entry (ledger_of h) e.request e.response
-ledger_last h e = fold_push (λ ledger entry. with_entry ledger entry.request entry.response) empty_ledger h e
+pub ledger_last : (h : List Entry) (e : Entry) → ledger_of (h ++ e ∷ []) ≡ with_entry (ledger_of h) e.command e.reply
+ledger_last h e = fold_push (λ ledger entry. with_entry ledger entry.command entry.reply) empty_ledger h e
 
-pub calls_append : (h h' : List HistoryEntry) → calls_of (h ++ h') ≡ calls_of h ++ calls_of h'
-calls_append h h' = map-append (λ entry. (entry.clerk, entry.request)) h h'
+pub calls_append : (h h' : List Entry) → calls_of (h ++ h') ≡ calls_of h ++ calls_of h'
+calls_append h h' = map-append (λ entry. (entry.clerk, entry.command)) h h'
 
-pub calls_last : (h : List HistoryEntry) (e : HistoryEntry) → calls_of (h ++ e ∷ []) ≡ calls_of h ++ (e.clerk, e.request) ∷ []
+pub calls_last : (h : List Entry) (e : Entry) → calls_of (h ++ e ∷ []) ≡ calls_of h ++ (e.clerk, e.command) ∷ []
 calls_last h e = calls_append h (e ∷ [])
 
 pub own_calls_append : (clerk : ℕ) (calls calls' : List Call) → own_calls clerk (calls ++ calls') ≡ own_calls clerk calls ++ own_calls clerk calls'
@@ -37,14 +38,14 @@ own_calls_other clerk calls c n =
     let none : own_calls clerk (c ∷ []) ≡ [] = rw n refl in
     own_calls_append clerk calls (c ∷ []) ∙ ap (λ cs. own_calls clerk calls ++ cs) none ∙ append-nil (own_calls clerk calls)
 
-pub own_append : (clerk : ℕ) (h h' : List HistoryEntry) → own clerk (h ++ h') ≡ own clerk h ++ own clerk h'
+pub own_append : (clerk : ℕ) (h h' : List Entry) → own clerk (h ++ h') ≡ own clerk h ++ own clerk h'
 own_append clerk h h' = ap (own_calls clerk) (calls_append h h') ∙ own_calls_append clerk (calls_of h) (calls_of h')
 
-pub own_own : (h : List HistoryEntry) (e : HistoryEntry) → own e.clerk (h ++ e ∷ []) ≡ own e.clerk h ++ e.request ∷ []
-own_own h e = ap (own_calls e.clerk) (calls_last h e) ∙ own_calls_own (calls_of h) (e.clerk, e.request)
+pub own_own : (h : List Entry) (e : Entry) → own e.clerk (h ++ e ∷ []) ≡ own e.clerk h ++ e.command ∷ []
+own_own h e = ap (own_calls e.clerk) (calls_last h e) ∙ own_calls_own (calls_of h) (e.clerk, e.command)
 
-pub own_other : (clerk : ℕ) (h : List HistoryEntry) (e : HistoryEntry) → nat_eq e.clerk clerk ≡ false → own clerk (h ++ e ∷ []) ≡ own clerk h
-own_other clerk h e n = ap (own_calls clerk) (calls_last h e) ∙ own_calls_other clerk (calls_of h) (e.clerk, e.request) n
+pub own_other : (clerk : ℕ) (h : List Entry) (e : Entry) → nat_eq e.clerk clerk ≡ false → own clerk (h ++ e ∷ []) ≡ own clerk h
+own_other clerk h e n = ap (own_calls clerk) (calls_last h e) ∙ own_calls_other clerk (calls_of h) (e.clerk, e.command) n
 
 snoc_one : {A : Type 0} (xs ys : List A) (x y : A) → xs ++ x ∷ [] ≡ ys ++ y ∷ [] → (xs ≡ ys) × (x ≡ y)
 snoc_one [] [] x y e = (refl, cc)
@@ -62,20 +63,20 @@ nothing_last : {A : Type 0} (xs : List A) (x : A) → [] ≡ xs ++ x ∷ [] → 
 nothing_last [] x e = absurd cc
 nothing_last (y ∷ xs) x e = absurd cc
 
-entry_one : (e e' : HistoryEntry) → e.clerk ≡ e'.clerk → e.request ≡ e'.request → e.response ≡ e'.response → e ≡ e'
-entry_one e e' a b c = λ i. record { clerk = a i; request = b i; response = c i }
+entry_one : (e e' : Entry) → e.clerk ≡ e'.clerk → e.command ≡ e'.command → e.reply ≡ e'.reply → e ≡ e'
+entry_one e e' a b c = λ i. record { clerk = a i; command = b i; reply = c i }
 
-history_one : (f : Frame) {h h' : List HistoryEntry} → Legal f h → Legal f h' → calls_of h ≡ calls_of h' → h ≡ h'
+history_one : (f : Frame) {h h' : List Entry} → Legal f h → Legal f h' → calls_of h ≡ calls_of h' → h ≡ h'
 history_one f Legal.Empty Legal.Empty k = refl
-history_one f Legal.Empty (Legal.More {h = h'} e' g' r') k = absurd (nothing_last (calls_of h') (e'.clerk, e'.request) (k ∙ calls_last h' e'))
-history_one f (Legal.More {h = h} e g r) Legal.Empty k = absurd (nothing_last (calls_of h) (e.clerk, e.request) (sym k ∙ calls_last h e))
+history_one f Legal.Empty (Legal.More {h = h'} e' g' r') k = absurd (nothing_last (calls_of h') (e'.clerk, e'.command) (k ∙ calls_last h' e'))
+history_one f (Legal.More {h = h} e g r) Legal.Empty k = absurd (nothing_last (calls_of h) (e.clerk, e.command) (sym k ∙ calls_last h e))
 history_one f (Legal.More {h = h} e g r) (Legal.More {h = h'} e' g' r') k =
-    let cut = snoc_one (calls_of h) (calls_of h') (e.clerk, e.request) (e'.clerk, e'.request) (sym (calls_last h e) ∙ k ∙ calls_last h' e') in
+    let cut = snoc_one (calls_of h) (calls_of h') (e.clerk, e.command) (e'.clerk, e'.command) (sym (calls_last h e) ∙ k ∙ calls_last h' e') in
     let before : h ≡ h' = history_one f g g' cut.0 in
-    let request : e.request ≡ e'.request = ap (λ p. p.1) cut.1 in
-    let response : e.response ≡ e'.response = one_reply f (ledger_of h) e.request e.response e'.response r
-    (subst (λ o. Replies f (ledger_of h) o e'.response) (sym request) (subst (λ x. Replies f (ledger_of x) e'.request e'.response) (sym before) r')) in
-    ap₂ (λ x y. x ++ y ∷ []) before (entry_one e e' (ap (λ p. p.0) cut.1) request response)
+    let command : e.command ≡ e'.command = ap (λ p. p.1) cut.1 in
+    let reply : e.reply ≡ e'.reply = one_reply f (ledger_of h) e.command e.reply e'.reply r
+    (subst (λ o. Replies f (ledger_of h) o e'.reply) (sym command) (subst (λ x. Replies f (ledger_of x) e'.command e'.reply) (sym before) r')) in
+    ap₂ (λ x y. x ++ y ∷ []) before (entry_one e e' (ap (λ p. p.0) cut.1) command reply)
 
 pub one_history : OneHistory
 one_history f h h' g g' e = history_one f g g' e
@@ -92,31 +93,31 @@ last_of (x ∷ xs) = inr (with_first x xs (last_of xs))
     with_first x xs (inl e) = ([], x, ap (λ zs. x ∷ zs) e)
     with_first x xs (inr l) = (x ∷ l.0, l.1, ap (λ zs. x ∷ zs) l.2)
 
-legal_before : (f : Frame) {g : List HistoryEntry} → Legal f g → (h h' : List HistoryEntry) → g ≡ h ++ h' → Legal f h
+legal_before : (f : Frame) {g : List Entry} → Legal f g → (h h' : List Entry) → g ≡ h ++ h' → Legal f h
 legal_before f Legal.Empty [] h' k = Legal.Empty
 legal_before f Legal.Empty (e ∷ h) h' k = absurd cc
 legal_before f (Legal.More {h = before} e legal r) h h' k =
     by f before e h h' (Legal.More e legal r) k (λ ys p. legal_before f legal h ys p) (last_of h')
   where
-    by : (f : Frame) (before : List HistoryEntry) (e : HistoryEntry) (h h' : List HistoryEntry) → Legal f (before ++ e ∷ []) → before ++ e ∷ [] ≡ h ++ h' →
-        ((ys : List HistoryEntry) → before ≡ h ++ ys → Legal f h) → (h' ≡ []) ⊎ HasLast h' → Legal f h
+    by : (f : Frame) (before : List Entry) (e : Entry) (h h' : List Entry) → Legal f (before ++ e ∷ []) → before ++ e ∷ [] ≡ h ++ h' →
+        ((ys : List Entry) → before ≡ h ++ ys → Legal f h) → (h' ≡ []) ⊎ HasLast h' → Legal f h
     by f before e h h' legal k earlier (inl n) = subst (Legal f) (k ∙ ap (λ ys. h ++ ys) n ∙ append-nil h) legal
     by f before e h h' legal k earlier (inr l) =
         let cut : before ++ e ∷ [] ≡ (h ++ l.0) ++ l.1 ∷ [] = k ∙ ap (λ ys. h ++ ys) l.2 ∙ sym (append_assoc h l.0 (l.1 ∷ [])) in
         earlier l.0 (snoc_one before (h ++ l.0) e l.1 cut).0
 
 -- what a legal history begins with is legal
-pub legal_prefix : (f : Frame) (h h' : List HistoryEntry) → Legal f (h ++ h') → Legal f h
+pub legal_prefix : (f : Frame) (h h' : List Entry) → Legal f (h ++ h') → Legal f h
 legal_prefix f h h' g = legal_before f g h h' refl
 
-last_reply : (f : Frame) {g : List HistoryEntry} → Legal f g → (h : List HistoryEntry) (e : HistoryEntry) → g ≡ h ++ e ∷ [] → Replies f (ledger_of h) e.request e.response
+last_reply : (f : Frame) {g : List Entry} → Legal f g → (h : List Entry) (e : Entry) → g ≡ h ++ e ∷ [] → Replies f (ledger_of h) e.command e.reply
 last_reply f Legal.Empty h e k = absurd (nothing_last h e k)
 last_reply f (Legal.More {h = before} e' legal r) h e k =
     let cut = snoc_one before h e' e k in
-    subst (λ x. Replies f (ledger_of h) x.request x.response) cut.1 (subst (λ x. Replies f (ledger_of x) e'.request e'.response) cut.0 r)
+    subst (λ x. Replies f (ledger_of h) x.command x.reply) cut.1 (subst (λ x. Replies f (ledger_of x) e'.command e'.reply) cut.0 r)
 
 -- each entry of a legal history has the reply after the entries before it
-pub legal_reply : (f : Frame) (h : List HistoryEntry) (e : HistoryEntry) (h' : List HistoryEntry) → Legal f (h ++ e ∷ h') → Replies f (ledger_of h) e.request e.response
+pub legal_reply : (f : Frame) (h : List Entry) (e : Entry) (h' : List Entry) → Legal f (h ++ e ∷ h') → Replies f (ledger_of h) e.command e.reply
 legal_reply f h e h' g =
     let parts : h ++ e ∷ h' ≡ (h ++ e ∷ []) ++ h' = sym (append_assoc h (e ∷ []) h') in
     last_reply f (legal_before f g (h ++ e ∷ []) h' parts) h e refl

@@ -2,6 +2,6 @@ pub mod OneReplies
 pub mod Histories
 pub mod OneFrames
 pub mod Examples
-pub mod TypedRequests
+pub mod TypedCommands
 pub mod Reports
 pub mod Crossing

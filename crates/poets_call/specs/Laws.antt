@@ -4,58 +4,59 @@ use Rattle.poets_value.specs.declared.value.Name.{Name}
 use Rattle.poets_value.specs.declared.event.Event.{Event}
 use Rattle.poets_expr.specs.Expression.{Expression}
 use Rattle.poets_syntax.specs.Applied.{CountsFit}
-use Rattle.poets_syntax.specs.Book.{Definitions}
+use Rattle.poets_syntax.specs.Plain.{Book}
 use Rattle.poets_syntax.specs.Contract.{Contract}
 use Rattle.poets_syntax.specs.WellFormed.{IsWellFormed, IsDeclaredEvent}
-use Rattle.poets_report.specs.Query.{Query}
-use Rattle.poets_call.specs.Calls.{Request, Response, HistoryEntry, Call, calls_of}
+use Rattle.poets_report.specs.Plain.{Report}
+use Rattle.poets_call.specs.Plain.{Command, Reply, Entry}
+use Rattle.poets_call.specs.Calls.{Call, calls_of}
 use Rattle.poets_call.specs.Ledger.{Ledger}
 use Rattle.poets_call.specs.Frame.{Frame}
 use Rattle.poets_call.specs.Histories.{IsLegal, AnswersIn}
 use Rattle.poets_call.specs.Replies.{Replies, Legal, Answers, report_in}
-use Rattle.poets_call.specs.TypedSentences.{IsTypedRequest}
+use Rattle.poets_call.specs.TypedStatements.{PassesAsCommand}
 
 -- a command has at most one reply
 abbrev pub OneReply : Type 0
-OneReply = (f : Frame) (ledger : Ledger) (request : Request) (r r' : Response) →
-    Replies f ledger request r → Replies f ledger request r' → r ≡ r'
+OneReply = (f : Frame) (ledger : Ledger) (command : Command) (r r' : Reply) →
+    Replies f ledger command r → Replies f ledger command r' → r ≡ r'
 
 -- legal histories of the same calls are one
 abbrev pub OneHistory : Type 0
-OneHistory = (f : Frame) (h h' : List HistoryEntry) → Legal f h → Legal f h' → calls_of h ≡ calls_of h' → h ≡ h'
+OneHistory = (f : Frame) (h h' : List Entry) → Legal f h → Legal f h' → calls_of h ≡ calls_of h' → h ≡ h'
 
 -- a history that is legal in one frame is legal in each other one with the same book and reports
 abbrev pub OneFrame : Type 0
-OneFrame = (f f' : Frame) (h : List HistoryEntry) → f.book ≡ f'.book → f.reports ≡ f'.reports → Legal f h → Legal f' h
+OneFrame = (f f' : Frame) (h : List Entry) → f.book ≡ f'.book → f.reports ≡ f'.reports → Legal f h → Legal f' h
 
 -- whether a history is legal for a book and its reports may be asked in any frame of them
 abbrev pub AnyFrame : Type 0
-AnyFrame = (f : Frame) (h : List HistoryEntry) → IsLegal f.book f.reports h ↔ Legal f h
+AnyFrame = (f : Frame) (h : List Entry) → IsLegal f.book f.reports h ↔ Legal f h
 
 -- so may be asked which reply answers a command after those calls
 abbrev pub AnyFrameAnswers : Type 0
-AnyFrameAnswers = (f : Frame) (calls : List Call) (request : Request) (r : Response) →
-    AnswersIn f.book f.reports calls request r ↔ Answers f calls request r
+AnyFrameAnswers = (f : Frame) (calls : List Call) (command : Command) (r : Reply) →
+    AnswersIn f.book f.reports calls command r ↔ Answers f calls command r
 
 -- a typed registration is of a well-formed contract with the right numbers of arguments
 abbrev pub TypedRegistration : Type 0
-TypedRegistration = (book : Definitions) (reports : List Query) (x : Name) (c : Contract) →
-    IsTypedRequest book reports (Request.Register x c) → IsWellFormed book.declared c × CountsFit book c
+TypedRegistration = (book : Book) (reports : List Report) (x : Name) (c : Contract) →
+    PassesAsCommand book reports (Command.Register x c) → IsWellFormed book.declared c × CountsFit book c
 
 -- a typed transmission is of a declared event
 abbrev pub TypedEvent : Type 0
-TypedEvent = (book : Definitions) (reports : List Query) (x : Name) (e : Event) →
-    IsTypedRequest book reports (Request.Transmit x e) → IsDeclaredEvent book.declared e
+TypedEvent = (book : Book) (reports : List Report) (x : Name) (e : Event) →
+    PassesAsCommand book reports (Command.Transmit x e) → IsDeclaredEvent book.declared e
 
 -- there is a report with the name, and it takes so many arguments
-abbrev pub IsReportOf : List Query → Name → List Expression → Type 0
-IsReportOf reports x args = (q : Query) × (report_in reports x ≡ Some q) × (length args ≡ length q.params)
+abbrev pub IsReportOf : List Report → Name → List Expression → Type 0
+IsReportOf reports x args = (q : Report) × (report_in reports x ≡ Some q) × (length args ≡ length q.params)
 
 -- a typed tally, portfolio or watch is of a report that takes so many arguments
 pub record TypedReport : Type 0 where
-  pub tally : (book : Definitions) (reports : List Query) (x : Name) (args : List Expression) →
-      IsTypedRequest book reports (Request.Tally x args) → IsReportOf reports x args
-  pub portfolio : (book : Definitions) (reports : List Query) (x : Name) (args : List Expression) (over : List Name) →
-      IsTypedRequest book reports (Request.Portfolio x args over) → IsReportOf reports x args
-  pub watch : (book : Definitions) (reports : List Query) (x : Name) (args : List Expression) →
-      IsTypedRequest book reports (Request.Watch x args) → IsReportOf reports x args
+  pub tally : (book : Book) (reports : List Report) (x : Name) (args : List Expression) →
+      PassesAsCommand book reports (Command.Tally x args) → IsReportOf reports x args
+  pub portfolio : (book : Book) (reports : List Report) (x : Name) (args : List Expression) (over : List Name) →
+      PassesAsCommand book reports (Command.Portfolio x args over) → IsReportOf reports x args
+  pub watch : (book : Book) (reports : List Report) (x : Name) (args : List Expression) →
+      PassesAsCommand book reports (Command.Watch x args) → IsReportOf reports x args

@@ -6,7 +6,7 @@ use Rattle.poets_value.specs.declared.event.Event.{Event}
 use Rattle.poets_expr.specs.Expression.{Expression}
 use Rattle.poets_expr.specs.Env.{same_name}
 use Rattle.poets_syntax.specs.Contract.{Contract}
-use Rattle.poets_call.specs.Calls.{Request, Response, HistoryEntry}
+use Rattle.poets_call.specs.Plain.{Command, Reply, Entry}
 
 pub record Ledger : Type 0 where
   -- the names and the originals of the accepted registrations; their places count from 1
@@ -39,16 +39,16 @@ abbrev pub number_of : Ledger → Name → ℕ
 number_of ledger x = number_in (contract_named ledger x)
 
 -- with an entry: only accepted commands add to the ledger
-abbrev pub with_entry : Ledger → Request → Response → Ledger
-with_entry ledger (Request.Register x c) (Response.Registered n) = record ledger { contracts = ledger.contracts ++ (x, c) ∷ [] }
-with_entry ledger (Request.Transmit x e) (Response.Recorded n may_end) = record ledger { log = ledger.log ++ (number_of ledger x, e) ∷ [] }
-with_entry ledger (Request.End x) Response.EndedNow = record ledger { ends = ledger.ends ++ number_of ledger x ∷ [] }
-with_entry ledger (Request.Watch q args) (Response.Watching n) = record ledger { watches = ledger.watches ++ (q, args) ∷ [] }
+abbrev pub with_entry : Ledger → Command → Reply → Ledger
+with_entry ledger (Command.Register x c) (Reply.Registered n) = record ledger { contracts = ledger.contracts ++ (x, c) ∷ [] }
+with_entry ledger (Command.Transmit x e) (Reply.Recorded n may_end) = record ledger { log = ledger.log ++ (number_of ledger x, e) ∷ [] }
+with_entry ledger (Command.End x) Reply.EndedNow = record ledger { ends = ledger.ends ++ number_of ledger x ∷ [] }
+with_entry ledger (Command.Watch q args) (Reply.Watching n) = record ledger { watches = ledger.watches ++ (q, args) ∷ [] }
 with_entry ledger _ _ = ledger
 
 -- the entries of a history taken in order
-abbrev pub ledger_of : List HistoryEntry → Ledger
-ledger_of h = fold (λ ledger e. with_entry ledger e.request e.response) empty_ledger h
+abbrev pub ledger_of : List Entry → Ledger
+ledger_of h = fold (λ ledger e. with_entry ledger e.command e.reply) empty_ledger h
 
 -- all recorded events
 abbrev pub events : Ledger → List Event

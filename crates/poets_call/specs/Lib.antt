@@ -1,12 +1,14 @@
+pub mod Plain
 pub mod Calls
 pub mod Ledger
 pub mod Frame
-pub mod Plain
+pub mod NoTemplates
 pub mod Replies
 pub mod Laws
-pub mod Sentences
+pub mod Said
+pub mod Statements
 pub mod Declarations
-pub mod TypedSentences
+pub mod TypedStatements
 pub mod Rules
 pub mod Histories
 pub mod Taken

@@ -1,25 +1,49 @@
--- Frames without templates.
-use Rattle.std.specs.Prelude.{List}
-use Rattle.std.proofs.lemmas.Bool.{false≢true}
-use Rattle.std.proofs.lemmas.Option.{none-some}
-use Rattle.poets_expr.specs.Env.{Declared}
-use Rattle.poets_syntax.specs.Marks.{AreRight}
-use Rattle.poets_syntax.specs.Plain.{plain, no_marks}
-use Rattle.poets_report.specs.Query.{Query}
-use Rattle.poets_call.specs.Frame.{Frame}
+-- Commands, replies and entries as plain data.
+use Rattle.std.specs.Prelude.{ℕ, ℤ, Bool, List, Option}
+use Rattle.poets_value.specs.declared.value.Name.{Name}
+use Rattle.poets_value.specs.declared.event.Event.{Event}
+use Rattle.poets_value.specs.declared.value.Value.{Value}
+use Rattle.poets_expr.specs.Expression.{Expression}
+use Rattle.poets_syntax.specs.Contract.{Contract}
+pub use Rattle.poets_report.specs.Plain.{Template, Book, TypeCause, Report, Answer}
 
--- no template is nullable or hopeful, for there is none
-pub no_marks_right : (declared : Declared) → AreRight (plain declared) no_marks
-no_marks_right declared = record {
-  nullable = λ f. (λ h. absurd (false≢true h), λ b. absurd (none-some b.0 b.1));
-  hopeful = λ f. (λ h. absurd (false≢true h), λ b. absurd (none-some b.0 b.1));
-}
+-- a command
+pub data Command : Type 0 where
+  Register : Name → Contract → Command
+  Transmit : Name → Event → Command
+  End : Name → Command
+  Show : Name → Command
+  Tally : Name → List Expression → Command
+  Portfolio : Name → List Expression → List Name → Command
+  Watch : Name → List Expression → Command
+  Read : ℕ → Command
 
--- declared names without templates, and reports
-abbrev pub plain_frame : Declared → List Query → Frame
-plain_frame declared reports = record {
-  book = plain declared;
-  reports = reports;
-  marks = no_marks;
-  right = no_marks_right declared;
-}
+-- a reply
+pub data Reply : Type 0 where
+  Registered : ℕ → Reply
+  NameTaken : ℕ → Reply
+  Hopeless : Reply
+  TooLarge : Reply
+  Recorded : (count : ℕ) → (may_end : Bool) → Reply
+  NoContract : Name → Reply
+  Ended : Reply
+  Late : ℤ → Reply
+  Unmatched : Reply
+  EndedNow : Reply
+  AlreadyEnded : Reply
+  NotPerformed : Reply
+  Shown : (residual : Contract) → (count : ℕ) → (may_end : Bool) → (ended : Bool) → Reply
+  Answered : Answer → Reply
+  Folio : (rows : List (Name × Answer)) → (total : Option (Option Value)) → Reply
+  Watching : ℕ → Reply
+  NoWatch : ℕ → Reply
+
+-- an entry of a history
+pub record Entry : Type 0 where
+  pub clerk : ℕ
+  pub command : Command
+  pub reply : Reply
+
+-- the number of a statement, from 1, and its fault of types; none where all pass
+abbrev pub TypeFault : Type 0
+TypeFault = Option (ℕ × TypeCause)

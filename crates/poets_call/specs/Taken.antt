@@ -2,24 +2,24 @@
 use Rattle.std.specs.Prelude.{◌<◌, ◌^◌, List, All}
 use Rattle.poets_value.specs.Whole.{IsWholeEvent}
 use Rattle.poets_expr.specs.Whole.{IsWholeExpression}
-use Rattle.poets_syntax.specs.Book.{Definitions}
+use Rattle.poets_syntax.specs.Plain.{Book}
 use Rattle.poets_syntax.specs.Whole.{IsWholeContract}
-use Rattle.poets_report.specs.Query.{Query}
-use Rattle.poets_call.specs.Calls.{Request}
-use Rattle.poets_call.specs.TypedSentences.{IsTypedRequest}
+use Rattle.poets_report.specs.Plain.{Report}
+use Rattle.poets_call.specs.Plain.{Command}
+use Rattle.poets_call.specs.TypedStatements.{PassesAsCommand}
 
 -- each number in the command is a whole number of the language, and each day one of its days
-abbrev pub IsWholeRequest : Request → Type 0
-IsWholeRequest (Request.Register x c) = IsWholeContract c
-IsWholeRequest (Request.Transmit x e) = IsWholeEvent e
-IsWholeRequest (Request.End x) = Unit {0}
-IsWholeRequest (Request.Show x) = Unit {0}
-IsWholeRequest (Request.Tally q args) = All IsWholeExpression args
-IsWholeRequest (Request.Portfolio q args over) = All IsWholeExpression args
-IsWholeRequest (Request.Watch q args) = All IsWholeExpression args
-IsWholeRequest (Request.Read n) = n < 2 ^ 63
+abbrev pub IsWholeCommand : Command → Type 0
+IsWholeCommand (Command.Register x c) = IsWholeContract c
+IsWholeCommand (Command.Transmit x e) = IsWholeEvent e
+IsWholeCommand (Command.End x) = Unit {0}
+IsWholeCommand (Command.Show x) = Unit {0}
+IsWholeCommand (Command.Tally q args) = All IsWholeExpression args
+IsWholeCommand (Command.Portfolio q args over) = All IsWholeExpression args
+IsWholeCommand (Command.Watch q args) = All IsWholeExpression args
+IsWholeCommand (Command.Read n) = n < 2 ^ 63
 
 -- the command is typed in the book and its reports, and whole
-pub record IsTaken (book : Definitions) (reports : List Query) (request : Request) : Type 0 where
-  pub typed : IsTypedRequest book reports request
-  pub whole : IsWholeRequest request
+pub record IsTaken (book : Book) (reports : List Report) (command : Command) : Type 0 where
+  pub typed : PassesAsCommand book reports command
+  pub whole : IsWholeCommand command

@@ -13,5 +13,5 @@ pub use laws::{
     any_frame, any_frame_answers, one_frame, one_history, one_reply, typed_event,
     typed_registration, typed_report,
 };
-pub use rules::{Rules, report_of};
+pub use rules::{Rules, named_report};
 pub use statement::Statement;

@@ -2,9 +2,9 @@
 ghost use Rattle.std.specs.Prelude.{◌≡◌, find, map, option_map};
 ghost use Rattle.std.specs.Option.{option_copied};
 ghost use Rattle.poets_expr.specs.Env.{same_name};
-ghost use Rattle.poets_report.specs.Query.{query_of};
+ghost use Rattle.poets_report.specs.Reports.{report_of};
 ghost use Rattle.poets_call.specs.Replies.{report_in};
-ghost use Rattle.poets_call.specs.Rules.{reports_of};
+ghost use Rattle.poets_call.specs.Rules.{reports_of_rules};
 
 use poets_report::Report;
 use poets_syntax::Studied;
@@ -20,9 +20,9 @@ pub struct Rules {
 impl Rules {
     /// The report with a name.
     pub fn report(&self, name: Name) -> Option<&Report>
-        ensures { option_map query_of (option_copied result) ≡ report_in (reports_of self.now) name }
+        ensures { option_map report_of (option_copied result) ≡ report_in (reports_of_rules self.now) name }
     {
-        report_of(self.reports.as_slice(), name)
+        named_report(self.reports.as_slice(), name)
     }
 }
 
@@ -35,8 +35,8 @@ fn first_of(reports: &[Report], name: Name) -> Option<&Report>
 
 /// The report with that name among reports.
 #[tactic(auto, using(crate::proofs::Reports::report_in_find))]
-pub fn report_of(reports: &[Report], name: Name) -> Option<&Report>
-    ensures { option_map query_of (option_copied result) ≡ report_in (map query_of reports.now) name }
+pub fn named_report(reports: &[Report], name: Name) -> Option<&Report>
+    ensures { option_map report_of (option_copied result) ≡ report_in (map report_of reports.now) name }
 {
     first_of(reports, name)
 }

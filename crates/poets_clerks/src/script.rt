@@ -1,5 +1,6 @@
 //! The script of one clerk.
-ghost use Rattle.std.specs.Prelude.{◌≡◌, ℕ, ◌+◌, ◌<◌, ◌≤◌, List as AnttList, [], ◌∷◌, ◌++◌, ◌⊎◌, false, length, map, take, All, MatchResult};
+ghost use Rattle.std.specs.Prelude.{◌≡◌, ℕ, ◌+◌, ◌<◌, ◌≤◌, [], ◌∷◌, ◌++◌, ◌⊎◌, false, length, map, take, All, MatchResult};
+ghost use Rattle.std.specs.Prelude as prelude;
 ghost use mathlib.Core.List.{IsPrefix};
 ghost use Rattle.std.specs.Arc.{arc_value};
 ghost use Rattle.poets_turn.specs.Clerks.{front, calls, number, turn_frame, IsClerkOf};

@@ -1,5 +1,6 @@
 //! All scripts at once.
-ghost use Rattle.std.specs.Prelude.{◌≡◌, ℕ, ◌+◌, ◌<◌, ◌≤◌, List as AnttList, [], ◌∷◌, false, length, map, All, IfOk, IfErr, slice_index_or};
+ghost use Rattle.std.specs.Prelude.{◌≡◌, ℕ, ◌+◌, ◌<◌, ◌≤◌, [], ◌∷◌, false, length, map, All, IfOk, IfErr, slice_index_or};
+ghost use Rattle.std.specs.Prelude as prelude;
 ghost use Rattle.std.specs.Thread.{IsSync};
 ghost use Rattle.std.specs.Arc.{arc_value};
 ghost use Rattle.poets_turn.specs.Clerks.{number, turn_frame, IsClerkOf};

@@ -1,5 +1,6 @@
 //! All clerks at once. Threads know the turnstile by what it does to a desk, since a closure cannot hold one.
-ghost use Rattle.std.specs.Prelude.{◌≡◌, ℕ, ◌+◌, ◌<◌, ◌≤◌, List as AnttList, [], ◌∷◌, length, map, All, slice_index_or};
+ghost use Rattle.std.specs.Prelude.{◌≡◌, ℕ, ◌+◌, ◌<◌, ◌≤◌, [], ◌∷◌, length, map, All, slice_index_or};
+ghost use Rattle.std.specs.Prelude as prelude;
 ghost use Rattle.std.specs.Thread.{IsSync};
 ghost use Rattle.std.specs.Arc.{arc_value};
 ghost use Rattle.poets_turn.specs.Clerks.{turn_frame, IsClerkOf};

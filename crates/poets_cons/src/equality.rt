@@ -3,7 +3,7 @@ ghost use Rattle.std.specs.Prelude.{◌≡◌, map};
 ghost use Rattle.std.specs.Ordering.{on};
 ghost use Rattle.std.specs.Cmp.{on_equiv, partial_equiv_from_equiv};
 ghost use Rattle.poets_expr.specs.Expression.{expression_of};
-ghost use Rattle.poets_syntax.specs.Same.{same_args as same_args_lem};
+ghost use Rattle.poets_syntax.specs.Same as spec;
 ghost use Rattle.poets_cons.specs.Row.{row_of};
 ghost use Rattle.poets_cons.specs.Same.{same_row};
 ghost use Rattle.poets_cons.specs.Hashing.{row_writes};
@@ -15,7 +15,7 @@ use poets_expr::{Expr, same};
 use std::hash::{Hash, Hasher};
 
 fn same_args(a: &[Expr], b: &[Expr]) -> bool
-    ensures { result ≡ same_args_lem (map expression_of a.now) (map expression_of b.now) }
+    ensures { result ≡ spec.same_args (map expression_of a.now) (map expression_of b.now) }
 {
     let mut left = a;
     let mut right = b;

@@ -1,7 +1,7 @@
 //! Contracts of rows, with names replaced.
 ghost use Rattle.std.specs.Prelude.{◌≡◌, ◌<◌, IfOk, length, reverse};
 ghost use Rattle.poets_syntax.specs.Contract.{contract_of};
-ghost use Rattle.poets_syntax.specs.Replace.{replace as replace_lem};
+ghost use Rattle.poets_syntax.specs.Replace as replace;
 ghost use Rattle.poets_cons.specs.Table.{contract_at, IsTable};
 
 use crate::arena::node_at;
@@ -23,7 +23,7 @@ pub fn replaced_at(
 ) -> Result<Term, Memory>
     requires table { IsTable nodes.now }
     requires within { place < length nodes.now }
-    ensures { IfOk result (λ t. contract_of t ≡ replace_lem (reverse pairs.now) (contract_at nodes.now place)) }
+    ensures { IfOk result (λ t. contract_of t ≡ replace.replace (reverse pairs.now) (contract_at nodes.now place)) }
 {
     match node_at(nodes, place) {
         Node::Success => Ok(Term::Success),

@@ -4,7 +4,9 @@ use Rattle.std.specs.Prelude.{ℤ, ◌+ℤ◌, pos, fold}
 use Rattle.std.proofs.lemmas.List.{take_more, map-append}
 use Rattle.std.proofs.lemmas.List.Sums.{sum_by_push, fold_push}
 use Rattle.poets_call.specs.declared.call.Entry.{Entry}
-use Rattle.poets_call.specs.Calls.{HistoryEntry, Response, entry_of, history_of, response_of}
+use Rattle.poets_call.specs.Plain.{Reply}
+use Rattle.poets_call.specs.Calls.{entry_of, history_of, reply_of}
+use Rattle.poets_call.specs.Plain as plain
 use Rattle.poets_demo.specs.Line.{count_replies, paid, paid_in}
 
 history_more : (entries : List Entry) (i : ℕ) (e : Entry) → i < length entries → e ≡ slice_index_or entries i e →
@@ -14,18 +16,18 @@ history_more entries i e h at =
     ∙ ap (λ x. history_of (take i entries) ++ entry_of x ∷ []) (sym at)
 
 -- a count with one entry more
-pub count_more : (such : Response → Bool) (entries : List Entry) (i n m : ℕ) (e : Entry) → i < length entries → e ≡ slice_index_or entries i e →
-    n ≡ count_replies such (history_of (take i entries)) → m ≡ n + cond (such (response_of e.reply)) 1 0 → m ≡ count_replies such (history_of (take (i + 1) entries))
+pub count_more : (such : Reply → Bool) (entries : List Entry) (i n m : ℕ) (e : Entry) → i < length entries → e ≡ slice_index_or entries i e →
+    n ≡ count_replies such (history_of (take i entries)) → m ≡ n + cond (such (reply_of e.reply)) 1 0 → m ≡ count_replies such (history_of (take (i + 1) entries))
 count_more such entries i n m e h at before after =
-    let push = sum_by_push (λ x. cond (such x.response) 1 0) (history_of (take i entries)) (entry_of e) in
-    after ∙ ap (λ k. k + cond (such (response_of e.reply)) 1 0) before ∙ sym push ∙ ap (count_replies such) (sym (history_more entries i e h at))
+    let push = sum_by_push (λ x. cond (such x.reply) 1 0) (history_of (take i entries)) (entry_of e) in
+    after ∙ ap (λ k. k + cond (such (reply_of e.reply)) 1 0) before ∙ sym push ∙ ap (count_replies such) (sym (history_more entries i e h at))
 
 -- a sum with one entry more
 pub paid_more : (entries : List Entry) (i : ℕ) (n m : ℤ) (e : Entry) → i < length entries → e ≡ slice_index_or entries i e →
-    n ≡ paid (history_of (take i entries)) → m ≡ n +ℤ paid_in (response_of e.reply) → m ≡ paid (history_of (take (i + 1) entries))
+    n ≡ paid (history_of (take i entries)) → m ≡ n +ℤ paid_in (reply_of e.reply) → m ≡ paid (history_of (take (i + 1) entries))
 paid_more entries i n m e h at before after =
     let entry = entry_of e in
     let history = history_of (take i entries) in
-    let split = map-append (λ (x : HistoryEntry). paid_in x.response) history (entry ∷ []) in
-    let push = fold_push ◌+ℤ◌ (pos 0) (map (λ (x : HistoryEntry). paid_in x.response) history) (paid_in (response_of e.reply)) in
-    after ∙ ap (λ k. k +ℤ paid_in (response_of e.reply)) before ∙ sym push ∙ ap (fold ◌+ℤ◌ (pos 0)) (sym split) ∙ ap paid (sym (history_more entries i e h at))
+    let split = map-append (λ (x : plain.Entry). paid_in x.reply) history (entry ∷ []) in
+    let push = fold_push ◌+ℤ◌ (pos 0) (map (λ (x : plain.Entry). paid_in x.reply) history) (paid_in (reply_of e.reply)) in
+    after ∙ ap (λ k. k +ℤ paid_in (reply_of e.reply)) before ∙ sym push ∙ ap (fold ◌+ℤ◌ (pos 0)) (sym split) ∙ ap paid (sym (history_more entries i e h at))

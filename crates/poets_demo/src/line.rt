@@ -1,7 +1,8 @@
 //! The line that sums up the history of a demonstration.
 ghost use Rattle.std.specs.Prelude.{◌≡◌, ◌+◌, ◌<◌, ◌^◌, ◌+ℤ◌, ◌-ℤ◌, ◌≤ℤ◌, neg_ℤ, pos, if◌then◌else◌, IfOk, string_bytes};
-ghost use Rattle.poets_call.specs.Calls.{history_of, response_of};
-ghost use Rattle.poets_demo.specs.Line.{amount_of, count_replies, demo_line as demo_line_lem, is_ended, is_recorded, is_refused, is_registered, paid as paid_lem, paid_in};
+ghost use Rattle.poets_call.specs.Calls.{history_of, reply_of};
+ghost use Rattle.poets_demo.specs.Line.{amount_of, count_replies, is_ended, is_recorded, is_refused, is_registered, paid_in};
+ghost use Rattle.poets_demo.specs.Line as spec;
 
 use poets_call::{Entry, Folio, Reply};
 use poets_value::{Memory, Value};
@@ -25,14 +26,14 @@ impl Sums {
         requires refused { self.old.refused < 2 ^ 63 }
         requires paid { (neg_ℤ (pos (2 ^ 126)) ≤ℤ self.old.paid) × (self.old.paid ≤ℤ pos (2 ^ 126)) }
         ensures registered { self.new.registered
-            ≡ self.old.registered + (if is_registered (response_of reply.now) then 1 else 0) }
+            ≡ self.old.registered + (if is_registered (reply_of reply.now) then 1 else 0) }
         ensures recorded { self.new.recorded
-            ≡ self.old.recorded + (if is_recorded (response_of reply.now) then 1 else 0) }
+            ≡ self.old.recorded + (if is_recorded (reply_of reply.now) then 1 else 0) }
         ensures ended { self.new.ended
-            ≡ self.old.ended + (if is_ended (response_of reply.now) then 1 else 0) }
+            ≡ self.old.ended + (if is_ended (reply_of reply.now) then 1 else 0) }
         ensures refused { self.new.refused
-            ≡ self.old.refused + (if is_refused (response_of reply.now) then 1 else 0) }
-        ensures paid { self.new.paid ≡ self.old.paid +ℤ paid_in (response_of reply.now) }
+            ≡ self.old.refused + (if is_refused (reply_of reply.now) then 1 else 0) }
+        ensures paid { self.new.paid ≡ self.old.paid +ℤ paid_in (reply_of reply.now) }
         ensures least { (self.old.paid -ℤ pos (2 ^ 63)) ≤ℤ self.new.paid }
         ensures greatest { self.new.paid ≤ℤ (self.old.paid +ℤ pos (2 ^ 63)) }
     {
@@ -64,7 +65,7 @@ fn sums_of(entries: &[Entry]) -> Sums
     ensures recorded { result.recorded ≡ count_replies is_recorded (history_of entries.now) }
     ensures ended { result.ended ≡ count_replies is_ended (history_of entries.now) }
     ensures refused { result.refused ≡ count_replies is_refused (history_of entries.now) }
-    ensures paid { result.paid ≡ paid_lem (history_of entries.now) }
+    ensures paid { result.paid ≡ spec.paid (history_of entries.now) }
 {
     let mut sums = Sums {
         registered: 0,
@@ -84,7 +85,7 @@ fn sums_of(entries: &[Entry]) -> Sums
 /// It tells how many entries there are, how many contracts were registered, events recorded,
 /// contracts ended and events refused, and what the portfolios tell as paid, all together.
 pub fn demo_line(alloc: Global, sales: u32, entries: &[Entry]) -> Result<String, Memory>
-    ensures { IfOk result (λ line. string_bytes line ≡ demo_line_lem sales (history_of entries.now)) }
+    ensures { IfOk result (λ line. string_bytes line ≡ spec.demo_line sales (history_of entries.now)) }
 {
     let count = entries.len();
     let Sums {

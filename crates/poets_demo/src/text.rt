@@ -1,7 +1,8 @@
 //! The text of the demonstration.
 ghost use Rattle.std.specs.Prelude.{◌≡◌, ◌++◌, ◌≤◌, ◌-◌, IfOk, OnOk, Some, codes, length, string_bytes};
 ghost use Rattle.std.specs.List.{flat_map, range_with_len};
-ghost use Rattle.poets_demo.specs.Text.{demo_text as demo_text_lem, numbers_to, portfolio, sale_lines, sale_name, section};
+ghost use Rattle.poets_demo.specs.Text.{numbers_to, portfolio, sale_lines, sale_name, section};
+ghost use Rattle.poets_demo.specs.Text as spec;
 
 use poets_value::Memory;
 use std::alloc::Global;
@@ -44,7 +45,7 @@ impl fmt::Display for SaleName {
 /// price. A clerk's last command asks what was paid for each of the clerk's sales.
 pub fn demo_text(alloc: Global, sales: u32) -> Result<String, Memory>
     requires { (1 ≤ sales) × (sales ≤ 1000) }
-    ensures text { IfOk result (λ text. string_bytes text ≡ demo_text_lem sales) }
+    ensures text { IfOk result (λ text. string_bytes text ≡ spec.demo_text sales) }
     ensures short { IfOk result (λ text. length (string_bytes text) ≤ 16_777_216) }
 {
     let mut text = String::from_str(alloc, BOOK)?;

@@ -11,8 +11,8 @@ use Rattle.poets_cons.specs.declared.node.Node.{Node}
 use Rattle.poets_cons.specs.Table.{contract_of_rows}
 use Rattle.poets_table.specs.TableView.{RowView, changed_at, finished, number_named}
 use Rattle.poets_call.specs.declared.rules.Rules.{Rules}
-use Rattle.poets_call.specs.Rules.{book_of}
-use Rattle.poets_call.specs.Calls.{Request, Response}
+use Rattle.poets_call.specs.Rules.{book_of_rules}
+use Rattle.poets_call.specs.Plain.{Command, Reply}
 use Rattle.poets_call.specs.Ledger.{Ledger, with_entry, number_in, trace, is_ended}
 use Rattle.poets_engine.specs.Store.{StoreView}
 use Rattle.poets_engine.specs.Rows.{IsLedger, RowsAre}
@@ -23,35 +23,35 @@ use Rattle.poets_engine.proofs.Standing.{Stood, study, leaves, changes, stood, a
 use Rattle.poets_engine.proofs.WatchLedgers.{watches_same}
 
 module _ (rules : Rules) (x : Name) (old : StoreView) where
-  pub end_absent : number_named x old.rows ≡ None → Makes rules (Request.End x) old old (Response.NoContract x)
+  pub end_absent : number_named x old.rows ≡ None → Makes rules (Command.End x) old old (Reply.NoContract x)
   end_absent none =
-      leaves rules (Request.End x) (Response.NoContract x) old (λ l. refl) (λ l h right. rw (absent rules l x old h none) refl)
+      leaves rules (Command.End x) (Reply.NoContract x) old (λ l. refl) (λ l h right. rw (absent rules l x old h none) refl)
 
   module _ (n : ℕ) (r : RowView Term (List Node)) (found : number_named x old.rows ≡ Some n) (row : slice_get old.rows (n - 1) ≡ Some r) where
     standing : (l : Ledger) → IsLedger rules l old → Stood rules.studied l x old.rows n r
     standing l h = stood rules l x old h n r found row
 
-    pub end_over : r.ended ≡ true → Makes rules (Request.End x) old old Response.AlreadyEnded
-    end_over e = leaves rules (Request.End x) Response.AlreadyEnded old (λ l. refl) (λ l h right.
+    pub end_over : r.ended ≡ true → Makes rules (Command.End x) old old Reply.AlreadyEnded
+    end_over e = leaves rules (Command.End x) Reply.AlreadyEnded old (λ l. refl) (λ l h right.
         let c = standing l h in
         rw c.named (inl (sym c.is.ended ∙ e, refl)))
 
     module _ (running : r.ended ≡ false) (may_end : Bool)
-        (tells : IsTrue may_end ↔ Perf (book_of rules) [] (contract_of_rows r.current) []) where
-      told : (l : Ledger) → IsLedger rules l old → (c : Stood rules.studied l x old.rows n r) → IsTrue may_end ↔ Perf (book_of rules) [] (contract_of r.original) (trace l (1 + c.place))
+        (tells : IsTrue may_end ↔ Perf (book_of_rules rules) [] (contract_of_rows r.current) []) where
+      told : (l : Ledger) → IsLedger rules l old → (c : Stood rules.studied l x old.rows n r) → IsTrue may_end ↔ Perf (book_of_rules rules) [] (contract_of r.original) (trace l (1 + c.place))
       told l h c = told_end rules.studied (study rules l old h) l (1 + c.place) r c.is may_end tells
 
       is_open : (l : Ledger) (c : Stood rules.studied l x old.rows n r) → is_ended l (1 + c.place) ≡ true → ⊥
       is_open l c y = let z : true ≡ false = sym y ∙ sym c.is.ended ∙ running in cc
 
-      pub end_owes : may_end ≡ false → Makes rules (Request.End x) old old Response.NotPerformed
-      end_owes fails = leaves rules (Request.End x) Response.NotPerformed old (λ l. refl) (λ l h right.
+      pub end_owes : may_end ≡ false → Makes rules (Command.End x) old old Reply.NotPerformed
+      end_owes fails = leaves rules (Command.End x) Reply.NotPerformed old (λ l. refl) (λ l h right.
           let c = standing l h in
           rw c.named (inr (is_open l c, inl ((λ p. absurd (let z = sym ((told l h c).1 p) ∙ fails in cc)), refl))))
 
       -- the rows with the one ended
       module _ (new : StoreView) (changed : new.rows ≡ changed_at finished (n - 1) old.rows) (log : new.log ≡ old.log) (watches : new.watches ≡ old.watches) where
-        finishes : (l : Ledger) → IsLedger rules l old → IsLedger rules (with_entry l (Request.End x) Response.EndedNow) new
+        finishes : (l : Ledger) → IsLedger rules l old → IsLedger rules (with_entry l (Command.End x) Reply.EndedNow) new
         finishes l h =
             let c = standing l h in
             let number = c.number in
@@ -71,7 +71,7 @@ module _ (rules : Rules) (x : Name) (old : StoreView) where
                   (All-cons (λ n. n ≤ length old.rows) (1 + c.place) [] below (All-nil (λ n. n ≤ length old.rows))));
             })
 
-        pub end_now : may_end ≡ true → Makes rules (Request.End x) old new Response.EndedNow
-        end_now holds = changes rules (Request.End x) Response.EndedNow old new refl (λ l h right.
+        pub end_now : may_end ≡ true → Makes rules (Command.End x) old new Reply.EndedNow
+        end_now holds = changes rules (Command.End x) Reply.EndedNow old new refl (λ l h right.
             let c = standing l h in
             rw c.named (inr (is_open l c, inr ((told l h c).0 holds, refl)))) finishes

@@ -8,19 +8,22 @@ use Rattle.std.specs.Arc.{arc_value}
 use Rattle.poets_expr.specs.Env.{Declared, declared_of}
 use Rattle.poets_expr.specs.Expression.{Expression}
 use Rattle.poets_expr.specs.Val.{val}
-use Rattle.poets_report.specs.Query.{Query, query_of}
-use Rattle.poets_report.specs.Answers.{Finding, IsAnswer}
+use Rattle.poets_report.specs.Plain.{Report}
+use Rattle.poets_report.specs.Reports.{report_of}
+use Rattle.poets_report.specs.Answers.{IsAnswer}
 use Rattle.poets_report.proofs.Existence.{every_answer}
 use Rattle.poets_report.specs.declared.report.Answer.{Answer}
+use Rattle.poets_report.specs.Plain as plain
 use Rattle.poets_syntax.specs.declared.term.Term.{Term}
 use Rattle.poets_cons.specs.declared.node.Node.{Node}
 use Rattle.poets_table.specs.TableView.{RowView, number_named}
 use Rattle.poets_folio.specs.declared.folio.Part.{Part}
 use Rattle.poets_folio.specs.Rows.{IsRow}
 use Rattle.poets_call.specs.declared.rules.Rules.{Rules}
-use Rattle.poets_call.specs.Rules.{book_of, reports_of}
+use Rattle.poets_call.specs.Rules.{book_of_rules, reports_of_rules}
 use Rattle.poets_call.specs.Frame.{Frame}
-use Rattle.poets_call.specs.Calls.{Request, Response, Call, folio_row_of, response_of}
+use Rattle.poets_call.specs.Plain.{Command, Reply}
+use Rattle.poets_call.specs.Calls.{Call, folio_row_of, reply_of}
 use Rattle.poets_call.specs.Ledger.{Ledger, ledger_of, contract_named, number_in, number_of, trace, absent_or, first_absent}
 use Rattle.poets_call.specs.Replies.{report_in, total_of, argument_values, AreFolioRows, Replies}
 use Rattle.poets_engine.specs.Store.{StoreView}
@@ -74,10 +77,10 @@ module _ (rules : Rules) (l : Ledger) (store : StoreView) (h : IsLedger rules l 
   parts_in (x ∷ names) (part ∷ parts) p = ((p.0.name, part_events x part p.0), parts_in names parts p.1)
 
 -- the row of a part: its name, and the report's answer over its events
-abbrev IsPlainRow : Declared → Query → List (Option Value) → Part → Name × Finding → Type 0
+abbrev IsPlainRow : Declared → Report → List (Option Value) → Part → Name × plain.Answer → Type 0
 IsPlainRow declared q args part row = (row.0 ≡ part.name) × IsAnswer declared q args part.events.items row.1
 
-plain_rows : (declared : Declared) (q : Query) (args : List (Option Value)) (parts : List Part) (rows : List (Name × Answer)) → AllZip (IsRow declared q args) parts rows →
+plain_rows : (declared : Declared) (q : Report) (args : List (Option Value)) (parts : List Part) (rows : List (Name × Answer)) → AllZip (IsRow declared q args) parts rows →
     AllZip (IsPlainRow declared q args) parts (map folio_row_of rows)
 plain_rows declared q args [] [] r = tt
 plain_rows declared q args [] (row ∷ rows) r = elim r [ ]
@@ -85,15 +88,15 @@ plain_rows declared q args (part ∷ parts) [] r = elim r [ ]
 plain_rows declared q args (part ∷ parts) (row ∷ rows) r = (r.0, plain_rows declared q args parts rows r.1)
 
 -- each part has a row
-rows_exist : (declared : Declared) (q : Query) (args : List (Option Value)) (parts : List Part) →
-    (rows : List (Name × Finding)) × AllZip (IsPlainRow declared q args) parts rows
+rows_exist : (declared : Declared) (q : Report) (args : List (Option Value)) (parts : List Part) →
+    (rows : List (Name × plain.Answer)) × AllZip (IsPlainRow declared q args) parts rows
 rows_exist declared q args [] = ([], tt)
 rows_exist declared q args (part ∷ parts) =
     let here = every_answer declared q args part.events.items in
     let more = rows_exist declared q args parts in
     ((part.name, here.0) ∷ more.0, ((refl, here.1), more.1))
 
-folio_rows : (f : Frame) (l : Ledger) (q : Query) (args : List Expression) (over : List Name) (parts : List Part) (rows : List (Name × Finding)) →
+folio_rows : (f : Frame) (l : Ledger) (q : Report) (args : List Expression) (over : List Name) (parts : List Part) (rows : List (Name × plain.Answer)) →
     AllZip (IsPartIn l) over parts → AllZip (IsPlainRow f.book.declared q (argument_values f args)) parts rows → AreFolioRows f l q args over rows
 folio_rows f l q args [] [] [] p r = tt
 folio_rows f l q args [] [] (row ∷ rows) p r = elim r [ ]
@@ -106,14 +109,14 @@ folio_rows f l q args (x ∷ over) (part ∷ parts) (row ∷ rows) p r = (
 )
 
 -- the rows of what was prepared are the right reply
-module _ (book : _) (reports : List Query) (l : Ledger) (x : Name) (args : List Expression) (over : List Name) (work : FolioWork)
+module _ (book : _) (reports : List Report) (l : Ledger) (x : Name) (args : List Expression) (over : List Name) (work : FolioWork)
     (h : HoldsPortfolio book reports l x args over work) where
-  abbrev asked : Query
-  asked = query_of (arc_value work.report)
+  abbrev asked : Report
+  asked = report_of (arc_value work.report)
 
-  gives : (f : Frame) → f.book ≡ book → f.reports ≡ reports → (rows : List (Name × Finding)) →
+  gives : (f : Frame) → f.book ≡ book → f.reports ≡ reports → (rows : List (Name × plain.Answer)) →
       AllZip (IsPlainRow (declared_of (arc_value work.decls).names) asked work.args.items) work.parts.items rows →
-      Replies f l (Request.Portfolio x args over) (Response.Folio rows (total_of asked rows))
+      Replies f l (Command.Portfolio x args over) (Reply.Folio rows (total_of asked rows))
   gives f b r rows answers =
       let declared : declared_of (arc_value work.decls).names ≡ f.book.declared = h.decls ∙ ap (λ k. k.declared) (sym b) in
       let values : work.args.items ≡ argument_values f args = h.values ∙ ap (λ k. map (val k.declared []) args) (sym b) in
@@ -123,16 +126,16 @@ module _ (book : _) (reports : List Query) (l : Ledger) (x : Name) (args : List 
 
 -- what `finish` makes of the work answers whatever command the work is owed to
 pub folio_fulfils : (place : ℕ) (work : FolioWork) (rows : List (Name × Answer)) (total : Option (Option Value)) →
-    AllZip (IsRow (declared_of (arc_value work.decls).names) (query_of (arc_value work.report)) work.args.items) work.parts.items rows →
-    total ≡ total_of (query_of (arc_value work.report)) (map folio_row_of rows) →
-    Fulfils (record { place = place; body = Folio work }) (Response.Folio (map folio_row_of rows) total)
-folio_fulfils place work rows total r totalled = λ book reports calls request owes.
+    AllZip (IsRow (declared_of (arc_value work.decls).names) (report_of (arc_value work.report)) work.args.items) work.parts.items rows →
+    total ≡ total_of (report_of (arc_value work.report)) (map folio_row_of rows) →
+    Fulfils (record { place = place; body = Folio work }) (Reply.Folio (map folio_row_of rows) total)
+folio_fulfils place work rows total r totalled = λ book reports calls command owes.
     let o = owes.reply in
     let f = o.legal.frame in
-    let q = query_of (arc_value work.report) in
+    let q = report_of (arc_value work.report) in
     let plain = plain_rows (declared_of (arc_value work.decls).names) q work.args.items work.parts.items rows r in
     let made = gives book reports (ledger_of o.history) o.report o.args o.over work o.holds f o.legal.book o.legal.reports (map folio_row_of rows) plain in
-    let asked = subst (λ c. Replies f (ledger_of o.history) c (Response.Folio (map folio_row_of rows) (total_of q (map folio_row_of rows)))) (sym o.asked) made in
+    let asked = subst (λ c. Replies f (ledger_of o.history) c (Reply.Folio (map folio_row_of rows) (total_of q (map folio_row_of rows)))) (sym o.asked) made in
     record {
       frame = f;
       book = o.legal.book;
@@ -141,39 +144,39 @@ folio_fulfils place work rows total r totalled = λ book reports calls request o
         history = o.history;
         legal = o.legal.holds;
         same = o.same;
-        reply = subst (λ t. Replies f (ledger_of o.history) request (Response.Folio (map folio_row_of rows) t)) (sym totalled) asked;
+        reply = subst (λ t. Replies f (ledger_of o.history) command (Reply.Folio (map folio_row_of rows) t)) (sym totalled) asked;
       };
     }
 
 -- what was prepared has a reply
-prepared_makes : (rules : Rules) (request : Request) (store : StoreView) (work : FolioWork) → Prepares rules request store work →
-    (response : Response) × Makes rules request store store response
-prepared_makes rules request store work p =
-    let q = query_of (arc_value work.report) in
+prepared_makes : (rules : Rules) (command : Command) (store : StoreView) (work : FolioWork) → Prepares rules command store work →
+    (response : Reply) × Makes rules command store store response
+prepared_makes rules command store work p =
+    let q = report_of (arc_value work.report) in
     let found = rows_exist (declared_of (arc_value work.decls).names) q work.args.items work.parts.items in
-    let response = Response.Folio found.0 (total_of q found.0) in (
+    let reply = Reply.Folio found.0 (total_of q found.0) in (
       response,
-      subst (λ c. Makes rules c store store response) (sym p.asked) (leaves rules (Request.Portfolio p.report p.args p.over) response store (λ l. refl)
-          (λ l h right. gives (book_of rules) (reports_of rules) l p.report p.args p.over work (p.holds l h) (frame_by rules right) refl refl found.0 found.1)),
+      subst (λ c. Makes rules c store store response) (sym p.asked) (leaves rules (Command.Portfolio p.report p.args p.over) response store (λ l. refl)
+          (λ l h right. gives (book_of_rules rules) (reports_of_rules rules) l p.report p.args p.over work (p.holds l h) (frame_by rules right) refl refl found.0 found.1)),
     )
 
-module _ (rules : Rules) (request : Request) (old new : StoreView) where
+module _ (rules : Rules) (command : Command) (old new : StoreView) where
   -- a command that was made has a reply, also where it is still owed
-  pub body_makes : (body : Body) → MakesBody rules request old new body → (response : Response) × Makes rules request old new response
-  body_makes (Done reply) m = (response_of reply, m)
+  pub body_makes : (body : Body) → MakesBody rules command old new body → (response : Reply) × Makes rules command old new response
+  body_makes (Done reply) m = (reply_of reply, m)
   body_makes (Folio work) m =
-      let made = prepared_makes rules request old work m.1 in
-      (made.0, subst (λ s. Makes rules request old s made.0) (sym m.0) made.1)
+      let made = prepared_makes rules command old work m.1 in
+      (made.0, subst (λ s. Makes rules command old s made.0) (sym m.0) made.1)
 
   -- and without it nothing changed
-  pub body_refused : (body : Body) → MakesBody rules request old new body → has_changed body ≡ false → new ≡ old
+  pub body_refused : (body : Body) → MakesBody rules command old new body → has_changed body ≡ false → new ≡ old
   body_refused (Done reply) m refusal = m.refused refusal
   body_refused (Folio work) m refusal = m.0
 
   -- and the body owes it
-  pub body_owes : (calls : List Call) (body : Body) → Stands rules calls old → MakesBody rules request old new body →
-      OwesReply (book_of rules) (reports_of rules) calls request body
-  body_owes calls (Done reply) h m = answered rules calls request (response_of reply) old new h m
+  pub body_owes : (calls : List Call) (body : Body) → Stands rules calls old → MakesBody rules command old new body →
+      OwesReply (book_of_rules rules) (reports_of_rules rules) calls command body
+  body_owes calls (Done reply) h m = answered rules calls command (reply_of reply) old new h m
   body_owes calls (Folio work) h m = record {
     history = h.history;
     legal = h.legal;
@@ -186,13 +189,13 @@ module _ (rules : Rules) (request : Request) (old new : StoreView) where
   }
 
 module _ (rules : Rules) (x : Name) (args : List Expression) (over : List Name) (store : StoreView) where
-  pub portfolio_absent : (y : Name) → absent_from store.rows over ≡ Some y → Makes rules (Request.Portfolio x args over) store store (Response.NoContract y)
+  pub portfolio_absent : (y : Name) → absent_from store.rows over ≡ Some y → Makes rules (Command.Portfolio x args over) store store (Reply.NoContract y)
   portfolio_absent y e =
-      leaves rules (Request.Portfolio x args over) (Response.NoContract y) store (λ l. refl) (λ l h right. rw (sym (absent_same rules l store h over) ∙ e) refl)
+      leaves rules (Command.Portfolio x args over) (Reply.NoContract y) store (λ l. refl) (λ l h right. rw (sym (absent_same rules l store h over) ∙ e) refl)
 
-  pub portfolio_prepared : (work : FolioWork) → absent_from store.rows over ≡ None → declared_of (arc_value work.decls).names ≡ (book_of rules).declared →
-      report_in (reports_of rules) x ≡ Some (query_of (arc_value work.report)) → work.args.items ≡ values_by rules args → AllZip (IsPart store.rows) over work.parts.items →
-      Prepares rules (Request.Portfolio x args over) store work
+  pub portfolio_prepared : (work : FolioWork) → absent_from store.rows over ≡ None → declared_of (arc_value work.decls).names ≡ (book_of_rules rules).declared →
+      report_in (reports_of_rules rules) x ≡ Some (report_of (arc_value work.report)) → work.args.items ≡ values_by rules args → AllZip (IsPart store.rows) over work.parts.items →
+      Prepares rules (Command.Portfolio x args over) store work
   portfolio_prepared work e declared found valued p = record {
     report = x;
     args = args;

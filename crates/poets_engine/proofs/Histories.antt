@@ -8,15 +8,17 @@ use Rattle.std.specs.declared.sync.Arc.{Arc}
 use Rattle.std.specs.Arc.{arc_value}
 use Rattle.poets_syntax.specs.Contract.{contract_of}
 use Rattle.poets_syntax.specs.Studied.{IsStudiedBook}
-use Rattle.poets_syntax.specs.Whole.{AreWholeDefinitions}
+use Rattle.poets_syntax.specs.Whole.{IsWholeBook}
 use Rattle.poets_syntax.proofs.StudiedMarks.{AreRight-studied}
 use Rattle.poets_call.specs.declared.call.Command.{Command}
 use Rattle.poets_call.specs.declared.rules.Rules.{Rules}
-use Rattle.poets_call.specs.Rules.{book_of, reports_of}
-use Rattle.poets_call.specs.Calls.{Request, Response, HistoryEntry, Call, request_of}
+use Rattle.poets_call.specs.Rules.{book_of_rules, reports_of_rules}
+use Rattle.poets_call.specs.Plain.{Reply, Entry}
+use Rattle.poets_call.specs.Calls.{Call, command_of}
 use Rattle.poets_call.specs.Histories.{IsLegal, RepliesIn, AnswersIn}
 use Rattle.poets_call.specs.Ledger.{ledger_of, empty_ledger}
 use Rattle.poets_call.specs.Replies.{Legal}
+use Rattle.poets_call.specs.Plain as plain
 use Rattle.poets_call.proofs.Histories.{ledger_last, calls_last}
 use Rattle.poets_call.proofs.OneFrames.{one_frame}
 use Rattle.poets_engine.specs.Store.{StoreView}
@@ -26,16 +28,16 @@ use Rattle.poets_engine.specs.Makes.{Makes}
 use Rattle.poets_engine.proofs.Standing.{frame_by}
 
 -- no call is a legal history
-pub empty_legal : (rules : Rules) → IsStudiedBook (book_of rules) rules.studied.marks → IsLegal (book_of rules) (reports_of rules) []
+pub empty_legal : (rules : Rules) → IsStudiedBook (book_of_rules rules) rules.studied.marks → IsLegal (book_of_rules rules) (reports_of_rules rules) []
 empty_legal rules studied = record {
-  frame = frame_by rules (AreRight-studied (book_of rules) rules.studied.marks studied);
+  frame = frame_by rules (AreRight-studied (book_of_rules rules) rules.studied.marks studied);
   book = refl;
   reports = refl;
   holds = Legal.Empty;
 }
 
 -- nothing kept is the empty ledger
-pub empty_stands : (rules : Rules) (calls : List Call) (store : StoreView) → IsStudiedBook (book_of rules) rules.studied.marks → AreWholeDefinitions (book_of rules) →
+pub empty_stands : (rules : Rules) (calls : List Call) (store : StoreView) → IsStudiedBook (book_of_rules rules) rules.studied.marks → IsWholeBook (book_of_rules rules) →
     calls ≡ [] → store.rows ≡ [] → store.log ≡ [] → store.watches ≡ [] → Stands rules calls store
 empty_stands rules calls store studied whole c r l w = record {
   history = [];
@@ -53,9 +55,9 @@ empty_stands rules calls store studied whole c r l w = record {
   };
 }
 
-module _ (rules : Rules) (calls : List Call) (request : Request) (response : Response) (old new : StoreView)
+module _ (rules : Rules) (calls : List Call) (request : plain.Command) (response : Reply) (old new : StoreView)
     (h : Stands rules calls old) (makes : Makes rules request old new response) where
-  reply : RepliesIn (book_of rules) (reports_of rules) (ledger_of h.history) request response
+  reply : RepliesIn (book_of_rules rules) (reports_of_rules rules) (ledger_of h.history) request response
   reply = makes.reply (ledger_of h.history) h.ledger
 
   -- the history is legal in the frame of the reply
@@ -65,7 +67,7 @@ module _ (rules : Rules) (calls : List Call) (request : Request) (response : Res
   -- with one more entry what is kept is the ledger of a legal history again
   pub stands_more : (clerk : ℕ) → Stands rules (calls ++ (clerk, request) ∷ []) new
   stands_more clerk =
-      let e : HistoryEntry = record { clerk = clerk; request = request; response = response } in
+      let e : Entry = record { clerk = clerk; command = request; reply = response } in
       record {
         history = h.history ++ e ∷ [];
         legal = record { frame = reply.frame; book = reply.book; reports = reply.reports; holds = Legal.More e legal reply.holds };
@@ -73,7 +75,7 @@ module _ (rules : Rules) (calls : List Call) (request : Request) (response : Res
         ledger = subst (λ l. IsLedger rules l new) (sym (ledger_last h.history e)) (makes.store (ledger_of h.history) h.ledger);
       }
 
-  pub answered : AnswersIn (book_of rules) (reports_of rules) calls request response
+  pub answered : AnswersIn (book_of_rules rules) (reports_of_rules rules) calls request response
   answered = record {
     frame = reply.frame;
     book = reply.book;
@@ -86,8 +88,8 @@ pub commands_last : (h h' : List (ℕ × Arc Command Global)) (clerk : ℕ) (a :
 commands_last h h' clerk a command e v =
     ap commands_of e ∙ map-append (λ p. (p.0, arc_value p.1)) h ((clerk, a) ∷ []) ∙ ap (λ c. commands_of h ++ (clerk, c) ∷ []) v
 
-pub plain_last : (calls : List (ℕ × Command)) (clerk : ℕ) (command : Command) → plain_calls (calls ++ (clerk, command) ∷ []) ≡ plain_calls calls ++ (clerk, request_of command) ∷ []
-plain_last calls clerk command = map-append (λ p. (p.0, request_of p.1)) calls ((clerk, command) ∷ [])
+pub plain_last : (calls : List (ℕ × Command)) (clerk : ℕ) (command : Command) → plain_calls (calls ++ (clerk, command) ∷ []) ≡ plain_calls calls ++ (clerk, command_of command) ∷ []
+plain_last calls clerk command = map-append (λ p. (p.0, command_of p.1)) calls ((clerk, command) ∷ [])
 
 pub length-plain_calls : (h : List (ℕ × Arc Command Global)) → length (plain_calls (commands_of h)) ≡ length h
-length-plain_calls h = length-map (commands_of h) (λ p. (p.0, request_of p.1)) ∙ length-map h (λ p. (p.0, arc_value p.1))
+length-plain_calls h = length-map (commands_of h) (λ p. (p.0, command_of p.1)) ∙ length-map h (λ p. (p.0, arc_value p.1))

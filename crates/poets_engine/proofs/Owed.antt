@@ -7,7 +7,7 @@ use Rattle.poets_value.specs.declared.event.Event.{Event}
 use Rattle.poets_syntax.specs.Contract.{Contract, Failure}
 use Rattle.poets_syntax.specs.WellFormed.{IsWellFormed, IsDeclaredEvent}
 use Rattle.poets_syntax.specs.Applied.{CountsFit}
-use Rattle.poets_syntax.specs.Book.{Definitions}
+use Rattle.poets_syntax.specs.Plain.{Book}
 use Rattle.poets_syntax.specs.Normal.{normal}
 use Rattle.poets_syntax.specs.Marks.{Marks, Hopeful}
 use Rattle.poets_syntax.specs.May.{May}
@@ -37,7 +37,7 @@ within_limit n e = grind (arith, nat_tests, e)
 pub nat_lt-cut : (n m : ℕ) → m ≡ min n 1001 → nat_lt widest m ≡ nat_lt widest n
 nat_lt-cut n m e = grind (arith, nat_tests, e)
 
-module _ (book : Definitions) (marks : Marks) (study : IsStudied book marks) where
+module _ (book : Book) (marks : Marks) (study : IsStudied book marks) where
   pub normal_hopeless : (c : Contract) → IsWellFormed book.declared c → normal book marks c ≡ Failure → Hopeful book c → ⊥
   normal_hopeless c formed e h =
       failure_is_hopeless book (normal book marks c) e (h.0, normal_in book marks study.right c formed [] (λ x k. refl) [] h.0 h.1)

@@ -16,12 +16,12 @@ use Rattle.poets_cons.specs.declared.node.Node.{Node}
 use Rattle.poets_cons.specs.Table.{contract_of_rows}
 use Rattle.poets_table.specs.TableView.{new_row, number_named}
 use Rattle.poets_call.specs.declared.rules.Rules.{Rules}
-use Rattle.poets_call.specs.Rules.{book_of, reports_of}
-use Rattle.poets_call.specs.Calls.{Request, Response}
+use Rattle.poets_call.specs.Rules.{book_of_rules, reports_of_rules}
+use Rattle.poets_call.specs.Plain.{Command, Reply}
 use Rattle.poets_call.specs.Ledger.{Ledger, contract_named}
 use Rattle.poets_call.specs.Replies.{widest}
 use Rattle.poets_call.specs.Taken.{IsTaken}
-use Rattle.poets_call.proofs.TypedRequests.{typed_registration}
+use Rattle.poets_call.proofs.TypedCommands.{typed_registration}
 use Rattle.poets_engine.specs.Store.{StoreView, AddsRow}
 use Rattle.poets_engine.specs.Rows.{IsLedger, RowsAre, RowIs}
 use Rattle.poets_engine.specs.Choices.{Refused, Kept, is_failure, judge, judged}
@@ -33,55 +33,55 @@ use Rattle.poets_engine.proofs.WatchLedgers.{watches_same}
 use Rattle.poets_engine.proofs.Owed.{normal_hopeless, normal_kept, normal_hopeful, failure_is, no_failure, past_limit, within_limit}
 
 module _ (rules : Rules) (x : Name) (c : Contract) (old : StoreView) where
-  pub register_taken : (n : ℕ) → number_named x old.rows ≡ Some n → Makes rules (Request.Register x c) old old (Response.NameTaken n)
-  register_taken n found = leaves rules (Request.Register x c) (Response.NameTaken n) old (λ l. refl)
+  pub register_taken : (n : ℕ) → number_named x old.rows ≡ Some n → Makes rules (Command.Register x c) old old (Reply.NameTaken n)
+  register_taken n found = leaves rules (Command.Register x c) (Reply.NameTaken n) old (λ l. refl)
       (λ l h right. rw ((taken rules l x old h n found).1) refl)
 
-  module _ (is_taken : IsTaken (book_of rules) (reports_of rules) (Request.Register x c)) (free : number_named x old.rows ≡ None) where
-    formed : IsWellFormed (book_of rules).declared c
-    formed = (typed_registration (book_of rules) (reports_of rules) x c is_taken.typed).0
+  module _ (is_taken : IsTaken (book_of_rules rules) (reports_of_rules rules) (Command.Register x c)) (free : number_named x old.rows ≡ None) where
+    formed : IsWellFormed (book_of_rules rules).declared c
+    formed = (typed_registration (book_of_rules rules) (reports_of_rules rules) x c is_taken.typed).0
 
-    fit : CountsFit (book_of rules) c
-    fit = (typed_registration (book_of rules) (reports_of rules) x c is_taken.typed).1
+    fit : CountsFit (book_of_rules rules) c
+    fit = (typed_registration (book_of_rules rules) (reports_of_rules rules) x c is_taken.typed).1
 
     -- the original's normal form
     abbrev form : Contract
-    form = normal (book_of rules) (marks_of rules.studied) c
+    form = normal (book_of_rules rules) (marks_of rules.studied) c
 
     abbrev size : ℕ
-    size = width (book_of rules) (marks_of rules.studied) form
+    size = width (book_of_rules rules) (marks_of rules.studied) form
 
     none : (l : Ledger) → IsLedger rules l old → contract_named l x ≡ None
     none l h = absent rules l x old h free
 
-    hopeful : (l : Ledger) → IsLedger rules l old → is_failure form ≡ false → Hopeful (book_of rules) c
-    hopeful l h failed = normal_hopeful (book_of rules) (marks_of rules.studied) (study rules l old h) c formed fit (no_failure form failed)
+    hopeful : (l : Ledger) → IsLedger rules l old → is_failure form ≡ false → Hopeful (book_of_rules rules) c
+    hopeful l h failed = normal_hopeful (book_of_rules rules) (marks_of rules.studied) (study rules l old h) c formed fit (no_failure form failed)
 
     registers_refused : (failed large : Bool) → is_failure form ≡ failed → nat_lt widest size ≡ large →
-        (refusal : Response) → Refused refusal ≡ judged Response.Hopeless failed large form → Makes rules (Request.Register x c) old old refusal
-    registers_refused true large e k refusal q = subst (Makes rules (Request.Register x c) old old) (let z : Response.Hopeless ≡ refusal = cc in z)
-        (leaves rules (Request.Register x c) Response.Hopeless old (λ l. refl)
-        (λ l h right. rw (none l h) (inl (normal_hopeless (book_of rules) (marks_of rules.studied) (study rules l old h) c formed (failure_is form e), refl))))
-    registers_refused false true e k refusal q = subst (Makes rules (Request.Register x c) old old) (let z : Response.TooLarge ≡ refusal = cc in z)
-        (leaves rules (Request.Register x c) Response.TooLarge old (λ l. refl)
+        (refusal : Reply) → Refused refusal ≡ judged Reply.Hopeless failed large form → Makes rules (Command.Register x c) old old refusal
+    registers_refused true large e k refusal q = subst (Makes rules (Command.Register x c) old old) (let z : Reply.Hopeless ≡ refusal = cc in z)
+        (leaves rules (Command.Register x c) Reply.Hopeless old (λ l. refl)
+        (λ l h right. rw (none l h) (inl (normal_hopeless (book_of_rules rules) (marks_of rules.studied) (study rules l old h) c formed (failure_is form e), refl))))
+    registers_refused false true e k refusal q = subst (Makes rules (Command.Register x c) old old) (let z : Reply.TooLarge ≡ refusal = cc in z)
+        (leaves rules (Command.Register x c) Reply.TooLarge old (λ l. refl)
         (λ l h right. rw (none l h) (inr (hopeful l h e, inl (past_limit size k, refl)))))
     registers_refused false false e k refusal q = absurd cc
 
-    pub register_refused : (made : Contract) (refusal : Response) → made ≡ form → Refused refusal ≡ judge rules.studied Response.Hopeless made →
-        Makes rules (Request.Register x c) old old refusal
+    pub register_refused : (made : Contract) (refusal : Reply) → made ≡ form → Refused refusal ≡ judge rules.studied Reply.Hopeless made →
+        Makes rules (Command.Register x c) old old refusal
     register_refused made refusal same q =
-        registers_refused (is_failure form) (nat_lt widest size) refl refl refusal (q ∙ ap (judge rules.studied Response.Hopeless) same)
+        registers_refused (is_failure form) (nat_lt widest size) refl refl refusal (q ∙ ap (judge rules.studied Reply.Hopeless) same)
 
     module _ (original : Term) (current : List Node) (o : contract_of original ≡ c) (new : StoreView)
         (added : AddsRow (new_row x original current) old new) where
       adds : contract_of_rows current ≡ form → is_failure form ≡ false → size ≤ widest → (l : Ledger) → IsLedger rules l old →
           IsLedger rules (with_contract l x c) new
       adds t failed narrow l h =
-          let hope = normal_kept (book_of rules) (marks_of rules.studied) (study rules l old h) c fit (no_failure form failed) in
+          let hope = normal_kept (book_of_rules rules) (marks_of rules.studied) (study rules l old h) c fit (no_failure form failed) in
           let row : RowIs rules.studied (with_contract l x c) (1 + length old.rows) (new_row x original current) =
           new_row_is rules.studied l x c (length old.rows) original current h.logged h.ended
-          (subst (IsWellFormed (book_of rules).declared) (sym o) formed) (subst (CountsFit (book_of rules)) (sym o) fit)
-          (t ∙ ap (normal (book_of rules) (marks_of rules.studied)) (sym o)) (subst (Hopeful (book_of rules)) (sym t) hope) (subst (λ d. width (book_of rules) (marks_of rules.studied) d ≤ widest) (sym t) narrow)
+          (subst (IsWellFormed (book_of_rules rules).declared) (sym o) formed) (subst (CountsFit (book_of_rules rules)) (sym o) fit)
+          (t ∙ ap (normal (book_of_rules rules) (marks_of rules.studied)) (sym o)) (subst (Hopeful (book_of_rules rules)) (sym t) hope) (subst (λ d. width (book_of_rules rules) (marks_of rules.studied) d ≤ widest) (sym t) narrow)
           (subst IsWholeContract (sym o) is_taken.whole) in
           let longer : length new.rows ≡ length old.rows + 1 = ap length added.rows ∙ simp length-append refl in
           record {
@@ -97,20 +97,20 @@ module _ (rules : Rules) (x : Name) (c : Contract) (old : StoreView) where
           }
 
       registers_kept : (failed large : Bool) → is_failure form ≡ failed → nat_lt widest size ≡ large →
-          Kept (contract_of_rows current) ≡ judged Response.Hopeless failed large form → Makes rules (Request.Register x c) old new (Response.Registered (length old.rows + 1))
+          Kept (contract_of_rows current) ≡ judged Reply.Hopeless failed large form → Makes rules (Command.Register x c) old new (Reply.Registered (length old.rows + 1))
       registers_kept true large e k q = absurd cc
       registers_kept false true e k q = absurd cc
       registers_kept false false e k q =
           let same : contract_of_rows current ≡ form = cc in
           let narrow = within_limit size k in
-          changes rules (Request.Register x c) (Response.Registered (length old.rows + 1)) old new refl
+          changes rules (Command.Register x c) (Reply.Registered (length old.rows + 1)) old new refl
           (λ l h right.
           let count : length old.rows ≡ length l.contracts = sym (length-map old.rows named) ∙ ap length h.contracts in
-          rw (none l h) (inr (hopeful l h e, inr ((λ lt. absurd (omega (arith, narrow, lt))), ap (λ n. Response.Registered (n + 1)) count))))
+          rw (none l h) (inr (hopeful l h e, inr ((λ lt. absurd (omega (arith, narrow, lt))), ap (λ n. Reply.Registered (n + 1)) count))))
           (adds same e narrow)
 
-      pub register_kept : (made : Contract) (n : ℕ) → made ≡ form → Kept (contract_of_rows current) ≡ judge rules.studied Response.Hopeless made → n ≡ length old.rows + 1 →
-          Makes rules (Request.Register x c) old new (Response.Registered n)
+      pub register_kept : (made : Contract) (n : ℕ) → made ≡ form → Kept (contract_of_rows current) ≡ judge rules.studied Reply.Hopeless made → n ≡ length old.rows + 1 →
+          Makes rules (Command.Register x c) old new (Reply.Registered n)
       register_kept made n same q number =
-          subst (λ m. Makes rules (Request.Register x c) old new (Response.Registered m)) (sym number)
-          (registers_kept (is_failure form) (nat_lt widest size) refl refl (q ∙ ap (judge rules.studied Response.Hopeless) same))
+          subst (λ m. Makes rules (Command.Register x c) old new (Reply.Registered m)) (sym number)
+          (registers_kept (is_failure form) (nat_lt widest size) refl refl (q ∙ ap (judge rules.studied Reply.Hopeless) same))

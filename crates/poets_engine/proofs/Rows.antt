@@ -14,7 +14,8 @@ use Rattle.poets_value.specs.declared.value.Name.{Name}
 use Rattle.poets_value.specs.declared.event.Event.{Event}
 use Rattle.poets_syntax.specs.Contract.{Contract, contract_of}
 use Rattle.poets_syntax.specs.Applied.{CountsFit}
-use Rattle.poets_syntax.specs.Book.{Definitions, definitions_of}
+use Rattle.poets_syntax.specs.Plain.{Book}
+use Rattle.poets_syntax.specs.Book.{book_of}
 use Rattle.poets_syntax.specs.Studied.{StudiedBook, marks_of}
 use Rattle.poets_syntax.specs.declared.term.Term.{Term}
 use Rattle.poets_syntax.specs.WellFormed.{IsWellFormed, IsDeclaredEvent}
@@ -37,8 +38,8 @@ use Rattle.poets_engine.specs.Choices.{IsKept, AreKept}
 use Rattle.poets_engine.proofs.Named.{truth, named}
 
 -- the book that was studied
-abbrev pub book_in : StudiedBook → Definitions
-book_in s = definitions_of s.book
+abbrev pub book_in : StudiedBook → Book
+book_in s = book_of s.book
 
 -- the part of the log with a number
 abbrev numbered : ℕ → List (ℕ × Event) → List (ℕ × Event)

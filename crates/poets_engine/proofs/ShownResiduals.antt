@@ -6,7 +6,7 @@ use Rattle.std.proofs.lemmas.List.Elements.{All-nil, All-cons, All-head, All-tai
 use Rattle.poets_value.specs.declared.value.Name.{Name}
 use Rattle.poets_expr.specs.Env.{same_name}
 use Rattle.poets_syntax.specs.Applied.{CountsFit}
-use Rattle.poets_syntax.specs.Book.{Definitions}
+use Rattle.poets_syntax.specs.Plain.{Book}
 use Rattle.poets_syntax.specs.Contract.{Contract}
 use Rattle.poets_syntax.specs.Perf.{Perf}
 use Rattle.poets_syntax.specs.Residual.{residual_after}
@@ -15,16 +15,16 @@ use Rattle.poets_syntax.specs.WellFormed.{IsWellFormed, IsDeclaredEvent}
 use Rattle.poets_syntax.proofs.StudiedMarks.{AreRight-studied}
 use Rattle.poets_residue.proofs.Studies.{IsStudied-book}
 use Rattle.poets_residue.proofs.Traces.{trace_performed}
-use Rattle.poets_report.specs.Query.{Query}
-use Rattle.poets_call.specs.Calls.{Request, Response, HistoryEntry}
+use Rattle.poets_report.specs.Plain.{Report}
+use Rattle.poets_call.specs.Plain.{Command, Reply, Entry}
 use Rattle.poets_call.specs.Frame.{Frame}
 use Rattle.poets_call.specs.Histories.{shown}
 use Rattle.poets_call.specs.Ledger.{Ledger, ledger_of, empty_ledger, with_entry, contract_from, contract_named, trace}
 use Rattle.poets_call.specs.Replies.{Legal, Replies}
-use Rattle.poets_call.specs.TypedSentences.{IsTypedRequest}
+use Rattle.poets_call.specs.TypedStatements.{PassesAsCommand}
 use Rattle.poets_call.proofs.Histories.{legal_reply}
 use Rattle.poets_call.proofs.OneFrames.{one_frame}
-use Rattle.poets_call.proofs.TypedRequests.{typed_registration, typed_event}
+use Rattle.poets_call.proofs.TypedCommands.{typed_registration, typed_event}
 use Rattle.poets_engine.specs.Laws.{LegalHistoriesShow}
 
 -- a chosen value is the first or the later one
@@ -32,7 +32,7 @@ first_or_later : {A : Type 0} (b : Bool) (first : A) (later : Option A) (x : A) 
 first_or_later true first later x e = inl cc
 first_or_later false first later x e = inr e
 
-module _ (book : Definitions) (reports : List Query) where
+module _ (book : Book) (reports : List Report) where
   -- the contract is well-formed and has the right numbers of arguments
   abbrev Fits : Contract → Type 0
   Fits c = IsWellFormed book.declared c × CountsFit book c
@@ -42,37 +42,37 @@ module _ (book : Definitions) (reports : List Query) where
     pub contracts : All (λ p. Fits p.1) l.contracts
     pub log : All (λ p. IsDeclaredEvent book.declared p.1) l.log
 
-  sound_more : (l : Ledger) (request : Request) (response : Response) → IsSound l → IsTypedRequest book reports request → IsSound (with_entry l request response)
-  sound_more l (Request.Register x c) (Response.Registered n) h t = record {
+  sound_more : (l : Ledger) (command : Command) (response : Reply) → IsSound l → PassesAsCommand book reports command → IsSound (with_entry l command response)
+  sound_more l (Command.Register x c) (Reply.Registered n) h t = record {
     contracts = All-append (λ p. Fits p.1) l.contracts ((x, c) ∷ []) h.contracts (All-cons (λ p. Fits p.1) (x, c) [] (typed_registration book reports x c t) (All-nil (λ p. Fits p.1)));
     log = h.log;
   }
-  sound_more l (Request.Transmit x e) (Response.Recorded n b) h t = record {
+  sound_more l (Command.Transmit x e) (Reply.Recorded n b) h t = record {
     contracts = h.contracts;
     log = All-append (λ p. IsDeclaredEvent book.declared p.1) l.log _ h.log
         (All-cons (λ p. IsDeclaredEvent book.declared p.1) _ [] (typed_event book reports x e t) (All-nil (λ p. IsDeclaredEvent book.declared p.1)));
   }
-  sound_more l (Request.End x) Response.EndedNow h t = record { contracts = h.contracts; log = h.log }
-  sound_more l (Request.Watch x args) (Response.Watching n) h t = record { contracts = h.contracts; log = h.log }
-  sound_more l request response h t = h
+  sound_more l (Command.End x) Reply.EndedNow h t = record { contracts = h.contracts; log = h.log }
+  sound_more l (Command.Watch x args) (Reply.Watching n) h t = record { contracts = h.contracts; log = h.log }
+  sound_more l command response h t = h
 
-  abbrev AreTyped : List HistoryEntry → Type 0
-  AreTyped h = All (λ e. IsTypedRequest book reports e.request) h
+  abbrev AreTyped : List Entry → Type 0
+  AreTyped h = All (λ e. PassesAsCommand book reports e.command) h
 
-  sound_from : (h : List HistoryEntry) (l : Ledger) → IsSound l → AreTyped h → IsSound (fold (λ m e. with_entry m e.request e.response) l h)
+  sound_from : (h : List Entry) (l : Ledger) → IsSound l → AreTyped h → IsSound (fold (λ m e. with_entry m e.command e.reply) l h)
   sound_from [] l s t = s
   sound_from (e ∷ h) l s t =
-      sound_from h (with_entry l e.request e.response)
-      (sound_more l e.request e.response s (All-head (λ x. IsTypedRequest book reports x.request) e h t)) (All-tail (λ x. IsTypedRequest book reports x.request) e h t)
+      sound_from h (with_entry l e.command e.reply)
+      (sound_more l e.command e.reply s (All-head (λ x. PassesAsCommand book reports x.command) e h t)) (All-tail (λ x. PassesAsCommand book reports x.command) e h t)
 
   -- the ledger of typed commands is sound
-  sound : (h : List HistoryEntry) → AreTyped h → IsSound (ledger_of h)
+  sound : (h : List Entry) → AreTyped h → IsSound (ledger_of h)
   sound h t = sound_from h empty_ledger (record { contracts = All-nil (λ p. Fits p.1); log = All-nil (λ p. IsDeclaredEvent book.declared p.1) }) t
 
-  front : (before after : List HistoryEntry) → AreTyped (before ++ after) → AreTyped before
-  front [] after t = All-nil (λ e. IsTypedRequest book reports e.request)
-  front (e ∷ before) after t = All-cons (λ x. IsTypedRequest book reports x.request) e before (All-head (λ x. IsTypedRequest book reports x.request) e (before ++ after) t)
-      (front before after (All-tail (λ x. IsTypedRequest book reports x.request) e (before ++ after) t))
+  front : (before after : List Entry) → AreTyped (before ++ after) → AreTyped before
+  front [] after t = All-nil (λ e. PassesAsCommand book reports e.command)
+  front (e ∷ before) after t = All-cons (λ x. PassesAsCommand book reports x.command) e before (All-head (λ x. PassesAsCommand book reports x.command) e (before ++ after) t)
+      (front before after (All-tail (λ x. PassesAsCommand book reports x.command) e (before ++ after) t))
 
   named_fits : (i : ℕ) (x : Name) (contracts : List (Name × Contract)) (n : ℕ) (o : Contract) → All (λ p. Fits p.1) contracts →
       contract_from i x contracts ≡ Some (n, o) → Fits o
@@ -89,7 +89,7 @@ module _ (book : Definitions) (reports : List Query) where
 
   -- a reply that shows a residual shows that of the contract's original by its trace
   shown_is : (f : Frame) (l : Ledger) (x : Name) (n : ℕ) (o : Contract) (residual : Contract) (count : ℕ) (may_end ended : Bool) →
-      contract_named l x ≡ Some (n, o) → Replies f l (Request.Show x) (Response.Shown residual count may_end ended) → residual ≡ residual_after f.book f.marks o (trace l n)
+      contract_named l x ≡ Some (n, o) → Replies f l (Command.Show x) (Reply.Shown residual count may_end ended) → residual ≡ residual_after f.book f.marks o (trace l n)
   shown_is f l x n o residual count may_end ended e r = let s = rw e at r in let t = s.2 in cc
 
 pub legal_histories_show : LegalHistoriesShow

@@ -15,8 +15,8 @@ use Rattle.poets_cons.specs.declared.node.Node.{Node}
 use Rattle.poets_cons.specs.Table.{contract_of_rows}
 use Rattle.poets_table.specs.TableView.{RowView, number_named}
 use Rattle.poets_call.specs.declared.rules.Rules.{Rules}
-use Rattle.poets_call.specs.Rules.{book_of, reports_of}
-use Rattle.poets_call.specs.Calls.{Request, Response}
+use Rattle.poets_call.specs.Rules.{book_of_rules, reports_of_rules}
+use Rattle.poets_call.specs.Plain.{Command, Reply}
 use Rattle.poets_call.specs.Ledger.{Ledger, with_entry, contract_named, contract_from, trace}
 use Rattle.poets_call.specs.Frame.{Frame}
 use Rattle.poets_call.specs.Histories.{RepliesIn}
@@ -29,28 +29,28 @@ use Rattle.poets_engine.proofs.Owed.{residual_performed}
 use Rattle.poets_engine.proofs.Rows.{book_in}
 
 abbrev pub marks_by : Rules → Type 0
-marks_by rules = AreRight (book_of rules) (marks_of rules.studied)
+marks_by rules = AreRight (book_of_rules rules) (marks_of rules.studied)
 
 -- the frame of rules
 abbrev pub frame_by : (rules : Rules) → marks_by rules → Frame
-frame_by rules right = record { book = book_of rules; reports = reports_of rules; marks = marks_of rules.studied; right = right }
+frame_by rules right = record { book = book_of_rules rules; reports = reports_of_rules rules; marks = marks_of rules.studied; right = right }
 
 -- the book of rules was studied
-pub study : (rules : Rules) (l : Ledger) (store : StoreView) → IsLedger rules l store → IsStudied (book_of rules) (marks_of rules.studied)
-study rules l store h = IsStudied-book (book_of rules) rules.studied.marks h.studied
+pub study : (rules : Rules) (l : Ledger) (store : StoreView) → IsLedger rules l store → IsStudied (book_of_rules rules) (marks_of rules.studied)
+study rules l store h = IsStudied-book (book_of_rules rules) rules.studied.marks h.studied
 
-module _ (rules : Rules) (request : Request) (response : Response) where
+module _ (rules : Rules) (command : Command) (response : Reply) where
   -- the reply is right after the ledger of what is kept
   abbrev pub RepliesAfter : StoreView → Type 0
-  RepliesAfter store = (l : Ledger) → IsLedger rules l store → (right : marks_by rules) → Replies (frame_by rules right) l request response
+  RepliesAfter store = (l : Ledger) → IsLedger rules l store → (right : marks_by rules) → Replies (frame_by rules right) l command response
 
-  in_frame : (store : StoreView) → RepliesAfter store → (l : Ledger) → IsLedger rules l store → RepliesIn (book_of rules) (reports_of rules) l request response
+  in_frame : (store : StoreView) → RepliesAfter store → (l : Ledger) → IsLedger rules l store → RepliesIn (book_of_rules rules) (reports_of_rules rules) l command response
   in_frame store reply l h =
-      let right = AreRight-studied (book_of rules) rules.studied.marks h.studied in
+      let right = AreRight-studied (book_of_rules rules) rules.studied.marks h.studied in
       record { frame = frame_by rules right; book = refl; reports = refl; holds = reply l h right }
 
   -- a command that leaves what is kept and the ledger
-  pub leaves : (store : StoreView) → ((l : Ledger) → with_entry l request response ≡ l) → RepliesAfter store → Makes rules request store store response
+  pub leaves : (store : StoreView) → ((l : Ledger) → with_entry l command response ≡ l) → RepliesAfter store → Makes rules command store store response
   leaves store same reply = record {
     reply = in_frame store reply;
     store = λ l h. subst (λ m. IsLedger rules m store) (sym (same l)) h;
@@ -59,7 +59,7 @@ module _ (rules : Rules) (request : Request) (response : Response) where
 
   -- a command that changes it
   pub changes : (old new : StoreView) → is_accepted response ≡ true → RepliesAfter old →
-      ((l : Ledger) → IsLedger rules l old → IsLedger rules (with_entry l request response) new) → Makes rules request old new response
+      ((l : Ledger) → IsLedger rules l old → IsLedger rules (with_entry l command response) new) → Makes rules command old new response
   changes old new accepted reply store = record { reply = in_frame old reply; store = store; refused = λ e. absurd cc }
 
 -- the contract with the name, and its row

@@ -1,20 +1,21 @@
 -- Tallies, watches and reads are made.
-use Rattle.std.proofs.Common.{◌≡◌, ℕ, zero, suc, ◌+◌, ◌-◌, ◌<◌, ◌≤◌, List, [], ◌∷◌, ◌++◌, Option, Some, None, map, length, slice_get, refl, sym, ◌∙◌, ap, subst, arith}
+use Rattle.std.proofs.Common.{◌≡◌, ℕ, zero, suc, ◌+◌, ◌-◌, ◌<◌, ◌≤◌, List, [], ◌∷◌, ◌++◌, Option, Some, None, map, length, slice_get, refl, sym, ◌∙◌, ap, subst, arith, inl, inr}
 use Rattle.std.specs.Prelude.{◌⊎◌}
 use Rattle.std.specs.List.{All, AllZip}
-use Rattle.std.proofs.Common.{inl, inr}
 use Rattle.std.proofs.lemmas.Option.{slice_get_cases}
 use Rattle.poets_value.specs.declared.value.Name.{Name}
 use Rattle.poets_value.specs.declared.value.Value.{Value}
 use Rattle.poets_expr.specs.Expression.{Expression}
 use Rattle.poets_expr.specs.Val.{val}
 use Rattle.poets_report.specs.declared.report.Report.{Report}
-use Rattle.poets_report.specs.Query.{Query, query_of}
-use Rattle.poets_report.specs.Answers.{Finding, IsAnswer}
+use Rattle.poets_report.specs.Reports.{report_of}
+use Rattle.poets_report.specs.Plain.{Answer}
+use Rattle.poets_report.specs.Answers.{IsAnswer}
+use Rattle.poets_report.specs.Plain as plain
 use Rattle.poets_live.specs.Watching.{WatchView, Follows}
 use Rattle.poets_call.specs.declared.rules.Rules.{Rules}
-use Rattle.poets_call.specs.Rules.{book_of, reports_of}
-use Rattle.poets_call.specs.Calls.{Request, Response}
+use Rattle.poets_call.specs.Rules.{book_of_rules, reports_of_rules}
+use Rattle.poets_call.specs.Plain.{Command, Reply}
 use Rattle.poets_call.specs.Ledger.{Ledger, events, watch_at}
 use Rattle.poets_call.specs.Replies.{report_in}
 use Rattle.poets_engine.specs.Store.{StoreView, AddsWatch}
@@ -26,19 +27,19 @@ use Rattle.poets_engine.proofs.WatchLedgers.{with_watch, watches_begun, as_many,
 
 -- the values of arguments under the declared names of rules
 abbrev pub values_by : Rules → List Expression → List (Option Value)
-values_by rules args = map (val (book_of rules).declared []) args
+values_by rules args = map (val (book_of_rules rules).declared []) args
 
 module _ (rules : Rules) (x : Name) (args : List Expression) (store : StoreView) where
-  pub tally_made : (q : Query) (values : List (Option Value)) (a : Finding) → report_in (reports_of rules) x ≡ Some q → values ≡ values_by rules args →
-      IsAnswer (book_of rules).declared q values (map (λ p. p.1) store.log) a → Makes rules (Request.Tally x args) store store (Response.Answered a)
+  pub tally_made : (q : plain.Report) (values : List (Option Value)) (a : Answer) → report_in (reports_of_rules rules) x ≡ Some q → values ≡ values_by rules args →
+      IsAnswer (book_of_rules rules).declared q values (map (λ p. p.1) store.log) a → Makes rules (Command.Tally x args) store store (Reply.Answered a)
   tally_made q values a found valued answer =
-      leaves rules (Request.Tally x args) (Response.Answered a) store (λ l. refl) (λ l h right. (
+      leaves rules (Command.Tally x args) (Reply.Answered a) store (λ l. refl) (λ l h right. (
         q,
         found,
         (
           a,
-          subst (λ log. IsAnswer (book_of rules).declared q (values_by rules args) (map (λ p. p.1) log) a) h.log
-              (subst (λ vs. IsAnswer (book_of rules).declared q vs (map (λ p. p.1) store.log) a) valued answer),
+          subst (λ log. IsAnswer (book_of_rules rules).declared q (values_by rules args) (map (λ p. p.1) log) a) h.log
+              (subst (λ vs. IsAnswer (book_of_rules rules).declared q vs (map (λ p. p.1) store.log) a) valued answer),
           refl,
         ),
       ))
@@ -65,17 +66,17 @@ rows_watched rules l x args i (r ∷ rows) h = (
 )
 
 module _ (rules : Rules) (x : Name) (args : List Expression) (old new : StoreView) where
-  pub watch_made : (report : Report) (values : List (Option Value)) (n : ℕ) → report_in (reports_of rules) x ≡ Some (query_of report) → values ≡ values_by rules args →
-      AddsWatch (book_of rules).declared report values old new → n ≡ length old.watches + 1 → Makes rules (Request.Watch x args) old new (Response.Watching n)
+  pub watch_made : (report : Report) (values : List (Option Value)) (n : ℕ) → report_in (reports_of_rules rules) x ≡ Some (report_of report) → values ≡ values_by rules args →
+      AddsWatch (book_of_rules rules).declared report values old new → n ≡ length old.watches + 1 → Makes rules (Command.Watch x args) old new (Reply.Watching n)
   watch_made report values n found valued added number =
-      changes rules (Request.Watch x args) (Response.Watching n) old new refl
-      (λ l h right. ap Response.Watching (number ∙ ap (λ m. m + 1) (sym (as_many rules l l.watches old.watches h.watches))))
+      changes rules (Command.Watch x args) (Reply.Watching n) old new refl
+      (λ l h right. ap Reply.Watching (number ∙ ap (λ m. m + 1) (sym (as_many rules l l.watches old.watches h.watches))))
       (λ l h.
       let last = added.begins.last in
       let begun : WatchIs rules (with_watch rules l x args) (x, args) last = record {
-        report = found ∙ ap (λ r. Some (query_of r)) (sym added.begins.of_report);
+        report = found ∙ ap (λ r. Some (report_of r)) (sym added.begins.of_report);
         args = added.begins.of_args ∙ valued;
-        follows = subst (λ log. Follows (book_of rules).declared (map (λ p. p.1) log) last) h.log added.begins.follows;
+        follows = subst (λ log. Follows (book_of_rules rules).declared (map (λ p. p.1) log) last) h.log added.begins.follows;
       } in
       record {
         studied = h.studied;
@@ -113,24 +114,24 @@ watch_found l zero o lt e = absurd (omega (arith, lt))
 watch_found l (suc n) o lt e = subst (λ i. slice_get l.watches i ≡ o) (let z : suc n - 1 ≡ n = omega arith in z) e
 
 module _ (rules : Rules) (n : ℕ) (store : StoreView) where
-  pub read_absent : (n ≡ 0) ⊎ (length store.watches < n) → Makes rules (Request.Read n) store store (Response.NoWatch n)
+  pub read_absent : (n ≡ 0) ⊎ (length store.watches < n) → Makes rules (Command.Read n) store store (Reply.NoWatch n)
   read_absent past =
-      leaves rules (Request.Read n) (Response.NoWatch n) store (λ l. refl)
+      leaves rules (Command.Read n) (Reply.NoWatch n) store (λ l. refl)
       (λ l h right. rw (no_watch l n (subst (λ m. (n ≡ 0) ⊎ (m < n)) (sym (as_many rules l l.watches store.watches h.watches)) past)) refl)
 
-  pub read_found : (w : WatchView) (a : Finding) → 0 < n → slice_get store.watches (n - 1) ≡ Some w → a ≡ w.answer → Makes rules (Request.Read n) store store (Response.Answered a)
+  pub read_found : (w : WatchView) (a : Answer) → 0 < n → slice_get store.watches (n - 1) ≡ Some w → a ≡ w.answer → Makes rules (Command.Read n) store store (Reply.Answered a)
   read_found w a positive here same =
-      leaves rules (Request.Read n) (Response.Answered a) store (λ l. refl)
+      leaves rules (Command.Read n) (Reply.Answered a) store (λ l. refl)
       (λ l h right.
       let at : WatchAt rules l l.watches (n - 1) w = watch_there rules l l.watches store.watches (n - 1) w h.watches here in
       let x = at.0 in
       let is = at.2 in
       rw (watch_found l n (Some x) positive at.1) (
-        query_of w.report,
+        report_of w.report,
         is.report,
         (
           w.answer,
-          subst (λ vs. IsAnswer (book_of rules).declared (query_of w.report) vs (events l) w.answer) is.args is.follows.answers,
-          ap Response.Answered same,
+          subst (λ vs. IsAnswer (book_of_rules rules).declared (report_of w.report) vs (events l) w.answer) is.args is.follows.answers,
+          ap Reply.Answered same,
         ),
       ))

@@ -21,12 +21,12 @@ use Rattle.poets_cons.specs.declared.node.Node.{Node}
 use Rattle.poets_cons.specs.Table.{contract_of_rows}
 use Rattle.poets_table.specs.TableView.{RowView, changed_at, with_event, number_named}
 use Rattle.poets_call.specs.declared.rules.Rules.{Rules}
-use Rattle.poets_call.specs.Rules.{book_of, reports_of}
-use Rattle.poets_call.specs.Calls.{Request, Response}
+use Rattle.poets_call.specs.Rules.{book_of_rules, reports_of_rules}
+use Rattle.poets_call.specs.Plain.{Command, Reply}
 use Rattle.poets_call.specs.Ledger.{Ledger, contract_named, number_in, trace, is_ended, late_day}
 use Rattle.poets_call.specs.Replies.{Transmits, Records, widest}
 use Rattle.poets_call.specs.Taken.{IsTaken}
-use Rattle.poets_call.proofs.TypedRequests.{typed_event}
+use Rattle.poets_call.proofs.TypedCommands.{typed_event}
 use Rattle.poets_engine.specs.Store.{StoreView, RecordsEvent}
 use Rattle.poets_engine.specs.Rows.{IsLedger, RowsAre}
 use Rattle.poets_engine.specs.Choices.{Refused, Kept, is_failure, judged, unless_over, choice_by}
@@ -38,24 +38,24 @@ use Rattle.poets_engine.proofs.WatchLedgers.{watches_recorded}
 use Rattle.poets_engine.proofs.Owed.{residual_hopeless, residual_hopeful, residual_kept, failure_is, no_failure, past_limit, within_limit, residual_performed}
 
 module _ (rules : Rules) (x : Name) (e : Event) (old : StoreView) where
-  pub transmit_absent : number_named x old.rows ≡ None → Makes rules (Request.Transmit x e) old old (Response.NoContract x)
+  pub transmit_absent : number_named x old.rows ≡ None → Makes rules (Command.Transmit x e) old old (Reply.NoContract x)
   transmit_absent none =
-      leaves rules (Request.Transmit x e) (Response.NoContract x) old (λ l. refl) (λ l h right. rw (absent rules l x old h none) refl)
+      leaves rules (Command.Transmit x e) (Reply.NoContract x) old (λ l. refl) (λ l h right. rw (absent rules l x old h none) refl)
 
-  module _ (is_taken : IsTaken (book_of rules) (reports_of rules) (Request.Transmit x e)) (n : ℕ) (r : RowView Term (List Node))
+  module _ (is_taken : IsTaken (book_of_rules rules) (reports_of_rules rules) (Command.Transmit x e)) (n : ℕ) (r : RowView Term (List Node))
       (found : number_named x old.rows ≡ Some n) (row : slice_get old.rows (n - 1) ≡ Some r) where
-    event : IsDeclaredEvent (book_of rules).declared e
-    event = typed_event (book_of rules) (reports_of rules) x e is_taken.typed
+    event : IsDeclaredEvent (book_of_rules rules).declared e
+    event = typed_event (book_of_rules rules) (reports_of_rules rules) x e is_taken.typed
 
     abbrev original : Contract
     original = contract_of r.original
 
     -- what the row's contract becomes by the event
     abbrev next : Contract
-    next = after (book_of rules) (marks_of rules.studied) e (contract_of_rows r.current)
+    next = after (book_of_rules rules) (marks_of rules.studied) e (contract_of_rows r.current)
 
     abbrev size : ℕ
-    size = width (book_of rules) (marks_of rules.studied) next
+    size = width (book_of_rules rules) (marks_of rules.studied) next
 
     -- the events with this one
     abbrev longer_trace : List Event
@@ -65,20 +65,20 @@ module _ (rules : Rules) (x : Name) (e : Event) (old : StoreView) where
       c : Stood rules.studied l x old.rows n r
       c = stood rules l x old h n r found row
 
-      declared : All (IsDeclaredEvent (book_of rules).declared) longer_trace
-      declared = All-append (IsDeclaredEvent (book_of rules).declared) r.events (e ∷ []) c.is.declared
-          (All-cons (IsDeclaredEvent (book_of rules).declared) e [] event (All-nil (IsDeclaredEvent (book_of rules).declared)))
+      declared : All (IsDeclaredEvent (book_of_rules rules).declared) longer_trace
+      declared = All-append (IsDeclaredEvent (book_of_rules rules).declared) r.events (e ∷ []) c.is.declared
+          (All-cons (IsDeclaredEvent (book_of_rules rules).declared) e [] event (All-nil (IsDeclaredEvent (book_of_rules rules).declared)))
 
       -- what the contract becomes is the residual by all of them
-      next_is : next ≡ residual_after (book_of rules) (marks_of rules.studied) original longer_trace
-      next_is = ap (after (book_of rules) (marks_of rules.studied) e) c.is.current ∙ sym (residual_after-more (book_of rules) (marks_of rules.studied) original r.events e)
+      next_is : next ≡ residual_after (book_of_rules rules) (marks_of rules.studied) original longer_trace
+      next_is = ap (after (book_of_rules rules) (marks_of rules.studied) e) c.is.current ∙ sym (residual_after-more (book_of_rules rules) (marks_of rules.studied) original r.events e)
 
       -- the empty trace performs what is still owed exactly where the events perform the original
-      performed : (may_end : Bool) → IsTrue may_end ↔ Perf (book_of rules) [] next [] → IsTrue may_end ↔ Perf (book_of rules) [] original longer_trace
+      performed : (may_end : Bool) → IsTrue may_end ↔ Perf (book_of_rules rules) [] next [] → IsTrue may_end ↔ Perf (book_of_rules rules) [] original longer_trace
       performed may_end t =
-          let law = residual_performed (book_of rules) (marks_of rules.studied) (study rules l old h) original longer_trace c.is.formed c.is.fit declared in (
-            λ y. law.0 (subst (λ c. Perf (book_of rules) [] c []) next_is (t.0 y)),
-            λ p. t.1 (subst (λ c. Perf (book_of rules) [] c []) (sym next_is) (law.1 p)),
+          let law = residual_performed (book_of_rules rules) (marks_of rules.studied) (study rules l old h) original longer_trace c.is.formed c.is.fit declared in (
+            λ y. law.0 (subst (λ c. Perf (book_of_rules rules) [] c []) next_is (t.0 y)),
+            λ p. t.1 (subst (λ c. Perf (book_of_rules rules) [] c []) (sym next_is) (law.1 p)),
           )
 
       -- the row's number and trace in the ledger
@@ -89,18 +89,18 @@ module _ (rules : Rules) (x : Name) (e : Event) (old : StoreView) where
       past = sym c.is.events
 
       -- an open contract gets the reply by its last day
-      open_reply : (right : marks_by rules) (response : Response) (late : Option ℤ) → r.ended ≡ false → late_day r.events e.day ≡ late →
+      open_reply : (right : marks_by rules) (response : Reply) (late : Option ℤ) → r.ended ≡ false → late_day r.events e.day ≡ late →
           Records (frame_by rules right) original r.events e late response →
           Transmits (frame_by rules right) l x e (contract_named l x) response
       open_reply right response late running d reply =
           rw c.named (inr ((λ y. absurd (let z : true ≡ false = sym y ∙ over ∙ running in cc)), rw (past, d) reply))
 
-      hope : is_failure next ≡ false → (n : ℕ) × May (book_of rules) [] original longer_trace n
+      hope : is_failure next ≡ false → (n : ℕ) × May (book_of_rules rules) [] original longer_trace n
       hope failed =
-          residual_hopeful (book_of rules) (marks_of rules.studied) (study rules l old h) original longer_trace c.is.formed c.is.fit declared (λ z. no_failure next failed (next_is ∙ z))
+          residual_hopeful (book_of_rules rules) (marks_of rules.studied) (study rules l old h) original longer_trace c.is.formed c.is.fit declared (λ z. no_failure next failed (next_is ∙ z))
 
       -- the rows and the log with the event
-      records : (owed : List Node) → IsNext rules.studied r e owed → (new : StoreView) → RecordsEvent (book_of rules).declared n e owed old new →
+      records : (owed : List Node) → IsNext rules.studied r e owed → (new : StoreView) → RecordsEvent (book_of_rules rules).declared n e owed old new →
           IsLedger rules (with_log l (number_in (contract_named l x)) e) new
       records owed is_next new recorded =
           let number = c.number in
@@ -127,39 +127,39 @@ module _ (rules : Rules) (x : Name) (e : Event) (old : StoreView) where
         whole_event = is_taken.whole;
         in_time = in_time;
         residual = same;
-        hopeful = subst (Hopeful (book_of rules)) (sym (same ∙ next_is))
-            (residual_kept (book_of rules) (marks_of rules.studied) (study rules l old h) original longer_trace c.is.formed c.is.fit declared (λ z. no_failure next failed (next_is ∙ z)));
-        narrow = subst (λ d. width (book_of rules) (marks_of rules.studied) d ≤ widest) (sym same) narrow;
+        hopeful = subst (Hopeful (book_of_rules rules)) (sym (same ∙ next_is))
+            (residual_kept (book_of_rules rules) (marks_of rules.studied) (study rules l old h) original longer_trace c.is.formed c.is.fit declared (λ z. no_failure next failed (next_is ∙ z)));
+        narrow = subst (λ d. width (book_of_rules rules) (marks_of rules.studied) d ≤ widest) (sym same) narrow;
         whole = subst IsWholeContract (sym same)
-            (IsWhole-after_at (book_of rules) (marks_of rules.studied) h.whole e is_taken.whole (length (book_of rules).templates) (contract_of_rows r.current) c.is.whole_current);
+            (IsWhole-after_at (book_of_rules rules) (marks_of rules.studied) h.whole e is_taken.whole (length (book_of_rules rules).templates) (contract_of_rows r.current) c.is.whole_current);
       }
 
     transmits_refused : (ended : Bool) (late : Option ℤ) (failed large : Bool) →
         r.ended ≡ ended → late_day r.events e.day ≡ late → is_failure next ≡ failed → nat_lt widest size ≡ large →
-        (refusal : Response) → Refused refusal ≡ unless_over ended late (judged Response.Unmatched failed large next) → Makes rules (Request.Transmit x e) old old refusal
-    transmits_refused true late failed large n d fe le refusal q = subst (Makes rules (Request.Transmit x e) old old) (let z : Response.Ended ≡ refusal = cc in z)
-        (leaves rules (Request.Transmit x e) Response.Ended old (λ l. refl) (λ l h right. rw (c l h).named (inl (over l h ∙ n, refl))))
-    transmits_refused false (Some day) failed large n d fe le refusal q = subst (Makes rules (Request.Transmit x e) old old) (let z : Response.Late day ≡ refusal = cc in z)
-        (leaves rules (Request.Transmit x e) (Response.Late day) old (λ l. refl) (λ l h right. open_reply l h right (Response.Late day) (Some day) n d refl))
-    transmits_refused false None true large n d fe le refusal q = subst (Makes rules (Request.Transmit x e) old old) (let z : Response.Unmatched ≡ refusal = cc in z)
-        (leaves rules (Request.Transmit x e) Response.Unmatched old (λ l. refl) (λ l h right. open_reply l h right Response.Unmatched None n d (inl (
-          residual_hopeless (book_of rules) (marks_of rules.studied) (study rules l old h) original longer_trace (c l h).is.formed (c l h).is.fit (declared l h) (sym (next_is l h) ∙ failure_is next fe),
+        (refusal : Reply) → Refused refusal ≡ unless_over ended late (judged Reply.Unmatched failed large next) → Makes rules (Command.Transmit x e) old old refusal
+    transmits_refused true late failed large n d fe le refusal q = subst (Makes rules (Command.Transmit x e) old old) (let z : Reply.Ended ≡ refusal = cc in z)
+        (leaves rules (Command.Transmit x e) Reply.Ended old (λ l. refl) (λ l h right. rw (c l h).named (inl (over l h ∙ n, refl))))
+    transmits_refused false (Some day) failed large n d fe le refusal q = subst (Makes rules (Command.Transmit x e) old old) (let z : Reply.Late day ≡ refusal = cc in z)
+        (leaves rules (Command.Transmit x e) (Reply.Late day) old (λ l. refl) (λ l h right. open_reply l h right (Reply.Late day) (Some day) n d refl))
+    transmits_refused false None true large n d fe le refusal q = subst (Makes rules (Command.Transmit x e) old old) (let z : Reply.Unmatched ≡ refusal = cc in z)
+        (leaves rules (Command.Transmit x e) Reply.Unmatched old (λ l. refl) (λ l h right. open_reply l h right Reply.Unmatched None n d (inl (
+          residual_hopeless (book_of_rules rules) (marks_of rules.studied) (study rules l old h) original longer_trace (c l h).is.formed (c l h).is.fit (declared l h) (sym (next_is l h) ∙ failure_is next fe),
           refl,
         ))))
-    transmits_refused false None false true n d fe le refusal q = subst (Makes rules (Request.Transmit x e) old old) (let z : Response.TooLarge ≡ refusal = cc in z)
-        (leaves rules (Request.Transmit x e) Response.TooLarge old (λ l. refl) (λ l h right. open_reply l h right Response.TooLarge None n d
-        (inr (hope l h fe, inl (subst (λ c. widest < width (book_of rules) (marks_of rules.studied) c) (next_is l h) (past_limit size le), refl)))))
+    transmits_refused false None false true n d fe le refusal q = subst (Makes rules (Command.Transmit x e) old old) (let z : Reply.TooLarge ≡ refusal = cc in z)
+        (leaves rules (Command.Transmit x e) Reply.TooLarge old (λ l. refl) (λ l h right. open_reply l h right Reply.TooLarge None n d
+        (inr (hope l h fe, inl (subst (λ c. widest < width (book_of_rules rules) (marks_of rules.studied) c) (next_is l h) (past_limit size le), refl)))))
     transmits_refused false None false false n d fe le refusal q = absurd cc
 
-    pub transmit_refused : (refusal : Response) → Refused refusal ≡ choice_by rules.studied r e → Makes rules (Request.Transmit x e) old old refusal
+    pub transmit_refused : (refusal : Reply) → Refused refusal ≡ choice_by rules.studied r e → Makes rules (Command.Transmit x e) old old refusal
     transmit_refused refusal q = transmits_refused r.ended (late_day r.events e.day) (is_failure next) (nat_lt widest size) refl refl refl refl refusal q
 
-    module _ (owed : List Node) (may_end : Bool) (tells : IsTrue may_end ↔ Perf (book_of rules) [] (contract_of_rows owed) []) (new : StoreView)
-        (recorded : RecordsEvent (book_of rules).declared n e owed old new) where
+    module _ (owed : List Node) (may_end : Bool) (tells : IsTrue may_end ↔ Perf (book_of_rules rules) [] (contract_of_rows owed) []) (new : StoreView)
+        (recorded : RecordsEvent (book_of_rules rules).declared n e owed old new) where
       transmits_kept : (ended : Bool) (late : Option ℤ) (failed large : Bool) →
           r.ended ≡ ended → late_day r.events e.day ≡ late → is_failure next ≡ failed → nat_lt widest size ≡ large →
-          Kept (contract_of_rows owed) ≡ unless_over ended late (judged Response.Unmatched failed large next) →
-          Makes rules (Request.Transmit x e) old new (Response.Recorded (length r.events + 1) may_end)
+          Kept (contract_of_rows owed) ≡ unless_over ended late (judged Reply.Unmatched failed large next) →
+          Makes rules (Command.Transmit x e) old new (Reply.Recorded (length r.events + 1) may_end)
       transmits_kept true late failed large n d fe le q = absurd cc
       transmits_kept false (Some day) failed large n d fe le q = absurd cc
       transmits_kept false None true large n d fe le q = absurd cc
@@ -167,15 +167,15 @@ module _ (rules : Rules) (x : Name) (e : Event) (old : StoreView) where
       transmits_kept false None false false n d fe le q =
           let same : contract_of_rows owed ≡ next = cc in
           let narrow : size ≤ widest = within_limit size le in
-          changes rules (Request.Transmit x e) (Response.Recorded (length r.events + 1) may_end) old new refl
-          (λ l h right. open_reply l h right (Response.Recorded (length r.events + 1) may_end) None n d (inr (
+          changes rules (Command.Transmit x e) (Reply.Recorded (length r.events + 1) may_end) old new refl
+          (λ l h right. open_reply l h right (Reply.Recorded (length r.events + 1) may_end) None n d (inr (
             hope l h fe,
             inr (
-              (λ lt. absurd (let z : widest < size = subst (λ c. widest < width (book_of rules) (marks_of rules.studied) c) (sym (next_is l h)) lt in omega (arith, narrow, z))),
-              (may_end, performed l h may_end (subst (λ c. IsTrue may_end ↔ Perf (book_of rules) [] c []) same tells), refl),
+              (λ lt. absurd (let z : widest < size = subst (λ c. widest < width (book_of_rules rules) (marks_of rules.studied) c) (sym (next_is l h)) lt in omega (arith, narrow, z))),
+              (may_end, performed l h may_end (subst (λ c. IsTrue may_end ↔ Perf (book_of_rules rules) [] c []) same tells), refl),
             ),
           )))
           (λ l h. records l h owed (kept l h owed same d fe narrow) new recorded)
 
-      pub transmit_kept : Kept (contract_of_rows owed) ≡ choice_by rules.studied r e → Makes rules (Request.Transmit x e) old new (Response.Recorded (length r.events + 1) may_end)
+      pub transmit_kept : Kept (contract_of_rows owed) ≡ choice_by rules.studied r e → Makes rules (Command.Transmit x e) old new (Reply.Recorded (length r.events + 1) may_end)
       transmit_kept q = transmits_kept r.ended (late_day r.events e.day) (is_failure next) (nat_lt widest size) refl refl refl refl q

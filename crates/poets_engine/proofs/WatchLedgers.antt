@@ -6,11 +6,11 @@ use Rattle.poets_value.specs.declared.value.Name.{Name}
 use Rattle.poets_value.specs.declared.event.Event.{Event}
 use Rattle.poets_expr.specs.Expression.{Expression}
 use Rattle.poets_report.specs.declared.folds.Change.{Change}
-use Rattle.poets_report.specs.Query.{query_of}
+use Rattle.poets_report.specs.Reports.{report_of}
 use Rattle.poets_live.specs.Watching.{WatchView, Follows, Brought, AllBrought, Moved, AllMoved}
 use Rattle.poets_live.proofs.Following.{moved_follows}
 use Rattle.poets_call.specs.declared.rules.Rules.{Rules}
-use Rattle.poets_call.specs.Rules.{book_of}
+use Rattle.poets_call.specs.Rules.{book_of_rules}
 use Rattle.poets_call.specs.Ledger.{Ledger, events}
 use Rattle.poets_engine.specs.Store.{StoreView}
 use Rattle.poets_engine.specs.Rows.{WatchIs}
@@ -23,7 +23,7 @@ module _ (rules : Rules) where
   watch_same l m same asked w h = record {
     report = h.report;
     args = h.args;
-    follows = subst (λ s. Follows (book_of rules).declared s w) (sym same) h.follows;
+    follows = subst (λ s. Follows (book_of_rules rules).declared s w) (sym same) h.follows;
   }
 
   each_same : (l m : Ledger) → events m ≡ events l → (asked : List (Name × List Expression)) (ws : List WatchView) → AllZip (WatchIs rules l) asked ws → AllZip (WatchIs rules m) asked ws
@@ -38,16 +38,16 @@ module _ (rules : Rules) where
 
   -- a watch that takes in an event follows the events with it
   watch_recorded : (l : Ledger) (n : ℕ) (e : Event) (asked : Name × List Expression) (w : WatchView) (c : Change) (w' : WatchView) →
-      WatchIs rules l asked w → Brought (book_of rules).declared e w c → Moved w c w' → WatchIs rules (with_log l n e) asked w'
+      WatchIs rules l asked w → Brought (book_of_rules rules).declared e w c → Moved w c w' → WatchIs rules (with_log l n e) asked w'
   watch_recorded l n e asked w c w' h b m = record {
-    report = h.report ∙ ap (λ r. Some (query_of r)) (sym m.report);
+    report = h.report ∙ ap (λ r. Some (report_of r)) (sym m.report);
     args = m.args ∙ h.args;
-    follows = subst (λ s. Follows (book_of rules).declared s w') (sym (map-append (λ p. p.1) l.log ((n, e) ∷ [])))
-        (moved_follows (book_of rules).declared (events l) e w c w' h.follows b m);
+    follows = subst (λ s. Follows (book_of_rules rules).declared s w') (sym (map-append (λ p. p.1) l.log ((n, e) ∷ [])))
+        (moved_follows (book_of_rules rules).declared (events l) e w c w' h.follows b m);
   }
 
   each_recorded : (l : Ledger) (n : ℕ) (e : Event) (asked : List (Name × List Expression)) (old : List WatchView) (changes : List Change) (new : List WatchView) →
-      AllZip (WatchIs rules l) asked old → AllBrought (book_of rules).declared e old changes → AllMoved old changes new → AllZip (WatchIs rules (with_log l n e)) asked new
+      AllZip (WatchIs rules l) asked old → AllBrought (book_of_rules rules).declared e old changes → AllMoved old changes new → AllZip (WatchIs rules (with_log l n e)) asked new
   each_recorded l n e [] [] [] [] h b m = tt
   each_recorded l n e [] [] [] (w' ∷ new) h b m = elim m [ ]
   each_recorded l n e [] [] (c ∷ changes) new h b m = elim b [ ]
@@ -59,7 +59,7 @@ module _ (rules : Rules) where
       (watch_recorded l n e x w c w' h.0 b.0 m.0, each_recorded l n e asked old changes new h.1 b.1 m.1)
 
   pub watches_recorded : (l : Ledger) (n : ℕ) (e : Event) (old new : StoreView) (changes : List Change) →
-      AllBrought (book_of rules).declared e old.watches changes → AllMoved old.watches changes new.watches →
+      AllBrought (book_of_rules rules).declared e old.watches changes → AllMoved old.watches changes new.watches →
       AllZip (WatchIs rules l) l.watches old.watches → AllZip (WatchIs rules (with_log l n e)) l.watches new.watches
   watches_recorded l n e old new changes b m h = each_recorded l n e l.watches old.watches changes new.watches h b m
 

@@ -4,14 +4,16 @@ use Rattle.poets_value.specs.declared.event.Event.{Event}
 use Rattle.poets_syntax.specs.Contract.{Contract, Failure}
 use Rattle.poets_syntax.specs.declared.term.Term.{Term}
 use Rattle.poets_syntax.specs.Applied.{CountsFit}
-use Rattle.poets_syntax.specs.Book.{Definitions, definitions_of}
+use Rattle.poets_syntax.specs.Plain.{Book}
+use Rattle.poets_syntax.specs.Book.{book_of}
 use Rattle.poets_syntax.specs.Studied.{StudiedBook, marks_of}
 use Rattle.poets_syntax.specs.Residual.{after}
 use Rattle.poets_syntax.specs.Width.{width}
 use Rattle.poets_cons.specs.declared.node.Node.{Node}
 use Rattle.poets_cons.specs.Table.{contract_of_rows}
 use Rattle.poets_table.specs.TableView.{RowView}
-use Rattle.poets_call.specs.Calls.{Response, response_of}
+use Rattle.poets_call.specs.Plain.{Reply}
+use Rattle.poets_call.specs.Calls.{reply_of}
 use Rattle.poets_call.specs.Ledger.{late_day}
 use Rattle.poets_call.specs.Replies.{widest}
 use Rattle.poets_engine.specs.declared.judging.Decision.{Decision}
@@ -19,50 +21,50 @@ use Rattle.poets_engine.specs.declared.judging.Decision.TheVariants as D
 
 -- a refusal, or a contract that is kept
 pub data Choice : Type 0 where
-  Refused : Response → Choice
+  Refused : Reply → Choice
   Kept : Contract → Choice
 
 abbrev pub choice_of : Decision → Choice
-choice_of (D.Refused reply) = Refused (response_of reply)
+choice_of (D.Refused reply) = Refused (reply_of reply)
 choice_of (D.Kept rows) = Kept (contract_of_rows rows)
 
 abbrev pub is_failure : Contract → Bool
 is_failure Failure = true
 is_failure _ = false
 
-abbrev pub judged : Response → Bool → Bool → Contract → Choice
+abbrev pub judged : Reply → Bool → Bool → Contract → Choice
 judged refusal true is_large c = Refused refusal
-judged refusal false true c = Refused Response.TooLarge
+judged refusal false true c = Refused Reply.TooLarge
 judged refusal false false c = Kept c
 
 -- how wide the contract is
 abbrev pub width_in : StudiedBook → Contract → ℕ
-width_in s c = width (definitions_of s.book) (marks_of s) c
+width_in s c = width (book_of s.book) (marks_of s) c
 
 -- a contract that no number of granted steps performs is refused, and one that is too large
-abbrev pub judge : StudiedBook → Response → Contract → Choice
+abbrev pub judge : StudiedBook → Reply → Contract → Choice
 judge s refusal c = judged refusal (is_failure c) (nat_lt widest (width_in s c)) c
 
 -- a contract that is kept: the numbers of arguments fit in it, and it is not too large
 abbrev pub IsKept : StudiedBook → Contract → Type 0
-IsKept s c = CountsFit (definitions_of s.book) c × (width_in s c ≤ widest)
+IsKept s c = CountsFit (book_of s.book) c × (width_in s c ≤ widest)
 
 -- the residual of each row is one
 abbrev pub AreKept : StudiedBook → List (RowView Term (List Node)) → Type 0
 AreKept s rows = All (λ r. IsKept s (contract_of_rows r.current)) rows
 
 -- the numbers of arguments fit in what was chosen
-abbrev pub KeptFits : Definitions → Choice → Type 0
+abbrev pub KeptFits : Book → Choice → Type 0
 KeptFits book (Refused refusal) = Unit {0}
 KeptFits book (Kept c) = CountsFit book c
 
 abbrev pub unless_over : Bool → Option ℤ → Choice → Choice
-unless_over true late next = Refused Response.Ended
-unless_over false (Some day) next = Refused (Response.Late day)
+unless_over true late next = Refused Reply.Ended
+unless_over false (Some day) next = Refused (Reply.Late day)
 unless_over false None next = next
 
 -- what becomes of a contract's row by an event
 abbrev pub choice_by : StudiedBook → RowView Term (List Node) → Event → Choice
 choice_by s r e =
     unless_over r.ended (late_day r.events e.day)
-    (judge s Response.Unmatched (after (definitions_of s.book) (marks_of s) e (contract_of_rows r.current)))
+    (judge s Reply.Unmatched (after (book_of s.book) (marks_of s) e (contract_of_rows r.current)))

@@ -2,7 +2,7 @@
 use Rattle.std.specs.Prelude.{ℕ, ◌+◌, ◌*◌, ◌-◌, slice_get, length, min, Option, Some, None, List}
 use Rattle.poets_value.specs.declared.value.Name.{Name}
 use Rattle.poets_syntax.specs.declared.term.Term.{Term}
-use Rattle.poets_syntax.specs.Book.{definitions_of}
+use Rattle.poets_syntax.specs.Book.{book_of}
 use Rattle.poets_syntax.specs.Contract.{Contract}
 use Rattle.poets_syntax.specs.Studied.{StudiedBook, marks_of}
 use Rattle.poets_syntax.specs.Width.{size}
@@ -11,14 +11,14 @@ use Rattle.poets_cons.specs.Table.{contract_of_rows}
 use Rattle.poets_residue.specs.Once.{once}
 use Rattle.poets_table.specs.TableView.{RowView, number_named}
 use Rattle.poets_call.specs.declared.rules.Rules.{Rules}
-use Rattle.poets_call.specs.Calls.{Request}
+use Rattle.poets_call.specs.Plain.{Command}
 use Rattle.poets_engine.specs.Choices.{width_in}
 use Rattle.poets_engine.specs.Store.{StoreView}
 
 -- the most evaluations that the residual of a contract takes: no more than it is wide, and no more than where each different
 -- part is derived once
 abbrev pub asked_in : StudiedBook → Contract → ℕ
-asked_in s c = min (width_in s c) (once (definitions_of s.book) (marks_of s) c)
+asked_in s c = min (width_in s c) (once (book_of s.book) (marks_of s) c)
 
 abbrev pub asked_of_row : StudiedBook → Option (RowView Term (List Node)) → ℕ
 asked_of_row s None = 0
@@ -34,10 +34,10 @@ asked_owed s rows x = asked_of_number s rows (number_named x rows)
 
 -- the most evaluations that a command takes: a transmission asks as a residual does, and each watch for its key and its
 -- next value; a tally asks for its arguments and its start, and at each event for its key and its next value
-abbrev pub most_evaluations : Rules → StoreView → Request → ℕ
-most_evaluations rules store (Request.Register x c) = size c
-most_evaluations rules store (Request.Transmit x e) = asked_owed rules.studied store.rows x + 2 * length store.watches
-most_evaluations rules store (Request.Tally x args) = length args + 1 + 2 * length store.log
-most_evaluations rules store (Request.Portfolio x args over) = length args
-most_evaluations rules store (Request.Watch x args) = length args
+abbrev pub most_evaluations : Rules → StoreView → Command → ℕ
+most_evaluations rules store (Command.Register x c) = size c
+most_evaluations rules store (Command.Transmit x e) = asked_owed rules.studied store.rows x + 2 * length store.watches
+most_evaluations rules store (Command.Tally x args) = length args + 1 + 2 * length store.log
+most_evaluations rules store (Command.Portfolio x args over) = length args
+most_evaluations rules store (Command.Watch x args) = length args
 most_evaluations rules store _ = 0

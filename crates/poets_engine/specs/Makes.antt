@@ -1,11 +1,11 @@
 -- What it is to make a command.
-use Rattle.std.specs.Prelude.{◌≡◌, Bool, true, false}
+use Rattle.std.specs.Prelude.{◌≡◌, Bool, true, false, List}
 use Rattle.poets_call.specs.declared.rules.Rules.{Rules}
-use Rattle.poets_call.specs.Rules.{book_of, reports_of}
-use Rattle.std.specs.Prelude.{List}
+use Rattle.poets_call.specs.Rules.{book_of_rules, reports_of_rules}
 use Rattle.poets_value.specs.declared.value.Name.{Name}
 use Rattle.poets_expr.specs.Expression.{Expression}
-use Rattle.poets_call.specs.Calls.{Request, Response, response_of}
+use Rattle.poets_call.specs.Plain.{Command, Reply}
+use Rattle.poets_call.specs.Calls.{reply_of}
 use Rattle.poets_call.specs.Ledger.{Ledger, with_entry}
 use Rattle.poets_call.specs.Histories.{RepliesIn}
 use Rattle.poets_engine.specs.Store.{StoreView}
@@ -16,34 +16,34 @@ use Rattle.poets_engine.specs.declared.kept.Body.TheVariants.{Done, Folio}
 use Rattle.poets_engine.specs.Rows.{IsLedger}
 
 -- the replies after which something changed
-abbrev pub is_accepted : Response → Bool
-is_accepted (Response.Registered n) = true
-is_accepted (Response.Recorded n may_end) = true
-is_accepted Response.EndedNow = true
-is_accepted (Response.Watching n) = true
+abbrev pub is_accepted : Reply → Bool
+is_accepted (Reply.Registered n) = true
+is_accepted (Reply.Recorded n may_end) = true
+is_accepted Reply.EndedNow = true
+is_accepted (Reply.Watching n) = true
 is_accepted _ = false
 
 -- the command was made: its reply is the one after the ledger of what was kept, what is kept then is that of the ledger
 -- with the entry, and a refusal or a look leaves it
-pub record Makes (rules : Rules) (request : Request) (old new : StoreView) (response : Response) : Type 0 where
-  pub reply : (l : Ledger) → IsLedger rules l old → RepliesIn (book_of rules) (reports_of rules) l request response
-  pub store : (l : Ledger) → IsLedger rules l old → IsLedger rules (with_entry l request response) new
+pub record Makes (rules : Rules) (command : Command) (old new : StoreView) (response : Reply) : Type 0 where
+  pub reply : (l : Ledger) → IsLedger rules l old → RepliesIn (book_of_rules rules) (reports_of_rules rules) l command response
+  pub store : (l : Ledger) → IsLedger rules l old → IsLedger rules (with_entry l command response) new
   pub refused : is_accepted response ≡ false → new ≡ old
 
 -- the command is a portfolio, and the work is the one after the ledger of what is kept
-pub record Prepares (rules : Rules) (request : Request) (store : StoreView) (work : FolioWork) : Type 0 where
+pub record Prepares (rules : Rules) (command : Command) (store : StoreView) (work : FolioWork) : Type 0 where
   pub report : Name
   pub args : List Expression
   pub over : List Name
-  pub asked : request ≡ Request.Portfolio report args over
-  pub holds : (l : Ledger) → IsLedger rules l store → HoldsPortfolio (book_of rules) (reports_of rules) l report args over work
+  pub asked : command ≡ Command.Portfolio report args over
+  pub holds : (l : Ledger) → IsLedger rules l store → HoldsPortfolio (book_of_rules rules) (reports_of_rules rules) l report args over work
 
 -- the command was made, but for what the body still owes
-abbrev pub MakesBody : Rules → Request → StoreView → StoreView → Body → Type 0
-MakesBody rules request old new (Done reply) = Makes rules request old new (response_of reply)
-MakesBody rules request old new (Folio work) = (new ≡ old) × Prepares rules request old work
+abbrev pub MakesBody : Rules → Command → StoreView → StoreView → Body → Type 0
+MakesBody rules command old new (Done reply) = Makes rules command old new (reply_of reply)
+MakesBody rules command old new (Folio work) = (new ≡ old) × Prepares rules command old work
 
 -- a body after which something changed
 abbrev pub has_changed : Body → Bool
-has_changed (Done reply) = is_accepted (response_of reply)
+has_changed (Done reply) = is_accepted (reply_of reply)
 has_changed (Folio work) = false

@@ -9,21 +9,22 @@ use Rattle.poets_expr.specs.Val.{val}
 use Rattle.poets_syntax.specs.Contract.{contract_of}
 use Rattle.poets_syntax.specs.declared.term.Term.{Term}
 use Rattle.poets_syntax.specs.Applied.{CountsFit}
-use Rattle.poets_syntax.specs.Book.{definitions_of}
+use Rattle.poets_syntax.specs.Book.{book_of}
 use Rattle.poets_syntax.specs.Studied.{StudiedBook, IsStudiedBook, marks_of}
 use Rattle.poets_syntax.specs.WellFormed.{IsWellFormed, IsDeclaredEvent}
-use Rattle.poets_syntax.specs.Whole.{IsWholeContract, AreWholeDefinitions}
+use Rattle.poets_syntax.specs.Whole.{IsWholeContract, IsWholeBook}
 use Rattle.poets_syntax.specs.Marks.{Hopeful}
 use Rattle.poets_syntax.specs.Residual.{residual_after}
 use Rattle.poets_syntax.specs.Width.{width}
 use Rattle.poets_cons.specs.declared.node.Node.{Node}
 use Rattle.poets_cons.specs.Table.{contract_of_rows}
-use Rattle.poets_report.specs.Query.{query_of}
+use Rattle.poets_report.specs.Reports.{report_of}
 use Rattle.poets_table.specs.TableView.{RowView}
 use Rattle.poets_live.specs.Watching.{WatchView, Follows}
 use Rattle.poets_call.specs.declared.rules.Rules.{Rules}
-use Rattle.poets_call.specs.Rules.{book_of, reports_of}
-use Rattle.poets_call.specs.Calls.{HistoryEntry, Call, calls_of}
+use Rattle.poets_call.specs.Rules.{book_of_rules, reports_of_rules}
+use Rattle.poets_call.specs.Plain.{Entry}
+use Rattle.poets_call.specs.Calls.{Call, calls_of}
 use Rattle.poets_call.specs.Ledger.{Ledger, ledger_of, events, trace, is_ended}
 use Rattle.poets_call.specs.Replies.{report_in, widest}
 use Rattle.poets_call.specs.Histories.{IsLegal}
@@ -39,14 +40,14 @@ NeverFall (e ∷ e' ∷ s) = (e.day ≤ℤ e'.day) × NeverFall (e' ∷ s)
 pub record RowIs (s : StudiedBook) (l : Ledger) (i : ℕ) (r : RowView Term (List Node)) : Type 0 where
   pub events : r.events ≡ trace l i
   pub ended : r.ended ≡ is_ended l i
-  pub formed : IsWellFormed (definitions_of s.book).declared (contract_of r.original)
-  pub fit : CountsFit (definitions_of s.book) (contract_of r.original)
-  pub declared : All (IsDeclaredEvent (definitions_of s.book).declared) r.events
+  pub formed : IsWellFormed (book_of s.book).declared (contract_of r.original)
+  pub fit : CountsFit (book_of s.book) (contract_of r.original)
+  pub declared : All (IsDeclaredEvent (book_of s.book).declared) r.events
   pub days : NeverFall r.events
   -- what is owed is the residual; some granted steps perform it, and it is narrow
-  pub current : contract_of_rows r.current ≡ residual_after (definitions_of s.book) (marks_of s) (contract_of r.original) r.events
-  pub hopeful : Hopeful (definitions_of s.book) (contract_of_rows r.current)
-  pub narrow : width (definitions_of s.book) (marks_of s) (contract_of_rows r.current) ≤ widest
+  pub current : contract_of_rows r.current ≡ residual_after (book_of s.book) (marks_of s) (contract_of r.original) r.events
+  pub hopeful : Hopeful (book_of s.book) (contract_of_rows r.current)
+  pub narrow : width (book_of s.book) (marks_of s) (contract_of_rows r.current) ≤ widest
   -- all numbers and days are those of the language
   pub whole_original : IsWholeContract (contract_of r.original)
   pub whole_events : IsWholeTrace r.events
@@ -59,14 +60,14 @@ RowsAre s l i (r ∷ rows) = RowIs s l i r × RowsAre s l (suc i) rows
 
 -- the watch is of the report with the name, under the values of the arguments, and has its answer over all events
 pub record WatchIs (rules : Rules) (l : Ledger) (asked : Name × List Expression) (w : WatchView) : Type 0 where
-  pub report : report_in (reports_of rules) asked.0 ≡ Some (query_of w.report)
-  pub args : w.args ≡ map (val (book_of rules).declared []) asked.1
-  pub follows : Follows (book_of rules).declared (events l) w
+  pub report : report_in (reports_of_rules rules) asked.0 ≡ Some (report_of w.report)
+  pub args : w.args ≡ map (val (book_of_rules rules).declared []) asked.1
+  pub follows : Follows (book_of_rules rules).declared (events l) w
 
 -- the book was studied and is whole, and what is kept is the ledger's
 pub record IsLedger (rules : Rules) (l : Ledger) (store : StoreView) : Type 0 where
-  pub studied : IsStudiedBook (book_of rules) rules.studied.marks
-  pub whole : AreWholeDefinitions (book_of rules)
+  pub studied : IsStudiedBook (book_of_rules rules) rules.studied.marks
+  pub whole : IsWholeBook (book_of_rules rules)
   pub contracts : map (λ r. (r.name, contract_of r.original)) store.rows ≡ l.contracts
   pub log : store.log ≡ l.log
   pub rows : RowsAre rules.studied l 1 store.rows
@@ -77,7 +78,7 @@ pub record IsLedger (rules : Rules) (l : Ledger) (store : StoreView) : Type 0 wh
 
 -- what is kept is the ledger of a legal history with these calls
 pub record Stands (rules : Rules) (calls : List Call) (store : StoreView) : Type 0 where
-  pub history : List HistoryEntry
-  pub legal : IsLegal (book_of rules) (reports_of rules) history
+  pub history : List Entry
+  pub legal : IsLegal (book_of_rules rules) (reports_of_rules rules) history
   pub same : calls_of history ≡ calls
   pub ledger : IsLedger rules (ledger_of history) store

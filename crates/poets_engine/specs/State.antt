@@ -3,13 +3,15 @@ use Rattle.std.specs.Prelude.{◌≡◌, ℕ, List, map, length}
 use Rattle.std.specs.declared.alloc.Global.{Global}
 use Rattle.std.specs.declared.sync.Arc.{Arc}
 use Rattle.std.specs.Arc.{arc_value}
-use Rattle.poets_syntax.specs.Book.{Definitions}
-use Rattle.poets_report.specs.Query.{Query}
+use Rattle.poets_syntax.specs.Plain.{Book}
+use Rattle.poets_report.specs.Plain.{Report}
 use Rattle.poets_call.specs.declared.call.Command.{Command}
 use Rattle.poets_call.specs.declared.rules.Rules.{Rules}
-use Rattle.poets_call.specs.Rules.{book_of, reports_of}
-use Rattle.poets_call.specs.Calls.{Call, Request, Response, request_of}
+use Rattle.poets_call.specs.Rules.{book_of_rules, reports_of_rules}
+use Rattle.poets_call.specs.Calls.{Call, command_of}
+use Rattle.poets_call.specs.Plain.{Reply}
 use Rattle.poets_call.specs.Histories.{AnswersIn}
+use Rattle.poets_call.specs.Plain as plain
 use Rattle.poets_engine.specs.Works.{OwesReply}
 use Rattle.poets_engine.specs.Store.{StoreView}
 use Rattle.poets_engine.specs.declared.kept.Kept.{Kept}
@@ -26,18 +28,18 @@ commands_of history = map (λ p. (p.0, arc_value p.1)) history
 
 -- the same as plain data
 abbrev pub plain_calls : List (ℕ × Command) → List Call
-plain_calls calls = map (λ p. (p.0, request_of p.1)) calls
+plain_calls calls = map (λ p. (p.0, command_of p.1)) calls
 
 -- the kept value has the place of the call after those calls, and owes the right reply to the command there
-pub record Owes (book : Definitions) (reports : List Query) (calls : List Call) (request : Request) (kept : Kept) : Type 0 where
+pub record Owes (book : Book) (reports : List Report) (calls : List Call) (request : plain.Command) (kept : Kept) : Type 0 where
   pub place : kept.place ≡ length calls
   pub reply : OwesReply book reports calls request kept.body
 
 -- the same after the engine's calls
 abbrev pub OwesNext : State → Command → Kept → Type 0
-OwesNext e command kept = Owes (book_of e.rules) (reports_of e.rules) (plain_calls e.calls) (request_of command) kept
+OwesNext e command kept = Owes (book_of_rules e.rules) (reports_of_rules e.rules) (plain_calls e.calls) (command_of command) kept
 
 -- the response answers whatever command the kept value is owed to
-abbrev pub Fulfils : Kept → Response → Type 0
-Fulfils kept response = (book : Definitions) (reports : List Query) (calls : List Call) (request : Request) →
+abbrev pub Fulfils : Kept → Reply → Type 0
+Fulfils kept reply = (book : Book) (reports : List Report) (calls : List Call) (request : plain.Command) →
     Owes book reports calls request kept → AnswersIn book reports calls request response

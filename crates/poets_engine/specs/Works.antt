@@ -6,10 +6,12 @@ use Rattle.poets_value.specs.declared.value.Name.{Name}
 use Rattle.poets_expr.specs.Expression.{Expression}
 use Rattle.poets_expr.specs.Env.{declared_of}
 use Rattle.poets_expr.specs.Val.{val}
-use Rattle.poets_syntax.specs.Book.{Definitions}
-use Rattle.poets_report.specs.Query.{Query, query_of}
+use Rattle.poets_syntax.specs.Plain.{Book}
+use Rattle.poets_report.specs.Plain.{Report}
+use Rattle.poets_report.specs.Reports.{report_of}
 use Rattle.poets_folio.specs.declared.folio.Part.{Part}
-use Rattle.poets_call.specs.Calls.{HistoryEntry, Call, Request, calls_of, response_of}
+use Rattle.poets_call.specs.Plain.{Entry, Command}
+use Rattle.poets_call.specs.Calls.{Call, calls_of, reply_of}
 use Rattle.poets_call.specs.Histories.{IsLegal, AnswersIn}
 use Rattle.poets_call.specs.Ledger.{Ledger, ledger_of, first_absent, number_of, trace}
 use Rattle.poets_call.specs.Replies.{report_in}
@@ -24,27 +26,27 @@ IsPartIn l x part = (part.name ≡ x) × (part.events.items ≡ trace l (number_
 -- all listed contracts are there after the history of a ledger, and the work holds the declared names, the report with
 -- the name, the values of the arguments, and the recorded events of each listed contract in order
 pub record HoldsPortfolio
-    (book : Definitions) (reports : List Query) (l : Ledger) (x : Name) (args : List Expression) (over : List Name)
+    (book : Book) (reports : List Report) (l : Ledger) (x : Name) (args : List Expression) (over : List Name)
     (work : FolioWork) : Type 0 where
   pub there : first_absent l over ≡ None
   pub decls : declared_of (arc_value work.decls).names ≡ book.declared
-  pub report : report_in reports x ≡ Some (query_of (arc_value work.report))
+  pub report : report_in reports x ≡ Some (report_of (arc_value work.report))
   pub values : work.args.items ≡ map (val book.declared []) args
   pub parts : AllZip (IsPartIn l) over work.parts.items
 
 -- the command is a portfolio, and the work is the one after the legal history of those calls
 pub record OwesPortfolio
-    (book : Definitions) (reports : List Query) (calls : List Call) (request : Request) (work : FolioWork) : Type 0 where
-  pub history : List HistoryEntry
+    (book : Book) (reports : List Report) (calls : List Call) (command : Command) (work : FolioWork) : Type 0 where
+  pub history : List Entry
   pub legal : IsLegal book reports history
   pub same : calls_of history ≡ calls
   pub report : Name
   pub args : List Expression
   pub over : List Name
-  pub asked : request ≡ Request.Portfolio report args over
+  pub asked : command ≡ Command.Portfolio report args over
   pub holds : HoldsPortfolio book reports (ledger_of history) report args over work
 
 -- the right reply to the command after those calls is made, or is what the work makes
-abbrev pub OwesReply : Definitions → List Query → List Call → Request → Body → Type 0
-OwesReply book reports calls request (Done reply) = AnswersIn book reports calls request (response_of reply)
-OwesReply book reports calls request (Folio work) = OwesPortfolio book reports calls request work
+abbrev pub OwesReply : Book → List Report → List Call → Command → Body → Type 0
+OwesReply book reports calls command (Done reply) = AnswersIn book reports calls command (reply_of reply)
+OwesReply book reports calls command (Folio work) = OwesPortfolio book reports calls command work

@@ -2,9 +2,9 @@
 ghost use Rattle.std.specs.Prelude.{◌≡◌, Some, IfOk, IfSome, OnOk};
 ghost use Rattle.std.specs.Arc.{arc_value};
 ghost use Rattle.poets_expr.specs.Env.{declared_of};
-ghost use Rattle.poets_report.specs.Query.{query_of};
+ghost use Rattle.poets_report.specs.Reports.{report_of};
 ghost use Rattle.poets_call.specs.Replies.{report_in};
-ghost use Rattle.poets_call.specs.Rules.{book_of, reports_of};
+ghost use Rattle.poets_call.specs.Rules.{book_of_rules, reports_of_rules};
 ghost use Rattle.poets_engine.specs.Copies.{AreCopies, AreReports, IsReport};
 
 use poets_call::Rules;
@@ -37,7 +37,7 @@ impl Copies {
     pub(crate) fn decls(&mut self, alloc: Global, rules: &Rules) -> Result<Arc<Decls>, Memory>
         requires { AreCopies rules.now self.old }
         ensures copies { AreCopies rules.now self.new }
-        ensures ok { IfOk result (λ d. declared_of (arc_value d).names ≡ (book_of rules.now).declared) }
+        ensures ok { IfOk result (λ d. declared_of (arc_value d).names ≡ (book_of_rules rules.now).declared) }
     {
         if let Some(decls) = &self.decls {
             return Ok(Arc::try_clone(decls)?);
@@ -56,9 +56,9 @@ impl Copies {
         report: &Report,
     ) -> Result<Arc<Report>, Memory>
         requires copies { AreCopies rules.now self.old }
-        requires found { report_in (reports_of rules.now) name ≡ Some (query_of report.now) }
+        requires found { report_in (reports_of_rules rules.now) name ≡ Some (report_of report.now) }
         ensures copies { AreCopies rules.now self.new }
-        ensures ok { IfOk result (IsReport (reports_of rules.now) name) }
+        ensures ok { IfOk result (IsReport (reports_of_rules rules.now) name) }
     {
         if let Some(report) = report_among(self.reports.as_slice(), name)? {
             return Ok(report);

@@ -1,5 +1,6 @@
 //! Ends of contracts.
-ghost use Rattle.poets_call.specs.Calls.{response_of, Request};
+ghost use Rattle.poets_call.specs.Calls.{reply_of};
+ghost use Rattle.poets_call.specs.Plain.{Command};
 ghost use Rattle.poets_engine.specs.Choices.{AreKept};
 ghost use Rattle.poets_engine.specs.Makes.{Makes};
 
@@ -12,7 +13,7 @@ use poets_value::Name;
 #[tactic(auto, using(crate::proofs::Ending::end_absent))]
 pub(crate) fn end(rules: &Rules, store: &mut Store, name: Name) -> Reply
     requires { AreKept rules.now.studied store.old.rows }
-    ensures { Makes rules.now (Request.End name) store.old store.new (response_of result) }
+    ensures { Makes rules.now (Command.End name) store.old store.new (reply_of result) }
 {
     let Some(number) = store.find(name) else {
         return Reply::NoContract(name);

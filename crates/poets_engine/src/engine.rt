@@ -1,10 +1,10 @@
 //! The engine's type.
 ghost use Rattle.std.specs.Prelude.{◌≡◌, ◌+◌, ◌++◌, ◌∷◌, ◌≤◌, [], false, IfOk, OnErr};
 ghost use Rattle.std.specs.Arc.{arc_value};
-ghost use Rattle.poets_syntax.specs.Whole.{AreWholeDefinitions};
-ghost use Rattle.poets_call.specs.Calls.{request_of, response_of};
+ghost use Rattle.poets_syntax.specs.Whole.{IsWholeBook};
+ghost use Rattle.poets_call.specs.Calls.{command_of, reply_of};
 ghost use Rattle.poets_call.specs.Histories.{IsLegal};
-ghost use Rattle.poets_call.specs.Rules.{book_of, reports_of};
+ghost use Rattle.poets_call.specs.Rules.{book_of_rules, reports_of_rules};
 ghost use Rattle.poets_call.specs.Taken.{IsTaken};
 ghost use Rattle.poets_engine.specs.Evaluations.{most_evaluations};
 ghost use Rattle.poets_engine.specs.Makes.{has_changed};
@@ -62,10 +62,10 @@ impl Model for Engine {
 impl Engine {
     /// An engine with no history.
     pub fn new(alloc: Global, rules: Rules) -> Engine
-        requires { AreWholeDefinitions (book_of rules) }
+        requires { IsWholeBook (book_of_rules rules) }
         ensures rules { result.rules ≡ rules }
         ensures calls { result.calls ≡ [] }
-        ensures legal { IsLegal (book_of rules) (reports_of rules) [] }
+        ensures legal { IsLegal (book_of_rules rules) (reports_of_rules rules) [] }
     {
         // The book is checked and guarded, and the marks are right.
         let _book = rules.studied.book();
@@ -96,11 +96,11 @@ impl Engine {
         command: &Arc<Command>,
         asks: &mut Asks<T>,
     ) -> Result<Kept, Memory>
-        requires { IsTaken (book_of self.old.rules) (reports_of self.old.rules) (request_of (arc_value command.now)) }
+        requires { IsTaken (book_of_rules self.old.rules) (reports_of_rules self.old.rules) (command_of (arc_value command.now)) }
         ensures calls { IfOk result (λ k. self.new.calls ≡ self.old.calls ++ (clerk, arc_value command.now) ∷ []) }
         ensures owes { IfOk result (λ k. OwesNext self.old (arc_value command.now) k) }
         ensures refused { IfOk result (λ k. has_changed k.body ≡ false → self.new.store ≡ self.old.store) }
-        ensures asks { asks.new ≤ asks.old + most_evaluations self.old.rules self.old.store (request_of (arc_value command.now)) }
+        ensures asks { asks.new ≤ asks.old + most_evaluations self.old.rules self.old.store (command_of (arc_value command.now)) }
         ensures rises { asks.old ≤ asks.new }
         ensures memory { OnErr result (self.new ≡ self.old) }
         ensures frame { self.new.rules ≡ self.old.rules }
@@ -124,7 +124,7 @@ impl Engine {
 
     /// The reply to the call. The rows of a portfolio are made in parallel.
     pub fn finish<R: Threads + Sync>(rt: &R, alloc: Global, kept: Kept) -> Result<Reply, Memory>
-        ensures { IfOk result (λ r. Fulfils kept (response_of r)) }
+        ensures { IfOk result (λ r. Fulfils kept (reply_of r)) }
     {
         match kept.body {
             Body::Done(reply) => Ok(reply),

@@ -1,12 +1,13 @@
 //! Which contracts are kept.
 ghost use Rattle.std.specs.Prelude.{◌≡◌, nat_lt};
 ghost use Rattle.poets_syntax.specs.Applied.{CountsFit};
-ghost use Rattle.poets_syntax.specs.Book.{definitions_of};
-ghost use Rattle.poets_call.specs.Calls.{response_of};
+ghost use Rattle.poets_syntax.specs.Book.{book_of};
+ghost use Rattle.poets_call.specs.Calls.{reply_of};
 ghost use Rattle.poets_call.specs.Replies.{widest};
 ghost use Rattle.poets_cons.specs.Row.{contract_by, row_of};
 ghost use Rattle.poets_cons.specs.Table.{contract_at, contract_of_rows};
-ghost use Rattle.poets_engine.specs.Choices.{KeptFits, choice_of, is_failure as is_failure_lem, judge as judge_lem, width_in};
+ghost use Rattle.poets_engine.specs.Choices.{KeptFits, choice_of, width_in};
+ghost use Rattle.poets_engine.specs.Choices as choices;
 
 use poets_call::Reply;
 use poets_cons::{Node, Rows};
@@ -32,7 +33,7 @@ fn root_node(rows: &Rows) -> &Node
 
 // Whether the contract is `Failure`.
 fn is_failure(rows: &Rows) -> bool
-    ensures { result ≡ is_failure_lem (contract_of_rows rows.now) }
+    ensures { result ≡ choices.is_failure (contract_of_rows rows.now) }
 {
     match root_node(rows) {
         Node::Failure => true,
@@ -42,7 +43,7 @@ fn is_failure(rows: &Rows) -> bool
 
 // Whether the contract is wider than one that is kept.
 fn is_large(studied: &Studied, rows: &Rows) -> bool
-    requires { CountsFit (definitions_of studied.now.book) (contract_of_rows rows.now) }
+    requires { CountsFit (book_of studied.now.book) (contract_of_rows rows.now) }
     ensures { result ≡ nat_lt widest (width_in studied.now (contract_of_rows rows.now)) }
 {
     wide_rows(studied, rows) > WIDEST
@@ -50,9 +51,9 @@ fn is_large(studied: &Studied, rows: &Rows) -> bool
 
 /// Refuses a contract that no number of granted steps performs by the given reply, and one that is too large.
 pub(crate) fn judge(studied: &Studied, refusal: Reply, rows: Rows) -> Decision
-    requires { CountsFit (definitions_of studied.now.book) (contract_of_rows rows) }
-    ensures choice { choice_of result ≡ judge_lem studied.now (response_of refusal) (contract_of_rows rows) }
-    ensures fits { KeptFits (definitions_of studied.now.book) (choice_of result) }
+    requires { CountsFit (book_of studied.now.book) (contract_of_rows rows) }
+    ensures choice { choice_of result ≡ choices.judge studied.now (reply_of refusal) (contract_of_rows rows) }
+    ensures fits { KeptFits (book_of studied.now.book) (choice_of result) }
 {
     if is_failure(&rows) {
         return Decision::Refused(refusal);

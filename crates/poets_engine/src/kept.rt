@@ -3,7 +3,7 @@ ghost use Rattle.std.specs.Prelude.{◌≡◌, length, map, IfOk};
 ghost use Rattle.std.specs.Arc.{arc_value};
 ghost use Rattle.std.specs.List.{AllZip};
 ghost use Rattle.poets_expr.specs.Env.{declared_of};
-ghost use Rattle.poets_report.specs.Query.{query_of};
+ghost use Rattle.poets_report.specs.Reports.{report_of};
 ghost use Rattle.poets_folio.specs.Rows.{IsRow};
 ghost use Rattle.poets_call.specs.Calls.{folio_row_of};
 ghost use Rattle.poets_call.specs.Replies.{total_of};
@@ -33,8 +33,8 @@ impl FolioWork {
     /// The portfolio, its rows made in parallel.
     pub(crate) fn finish<R: Threads + Sync>(self, rt: &R, alloc: Global) -> Result<Folio, Memory>
         ensures rows { IfOk result (λ f. AllZip
-            (IsRow (declared_of (arc_value self.decls).names) (query_of (arc_value self.report)) self.args.items) self.parts.items f.rows.items) }
-        ensures total { IfOk result (λ f. f.total ≡ total_of (query_of (arc_value self.report)) (map folio_row_of f.rows.items)) }
+            (IsRow (declared_of (arc_value self.decls).names) (report_of (arc_value self.report)) self.args.items) self.parts.items f.rows.items) }
+        ensures total { IfOk result (λ f. f.total ≡ total_of (report_of (arc_value self.report)) (map folio_row_of f.rows.items)) }
     {
         portfolio(
             rt,

@@ -1,6 +1,7 @@
 //! Looks at contracts.
 ghost use Rattle.std.specs.Prelude.{IfOk};
-ghost use Rattle.poets_call.specs.Calls.{response_of, Request};
+ghost use Rattle.poets_call.specs.Calls.{reply_of};
+ghost use Rattle.poets_call.specs.Plain.{Command};
 ghost use Rattle.poets_engine.specs.Choices.{AreKept};
 ghost use Rattle.poets_engine.specs.Makes.{Makes};
 
@@ -16,7 +17,7 @@ use std::alloc::Global;
 #[tactic(auto, using(crate::proofs::Showing::show_absent))]
 pub(crate) fn show(alloc: Global, rules: &Rules, store: &Store, name: Name) -> Result<Reply, Memory>
     requires { AreKept rules.now.studied store.now.rows }
-    ensures { IfOk result (λ r. Makes rules.now (Request.Show name) store.now store.now (response_of r)) }
+    ensures { IfOk result (λ r. Makes rules.now (Command.Show name) store.now store.now (reply_of r)) }
 {
     let Some(number) = store.find(name) else {
         return Ok(Reply::NoContract(name));

@@ -1,7 +1,7 @@
 //! The engine as a machine that clerks share.
-ghost use Rattle.poets_call.specs.Calls.{request_of, response_of};
+ghost use Rattle.poets_call.specs.Calls.{command_of, reply_of};
 ghost use Rattle.poets_call.specs.Histories.{AnswersIn};
-ghost use Rattle.poets_call.specs.Rules.{book_of, reports_of};
+ghost use Rattle.poets_call.specs.Rules.{book_of_rules, reports_of_rules};
 ghost use Rattle.poets_call.specs.Taken.{IsTaken};
 ghost use Rattle.poets_engine.specs.State.{Owes, plain_calls};
 
@@ -28,11 +28,11 @@ impl Machine for Engine {
 
     ghost frame = { λ e. e.rules };
 
-    ghost takes = { λ rules command. IsTaken (book_of rules) (reports_of rules) (request_of command) };
+    ghost takes = { λ rules command. IsTaken (book_of_rules rules) (reports_of_rules rules) (command_of command) };
 
-    ghost answers = { λ rules before clerk command reply. AnswersIn (book_of rules) (reports_of rules) (plain_calls before) (request_of command) (response_of reply) };
+    ghost answers = { λ rules before clerk command reply. AnswersIn (book_of_rules rules) (reports_of_rules rules) (plain_calls before) (command_of command) (reply_of reply) };
 
-    ghost owes = { λ rules before clerk command kept. Owes (book_of rules) (reports_of rules) (plain_calls before) (request_of command) kept };
+    ghost owes = { λ rules before clerk command kept. Owes (book_of_rules rules) (reports_of_rules rules) (plain_calls before) (command_of command) kept };
 
     /// Makes the call, as `Engine::apply` does, with a counter of its own.
     fn turn<R: Threads + Sync>(

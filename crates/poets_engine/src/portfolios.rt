@@ -3,8 +3,8 @@ ghost use Rattle.std.specs.Prelude.{◌≡◌, ◌≢◌, ◌+◌, ◌≤◌, Al
 ghost use Rattle.std.specs.List.{AllZip};
 ghost use Rattle.poets_expr.specs.Expression.{expression_of};
 ghost use Rattle.poets_table.specs.TableView.{number_named};
-ghost use Rattle.poets_call.specs.Calls.{Request};
-ghost use Rattle.poets_call.specs.Rules.{book_of, reports_of};
+ghost use Rattle.poets_call.specs.Plain.{Command};
+ghost use Rattle.poets_call.specs.Rules.{book_of_rules, reports_of_rules};
 ghost use Rattle.poets_call.specs.Taken.{IsTaken};
 ghost use Rattle.poets_engine.specs.Copies.{AreCopies};
 ghost use Rattle.poets_engine.specs.Makes.{MakesBody};
@@ -71,9 +71,9 @@ pub(crate) fn portfolio<T>(
     over: &[Name],
     asks: &mut Asks<T>,
 ) -> Result<Body, Memory>
-    requires taken { IsTaken (book_of rules.now) (reports_of rules.now) (Request.Portfolio name (map expression_of args.now) over.now) }
+    requires taken { IsTaken (book_of_rules rules.now) (reports_of_rules rules.now) (Command.Portfolio name (map expression_of args.now) over.now) }
     requires copies { AreCopies rules.now copies.old }
-    ensures ok { IfOk result (λ b. MakesBody rules.now (Request.Portfolio name (map expression_of args.now) over.now) store.now store.now b) }
+    ensures ok { IfOk result (λ b. MakesBody rules.now (Command.Portfolio name (map expression_of args.now) over.now) store.now store.now b) }
     ensures copies { AreCopies rules.now copies.new }
     ensures asks { asks.new ≤ asks.old + length args.now }
     ensures rises { asks.old ≤ asks.new }

@@ -2,7 +2,7 @@
 ghost use Rattle.std.specs.Prelude.{◌≡◌, ◌+◌, ◌*◌, ◌-◌, ◌<◌, ◌≤◌, ◌++◌, ◌∷◌, [], length, IfOk, IsOk, OnOk, OnErr, Some, None, slice_get};
 ghost use Rattle.std.specs.Arc.{arc_value};
 ghost use Rattle.poets_expr.specs.Env.{declared_of};
-ghost use Rattle.poets_report.specs.Answers.{finding_of};
+ghost use Rattle.poets_report.specs.Answers.{answer_of};
 ghost use Rattle.poets_table.specs.TableView.{IsLive, changed_at, finished, new_row, number_named, row_view};
 ghost use Rattle.poets_engine.specs.Store.{AddsRow, AddsWatch, RecordsEvent};
 
@@ -92,7 +92,7 @@ impl Store {
     /// The answer of the watch with a number.
     pub(crate) fn read(&self, number: u64) -> Result<Answer, Memory>
         requires { (0 < number) × (number ≤ length self.now.watches) }
-        ensures { IfOk result (λ a. (w : _) → slice_get self.now.watches (number - 1) ≡ Some w → finding_of a ≡ w.answer) }
+        ensures { IfOk result (λ a. (w : _) → slice_get self.now.watches (number - 1) ≡ Some w → answer_of a ≡ w.answer) }
     {
         self.watches.read(number)
     }

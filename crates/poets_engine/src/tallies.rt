@@ -1,11 +1,12 @@
 //! Tallies: reports over all events.
 ghost use Rattle.std.specs.Prelude.{◌≡◌, ◌+◌, ◌*◌, ◌≤◌, length, map, Some, IfOk};
 ghost use Rattle.poets_expr.specs.Expression.{expression_of};
-ghost use Rattle.poets_report.specs.Query.{query_of};
-ghost use Rattle.poets_call.specs.Calls.{response_of, Request};
+ghost use Rattle.poets_report.specs.Reports.{report_of};
+ghost use Rattle.poets_call.specs.Calls.{reply_of};
+ghost use Rattle.poets_call.specs.Plain.{Command};
 ghost use Rattle.poets_call.specs.Laws.{IsReportOf};
 ghost use Rattle.poets_call.specs.Replies.{report_in};
-ghost use Rattle.poets_call.specs.Rules.{book_of, reports_of};
+ghost use Rattle.poets_call.specs.Rules.{book_of_rules, reports_of_rules};
 ghost use Rattle.poets_call.specs.Taken.{IsTaken};
 ghost use Rattle.poets_engine.specs.Makes.{Makes};
 
@@ -18,8 +19,8 @@ use std::alloc::Global;
 
 /// The report that a typed call names; it takes so many arguments.
 pub(crate) fn report_called<'a>(rules: &'a Rules, name: Name, args: &[Expr]) -> &'a Report
-    requires { IsReportOf (reports_of rules.now) name (map expression_of args.now) }
-    ensures report { report_in (reports_of rules.now) name ≡ Some (query_of result.now) }
+    requires { IsReportOf (reports_of_rules rules.now) name (map expression_of args.now) }
+    ensures report { report_in (reports_of_rules rules.now) name ≡ Some (report_of result.now) }
     ensures count { length args.now ≡ length result.now.params.items }
 {
     match rules.report(name) {
@@ -37,8 +38,8 @@ pub(crate) fn tally<T>(
     args: &[Expr],
     asks: &mut Asks<T>,
 ) -> Result<Reply, Memory>
-    requires { IsTaken (book_of rules.now) (reports_of rules.now) (Request.Tally name (map expression_of args.now)) }
-    ensures ok { IfOk result (λ r. Makes rules.now (Request.Tally name (map expression_of args.now)) store.now store.now (response_of r)) }
+    requires { IsTaken (book_of_rules rules.now) (reports_of_rules rules.now) (Command.Tally name (map expression_of args.now)) }
+    ensures ok { IfOk result (λ r. Makes rules.now (Command.Tally name (map expression_of args.now)) store.now store.now (reply_of r)) }
     ensures asks { asks.new ≤ asks.old + (length args.now + 1 + 2 * length store.now.log) }
     ensures rises { asks.old ≤ asks.new }
 {

@@ -2,11 +2,12 @@
 ghost use Rattle.std.specs.Prelude.{◌≡◌, ◌+◌, ◌*◌, ◌≤◌, length, IfOk, OnErr};
 ghost use Rattle.poets_cons.specs.Table.{contract_of_rows};
 ghost use Rattle.poets_syntax.specs.Applied.{CountsFit};
-ghost use Rattle.poets_syntax.specs.Book.{definitions_of};
+ghost use Rattle.poets_syntax.specs.Book.{book_of};
 ghost use Rattle.poets_table.specs.TableView.{row_view};
-ghost use Rattle.poets_call.specs.Calls.{response_of, Request};
+ghost use Rattle.poets_call.specs.Calls.{reply_of};
+ghost use Rattle.poets_call.specs.Plain.{Command};
 ghost use Rattle.poets_call.specs.Ledger.{last_day, late_day};
-ghost use Rattle.poets_call.specs.Rules.{book_of, reports_of};
+ghost use Rattle.poets_call.specs.Rules.{book_of_rules, reports_of_rules};
 ghost use Rattle.poets_call.specs.Taken.{IsTaken};
 ghost use Rattle.poets_engine.specs.Choices.{AreKept, KeptFits, choice_of, choice_by};
 ghost use Rattle.poets_engine.specs.Evaluations.{asked_in, asked_owed};
@@ -53,9 +54,9 @@ fn decide<T>(
     event: &Event,
     asks: &mut Asks<T>,
 ) -> Result<Decision, Memory>
-    requires { CountsFit (definitions_of studied.now.book) (contract_of_rows row.now.current) }
+    requires { CountsFit (book_of studied.now.book) (contract_of_rows row.now.current) }
     ensures choice { IfOk result (λ d. choice_of d ≡ choice_by studied.now (row_view row.now) event.now) }
-    ensures fits { IfOk result (λ d. KeptFits (definitions_of studied.now.book) (choice_of d)) }
+    ensures fits { IfOk result (λ d. KeptFits (book_of studied.now.book) (choice_of d)) }
     ensures asks { asks.new ≤ asks.old + asked_in studied.now (contract_of_rows row.now.current) }
     ensures rises { asks.old ≤ asks.new }
 {
@@ -81,9 +82,9 @@ pub(crate) fn transmit<T>(
     event: &Event,
     asks: &mut Asks<T>,
 ) -> Result<Reply, Memory>
-    requires taken { IsTaken (book_of rules.now) (reports_of rules.now) (Request.Transmit name event.now) }
+    requires taken { IsTaken (book_of_rules rules.now) (reports_of_rules rules.now) (Command.Transmit name event.now) }
     requires rows { AreKept rules.now.studied store.old.rows }
-    ensures ok { IfOk result (λ r. Makes rules.now (Request.Transmit name event.now) store.old store.new (response_of r)) }
+    ensures ok { IfOk result (λ r. Makes rules.now (Command.Transmit name event.now) store.old store.new (reply_of r)) }
     ensures err { OnErr result (store.new ≡ store.old) }
     ensures asks { asks.new ≤ asks.old + asked_owed rules.now.studied store.old.rows name + 2 * length store.old.watches }
     ensures rises { asks.old ≤ asks.new }

@@ -1,8 +1,9 @@
 //! Watches: reports that are kept live.
 ghost use Rattle.std.specs.Prelude.{◌≡◌, ◌+◌, ◌≤◌, length, map, IfOk, OnErr};
 ghost use Rattle.poets_expr.specs.Expression.{expression_of};
-ghost use Rattle.poets_call.specs.Calls.{response_of, Request};
-ghost use Rattle.poets_call.specs.Rules.{book_of, reports_of};
+ghost use Rattle.poets_call.specs.Calls.{reply_of};
+ghost use Rattle.poets_call.specs.Plain.{Command};
+ghost use Rattle.poets_call.specs.Rules.{book_of_rules, reports_of_rules};
 ghost use Rattle.poets_call.specs.Taken.{IsTaken};
 ghost use Rattle.poets_engine.specs.Makes.{Makes};
 
@@ -23,8 +24,8 @@ pub(crate) fn watch<T>(
     args: &[Expr],
     asks: &mut Asks<T>,
 ) -> Result<Reply, Memory>
-    requires { IsTaken (book_of rules.now) (reports_of rules.now) (Request.Watch name (map expression_of args.now)) }
-    ensures ok { IfOk result (λ r. Makes rules.now (Request.Watch name (map expression_of args.now)) store.old store.new (response_of r)) }
+    requires { IsTaken (book_of_rules rules.now) (reports_of_rules rules.now) (Command.Watch name (map expression_of args.now)) }
+    ensures ok { IfOk result (λ r. Makes rules.now (Command.Watch name (map expression_of args.now)) store.old store.new (reply_of r)) }
     ensures err { OnErr result (store.new ≡ store.old) }
     ensures asks { asks.new ≤ asks.old + length args.now }
     ensures rises { asks.old ≤ asks.new }
@@ -39,7 +40,7 @@ pub(crate) fn watch<T>(
 
 /// Reads the watch with a number.
 pub(crate) fn read(store: &Store, number: u64) -> Result<Reply, Memory>
-    ensures { IfOk result (λ r. (rules : _) → Makes rules (Request.Read number) store.now store.now (response_of r)) }
+    ensures { IfOk result (λ r. (rules : _) → Makes rules (Command.Read number) store.now store.now (reply_of r)) }
 {
     if number == 0 || store.watch_count() < number {
         return Ok(Reply::NoWatch(number));

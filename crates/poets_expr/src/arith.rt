@@ -1,6 +1,7 @@
 //! The operators on values.
 ghost use Rattle.std.specs.Prelude.{◌≡◌, pos, ◌+ℤ◌, ◌-ℤ◌, ◌*ℤ◌, neg_ℤ, int_div, int_rem, int_lt, int_le, ◌≢◌};
-ghost use Rattle.poets_expr.specs.Val.{whole as whole_lem, day_at, sum, difference, product, divided, equal, resource_of, ordered, if_equal, binary as binary_lem, bool_eq, truth_value as truth_value_lem};
+ghost use Rattle.poets_expr.specs.Val.{day_at, sum, difference, product, divided, equal, resource_of, ordered, if_equal, bool_eq};
+ghost use Rattle.poets_expr.specs.Val as val;
 ghost use Rattle.poets_expr.specs.Env.{same_name};
 
 use crate::expr::Op;
@@ -8,7 +9,7 @@ use poets_value::{Day, Name, Resource, Value};
 
 // The whole number, or none for the least `i64`.
 fn whole(n: i64) -> Option<Value>
-    ensures { result ≡ whole_lem n }
+    ensures { result ≡ val.whole n }
 {
     if n == i64::MIN {
         None
@@ -122,7 +123,7 @@ fn at_most(x: Value, y: Value) -> Option<Value>
 pub(crate) fn binary(op: Op, x: Value, y: Value) -> Option<Value>
     requires and { op ≢ Op.And }
     requires or { op ≢ Op.Or }
-    ensures { result ≡ binary_lem op (Some x) (Some y) }
+    ensures { result ≡ val.binary op (Some x) (Some y) }
 {
     match op {
         Op::Add => add(x, y),
@@ -142,7 +143,7 @@ pub(crate) fn binary(op: Op, x: Value, y: Value) -> Option<Value>
 
 // The truth value, or none for a value of another type.
 pub(crate) fn truth_value(x: Value) -> Option<Value>
-    ensures { result ≡ truth_value_lem (Some x) }
+    ensures { result ≡ val.truth_value (Some x) }
 {
     match x {
         Value::Bool(b) => Some(Value::Bool(b)),

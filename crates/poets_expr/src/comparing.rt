@@ -1,21 +1,21 @@
 //! Whether two expressions are one tree.
 ghost use Rattle.std.specs.Prelude.{◌≡◌, ◌↔◌, IsTrue};
 ghost use Rattle.poets_expr.specs.Expression.{expression_of};
-ghost use Rattle.poets_expr.specs.Same.{same as same_lem};
+ghost use Rattle.poets_expr.specs.Same as spec;
 
 use crate::expr::Expr;
 
 /// Whether two trees are equal.
 #[tactic(auto, using(crate::proofs::SameTrees::same_iff))]
 pub fn same(a: &Expr, b: &Expr) -> bool
-    ensures test { result ≡ same_lem (expression_of a.now) (expression_of b.now) }
+    ensures test { result ≡ spec.same (expression_of a.now) (expression_of b.now) }
     ensures equal { IsTrue result ↔ (expression_of a.now ≡ expression_of b.now) }
 {
     same_trees(a, b)
 }
 
 fn same_trees(a: &Expr, b: &Expr) -> bool
-    ensures { result ≡ same_lem (expression_of a.now) (expression_of b.now) }
+    ensures { result ≡ spec.same (expression_of a.now) (expression_of b.now) }
 {
     match (a, b) {
         (Expr::Int(x), Expr::Int(y)) => x == y,

@@ -3,7 +3,8 @@ ghost use Rattle.std.specs.Prelude.{◌≡◌, ◌≤◌, IfOk, if◌then◌else
 ghost use Rattle.poets_expr.specs.Env.{declared_of};
 ghost use Rattle.poets_expr.specs.Expression.{expression_of};
 ghost use Rattle.poets_expr.specs.Asked.{one_more};
-ghost use Rattle.poets_expr.specs.Fold.{is_closed as is_closed_lem, is_literal as is_literal_lem, is_folded, fold_closed as fold_closed_lem};
+ghost use Rattle.poets_expr.specs.Fold.{is_folded};
+ghost use Rattle.poets_expr.specs.Fold as fold;
 
 use crate::copies::copy;
 use crate::env::{Asks, Decls, Env};
@@ -15,7 +16,7 @@ use std::alloc::Global;
 
 // Whether every free name is declared.
 fn is_closed(decls: &Decls, e: &Expr) -> bool
-    ensures { result ≡ is_closed_lem (declared_of decls.now.names) (expression_of e.now) }
+    ensures { result ≡ fold.is_closed (declared_of decls.now.names) (expression_of e.now) }
 {
     match e {
         Expr::Int(_) | Expr::Bool(_) | Expr::Day(_) | Expr::Res(_) | Expr::Undefined(_) => true,
@@ -28,7 +29,7 @@ fn is_closed(decls: &Decls, e: &Expr) -> bool
 
 // Whether it is a literal; a declared name is the literal of its agent or kind.
 fn is_literal(decls: &Decls, e: &Expr) -> bool
-    ensures { result ≡ is_literal_lem (declared_of decls.now.names) (expression_of e.now) }
+    ensures { result ≡ fold.is_literal (declared_of decls.now.names) (expression_of e.now) }
 {
     match e {
         Expr::Int(_) | Expr::Bool(_) | Expr::Day(_) | Expr::Res(_) | Expr::Undefined(_) => true,
@@ -47,7 +48,7 @@ pub fn fold_closed<L>(
     ty: Ty,
     asks: &mut Asks<L>,
 ) -> Result<Expr, Memory>
-    ensures value { IfOk result (λ r. expression_of r ≡ fold_closed_lem (declared_of decls.now.names) (expression_of e.now) ty) }
+    ensures value { IfOk result (λ r. expression_of r ≡ fold.fold_closed (declared_of decls.now.names) (expression_of e.now) ty) }
     ensures asks { asks.new ≡ (if is_folded (declared_of decls.now.names) (expression_of e.now) then one_more asks.old else asks.old) }
     ensures rises { asks.old ≤ asks.new }
 {

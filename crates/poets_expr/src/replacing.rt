@@ -1,7 +1,7 @@
 //! Literals of values, and expressions with names replaced by literals.
 ghost use Rattle.std.specs.Prelude.{◌≡◌, IfOk, reverse};
 ghost use Rattle.poets_expr.specs.Expression.{expression_of};
-ghost use Rattle.poets_expr.specs.Subst.{subst as subst_lem, literal as literal_lem, replaced as replaced_lem};
+ghost use Rattle.poets_expr.specs.Subst as spec;
 
 use crate::build::boxed;
 use crate::expr::{Expr, Given};
@@ -10,7 +10,7 @@ use std::alloc::Global;
 
 /// The literal of a value; of an undefined one `Undefined` of its type. An agent or a kind is its name.
 pub fn literal(given: &Given) -> Expr
-    ensures { expression_of result ≡ literal_lem given.now }
+    ensures { expression_of result ≡ spec.literal given.now }
 {
     match given.value {
         None => Expr::Undefined(given.ty),
@@ -25,7 +25,7 @@ pub fn literal(given: &Given) -> Expr
 
 // What a name is replaced by.
 fn replaced(pairs: &[(Name, Given)], name: Name) -> Expr
-    ensures { expression_of result ≡ replaced_lem (reverse pairs.now) name }
+    ensures { expression_of result ≡ spec.replaced (reverse pairs.now) name }
 {
     let mut found = Expr::Name(name);
     for pair in pairs {
@@ -39,7 +39,7 @@ fn replaced(pairs: &[(Name, Given)], name: Name) -> Expr
 /// The expression with its names replaced by literals. A later pair hides an earlier one, and a name without a pair stays.
 #[cycle(subst)]
 pub fn subst(alloc: Global, e: &Expr, pairs: &[(Name, Given)]) -> Result<Expr, Memory>
-    ensures { IfOk result (λ r. expression_of r ≡ subst_lem (reverse pairs.now) (expression_of e.now)) }
+    ensures { IfOk result (λ r. expression_of r ≡ spec.subst (reverse pairs.now) (expression_of e.now)) }
 {
     match e {
         Expr::Int(n) => Ok(Expr::Int(*n)),
@@ -74,7 +74,7 @@ pub fn subst(alloc: Global, e: &Expr, pairs: &[(Name, Given)]) -> Result<Expr, M
 // Such an expression in a box of its own.
 #[cycle(subst)]
 fn boxed_subst(alloc: Global, e: &Expr, pairs: &[(Name, Given)]) -> Result<Box<Expr>, Memory>
-    ensures { IfOk result (λ r. expression_of r.value ≡ subst_lem (reverse pairs.now) (expression_of e.now)) }
+    ensures { IfOk result (λ r. expression_of r.value ≡ spec.subst (reverse pairs.now) (expression_of e.now)) }
 {
     boxed(alloc, subst(alloc, e, pairs)?)
 }

@@ -3,12 +3,12 @@ use Rattle.std.proofs.Common.{◌≡◌, ℕ, ◌+◌, ◌*◌, ◌≤◌, List,
 use Rattle.std.proofs.lemmas.List.{append_assoc}
 use Rattle.poets_value.specs.declared.event.Event.{Event}
 use Rattle.poets_expr.specs.Env.{Declared}
-use Rattle.poets_report.specs.Query.{Query}
+use Rattle.poets_report.specs.Plain.{Report}
 use Rattle.poets_report.specs.Folds.{FoldView, StandsFor, GoesOn}
 use Rattle.poets_table.specs.Pieces.{piece_at, piece_length}
 use Rattle.poets_table.proofs.Pieces.{pieces_more, pieces_all}
 
-module _ (declared : Declared) (q : Query) (events : List Event) (first old new : FoldView) where
+module _ (declared : Declared) (q : Report) (events : List Event) (first old new : FoldView) where
   -- with one piece more
   pub goes_on : (i : ℕ) (piece : List Event) → piece ≡ piece_at i events → GoesOn declared q (take (i * piece_length) events) first old →
       GoesOn declared q piece old new → GoesOn declared q (take ((i + 1) * piece_length) events) first new

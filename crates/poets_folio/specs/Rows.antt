@@ -3,11 +3,11 @@ use Rattle.std.specs.Prelude.{◌≡◌, List, Option}
 use Rattle.poets_value.specs.declared.value.Name.{Name}
 use Rattle.poets_value.specs.declared.value.Value.{Value}
 use Rattle.poets_expr.specs.Env.{Declared}
-use Rattle.poets_report.specs.Query.{Query}
-use Rattle.poets_report.specs.Answers.{IsAnswer, finding_of}
+use Rattle.poets_report.specs.Plain.{Report}
+use Rattle.poets_report.specs.Answers.{IsAnswer, answer_of}
 use Rattle.poets_report.specs.declared.report.Answer.{Answer}
 use Rattle.poets_folio.specs.declared.folio.Part.{Part}
 
 -- the row of a part: its name, and the report's answer over its events
-abbrev pub IsRow : Declared → Query → List (Option Value) → Part → Name × Answer → Type 0
-IsRow declared q args part row = (row.0 ≡ part.name) × IsAnswer declared q args part.events.items (finding_of row.1)
+abbrev pub IsRow : Declared → Report → List (Option Value) → Part → Name × Answer → Type 0
+IsRow declared q args part row = (row.0 ≡ part.name) × IsAnswer declared q args part.events.items (answer_of row.1)

@@ -3,7 +3,7 @@ ghost use Rattle.std.specs.Prelude.{◌≡◌, length, map, IfOk};
 ghost use Rattle.std.specs.List.{AllZip};
 ghost use Rattle.poets_expr.specs.Env.{declared_of};
 ghost use Rattle.poets_report.specs.Folds.{GoesOn};
-ghost use Rattle.poets_report.specs.Query.{query_of};
+ghost use Rattle.poets_report.specs.Reports.{report_of};
 ghost use Rattle.poets_call.specs.Calls.{folio_row_of};
 ghost use Rattle.poets_call.specs.Replies.{total_of};
 ghost use Rattle.poets_folio.specs.Rows.{IsRow};
@@ -37,8 +37,8 @@ pub fn portfolio<R: Threads + Sync>(
 ) -> Result<Folio, Memory>
     requires { length args.now.items ≡ length report.now.params.items }
     ensures rows { IfOk result (λ f. AllZip
-        (IsRow (declared_of decls.now.names) (query_of report.now) args.now.items) parts.now.items f.rows.items) }
-    ensures total { IfOk result (λ f. f.total ≡ total_of (query_of report.now) (map folio_row_of f.rows.items)) }
+        (IsRow (declared_of decls.now.names) (report_of report.now) args.now.items) parts.now.items f.rows.items) }
+    ensures total { IfOk result (λ f. f.total ≡ total_of (report_of report.now) (map folio_row_of f.rows.items)) }
 {
     let rows = listed(
         alloc,
@@ -59,7 +59,7 @@ fn rows<R: Threads + Sync>(
 ) -> Result<Vec<(Name, Answer)>, Memory>
     requires { length args.now.items ≡ length report.now.params.items }
     ensures { IfOk result (λ v. AllZip
-        (IsRow (declared_of decls.now.names) (query_of report.now) args.now.items) parts.now v.items) }
+        (IsRow (declared_of decls.now.names) (report_of report.now) args.now.items) parts.now v.items) }
 {
     let made: Result<Result<Vec<(Name, Answer)>, Memory>, _> = parts
         .par_iter()
@@ -67,7 +67,7 @@ fn rows<R: Threads + Sync>(
             |part: &Part| -> Result<(Name, Answer), Memory>
                 requires { length args.now.items ≡ length report.now.params.items }
                 ensures { IfOk result (IsRow
-                    (declared_of decls.entry.now.names) (query_of report.entry.now) args.entry.now.items part.now) }
+                    (declared_of decls.entry.now.names) (report_of report.entry.now) args.entry.now.items part.now) }
             { row(alloc, decls, report, args, part) },
         )
         .collect(rt, alloc);
@@ -86,7 +86,7 @@ fn row(
     part: &Part,
 ) -> Result<(Name, Answer), Memory>
     requires { length args.now.items ≡ length report.now.params.items }
-    ensures { IfOk result (IsRow (declared_of decls.now.names) (query_of report.now) args.now.items part.now) }
+    ensures { IfOk result (IsRow (declared_of decls.now.names) (report_of report.now) args.now.items part.now) }
 {
     let mut asks = Asks::new(());
     let start = Fold::start(alloc, decls, report, args, &mut asks)?;
@@ -102,7 +102,7 @@ fn folded<L>(
     events: &Events,
     asks: &mut Asks<L>,
 ) -> Result<Fold, Memory>
-    ensures { IfOk result (GoesOn (declared_of decls.now.names) (query_of report.now) events.now.items fold) }
+    ensures { IfOk result (GoesOn (declared_of decls.now.names) (report_of report.now) events.now.items fold) }
 {
     for place in 0..events.len().div_ceil(PIECE_LENGTH) {
         let Some(piece) = events.piece(place) else {

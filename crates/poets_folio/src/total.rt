@@ -1,8 +1,8 @@
 //! The total of a portfolio.
 ghost use Rattle.std.specs.Prelude.{◌≡◌, ◌^◌, ◌-◌, ◌+ℤ◌, ◌-ℤ◌, ◌≤ℤ◌, neg_ℤ, fold, map, option_map, IfSome, Some, pos};
-ghost use Rattle.poets_expr.specs.Val.{whole as whole_lem};
-ghost use Rattle.poets_report.specs.Query.{query_of};
-ghost use Rattle.poets_report.specs.Answers.{finding_of};
+ghost use Rattle.poets_expr.specs.Val as val;
+ghost use Rattle.poets_report.specs.Reports.{report_of};
+ghost use Rattle.poets_report.specs.Answers.{answer_of};
 ghost use Rattle.poets_call.specs.Calls.{folio_row_of};
 ghost use Rattle.poets_call.specs.Replies.{added, if_whole, total_of};
 
@@ -11,7 +11,7 @@ use poets_value::{Name, Ty, Value};
 
 /// The sum of the rows, for a report of whole numbers without a key.
 pub(crate) fn total(report: &Report, rows: &[(Name, Answer)]) -> Option<Option<Value>>
-    ensures { result ≡ total_of (query_of report.now) (map folio_row_of rows.now) }
+    ensures { result ≡ total_of (report_of report.now) (map folio_row_of rows.now) }
 {
     if report.key.is_some() {
         return None;
@@ -45,7 +45,7 @@ fn plus(sum: i128, number: i64) -> i128
 
 // The answer's whole number.
 fn number(answer: &Answer) -> Option<i64>
-    ensures adds { (z : _) → added (Some z) (finding_of answer.now) ≡ option_map (λ n. z +ℤ n) result }
+    ensures adds { (z : _) → added (Some z) (answer_of answer.now) ≡ option_map (λ n. z +ℤ n) result }
     ensures range { IfSome result (λ n. (neg_ℤ (pos (2 ^ 63)) ≤ℤ n) × (n ≤ℤ pos (2 ^ 63 - 1))) }
 {
     match answer {
@@ -56,7 +56,7 @@ fn number(answer: &Answer) -> Option<i64>
 
 // The value, where the number is a whole number of the language.
 fn whole(number: i128) -> Option<Value>
-    ensures { result ≡ whole_lem number }
+    ensures { result ≡ val.whole number }
 {
     if number < -(i64::MAX as i128) {
         return None;

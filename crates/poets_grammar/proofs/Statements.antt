@@ -6,8 +6,8 @@ use Rattle.poets_value.specs.declared.value.Ty.{Ty}
 use Rattle.poets_expr.specs.Expression.{Expression}
 use Rattle.poets_syntax.specs.declared.term.Binders.{Binders}
 use Rattle.poets_syntax.specs.declared.term.Param.{Param}
-use Rattle.poets_call.specs.Calls.{Request}
-use Rattle.poets_call.specs.Sentences.{Sentence}
+use Rattle.poets_call.specs.Plain.{Command}
+use Rattle.poets_call.specs.Said.{Statement}
 use Rattle.poets_lex.specs.declared.token.Word.{Word}
 use Rattle.poets_lex.specs.declared.token.Word.TheVariants as W
 use Rattle.poets_lex.specs.declared.token.Sign.TheVariants as S
@@ -17,10 +17,10 @@ use Rattle.poets_grammar.specs.Tokens.{type_of}
 use Rattle.poets_grammar.specs.Lists.{ReadsNames}
 use Rattle.poets_grammar.specs.Expressions.{ReadsExpression, Disjunction, ReadsArguments}
 use Rattle.poets_grammar.specs.ContractGrammar.{ReadsBinders}
-use Rattle.poets_grammar.specs.Statements.{ReadsParameter, ReadsParameters, IsStep, IsCommand, IsSentence}
+use Rattle.poets_grammar.specs.Statements.{ReadsParameter, ReadsParameters, IsStep, IsCommand, IsStatement}
 use Rattle.poets_grammar.specs.Reading.{behind_sign, behind_word, name, number, type_name, whole, listed, expression, whole_expression, arguments}
 use Rattle.poets_grammar.specs.ContractReading.{binders, whole_contract}
-use Rattle.poets_grammar.specs.StatementReading.{natural, last_day, last_name, whole_names, parameter, parameters, whole_arguments, register, transmission, tally, portfolio, watch, read_watch, command_word, command, template, report_head, report_start, report_binders, report_key, report_step, report, commanded, sentence_word, numbered, sentence}
+use Rattle.poets_grammar.specs.StatementReading.{natural, last_day, last_name, whole_names, parameter, parameters, whole_arguments, register, transmission, tally, portfolio, watch, read_watch, command_word, command, template, report_head, report_start, report_binders, report_key, report_step, report, commanded, statement_word, numbered, statement}
 use Rattle.poets_grammar.proofs.Steps.{steps, at_some, ended, sign_is, word_is, name_is, number_is, type_is}
 use Rattle.poets_grammar.proofs.Listed.{IsItem, listed_sound, listed_complete, bracketed_sound, bracketed_complete}
 use Rattle.poets_grammar.proofs.Complete.{expression_sound, expression_complete, whole_expression_sound, whole_expression_complete}
@@ -147,7 +147,7 @@ read_watch_sound ts =
     steps _ _ (natural ts) _ (natural_is ts) (λ n at_n.
     at_end ts n.0 n.1 at_n)
   where
-    at_end : (ts : List Tok) (n : ℕ) (rest : List Tok) → ts ≡ K.Number (pos n) ∷ rest → IfSome (whole (Request.Read n) rest) (IsCommand (K.Word W.Read ∷ ts))
+    at_end : (ts : List Tok) (n : ℕ) (rest : List Tok) → ts ≡ K.Number (pos n) ∷ rest → IfSome (whole (Command.Read n) rest) (IsCommand (K.Word W.Read ∷ ts))
     at_end ts n [] e = rw e IsCommand.Read
     at_end ts n (t ∷ rest) e = tt
 
@@ -169,14 +169,14 @@ command_sound _ = tt
 
 -- ---- statements that are read
 
-template_sound : (ts : List Tok) → IfSome (template ts) (IsSentence (K.Word W.Template ∷ ts))
+template_sound : (ts : List Tok) → IfSome (template ts) (IsStatement (K.Word W.Template ∷ ts))
 unfolding template
 template_sound ts =
     steps _ _ (name ts) _ (name_is ts) (λ f at_f.
     steps _ _ (parameters f.1) _ (parameters_sound f.1) (λ params are.
     steps _ _ (behind_sign S.Equal params.1) _ (sign_is S.Equal params.1) (λ a at_a.
     steps _ _ (whole_contract a) _ (whole_contract_sound a) (λ body is.
-    rw at_f (IsSentence.Template (subst (λ x. ReadsParameters f.1 params.0 x) at_a are) is)))))
+    rw at_f (IsStatement.Template (subst (λ x. ReadsParameters f.1 params.0 x) at_a are) is)))))
 
 -- the head of a report, up to `fold`
 record IsHead (ts : List Tok) (p : (Name × List Param × Ty) × List Tok) : Type 0 where
@@ -251,53 +251,53 @@ report_step_sound ts =
     steps _ _ (expression ts) _ (expression_sound ts) (λ step front.
     report_key_sound ts step.1 step.0 front.0 (behind_word W.By step.1) (word_is W.By step.1))
 
-report_sound : (ts : List Tok) → IfSome (report ts) (IsSentence (K.Word W.Report ∷ ts))
+report_sound : (ts : List Tok) → IfSome (report ts) (IsStatement (K.Word W.Report ∷ ts))
 unfolding report
 report_sound ts =
     steps _ _ (report_head ts) _ (report_head_is ts) (λ head is_head.
     steps _ _ (report_start head.1) _ (report_start_is head.1) (λ start is_start.
     steps _ _ (report_binders start.1) _ (report_binders_is start.1) (λ bound is_bound.
     steps _ _ (report_step bound.1) _ (report_step_sound bound.1) (λ step is_step.
-    rw is_head.starts (IsSentence.Report
+    rw is_head.starts (IsStatement.Report
     (subst (λ x. ReadsParameters is_head.inside head.0.1 (K.Sign S.Colon ∷ K.Word is_head.word ∷ K.Sign S.Equal ∷ x)) is_start.starts is_head.params)
     is_head.ty
     (subst (λ x. ReadsExpression Disjunction is_start.inside start.0.1 x) is_bound.starts is_start.start)
     is_bound.binders
     is_step)))))
 
-commanded_sound : (ts : List Tok) (r : Option Request) → IfSome r (IsCommand ts) → IfSome (commanded r) (IsSentence ts)
-commanded_sound ts r h = steps _ _ r _ h (λ request is. IsSentence.Command is)
+commanded_sound : (ts : List Tok) (r : Option Command) → IfSome r (IsCommand ts) → IfSome (commanded r) (IsStatement ts)
+commanded_sound ts r h = steps _ _ r _ h (λ request is. IsStatement.Command is)
 
-alone_sound : (w : Word) (s : Sentence) → IsSentence (K.Word w ∷ []) s → (ts : List Tok) → IfSome (whole s ts) (IsSentence (K.Word w ∷ ts))
+alone_sound : (w : Word) (s : Statement) → IsStatement (K.Word w ∷ []) s → (ts : List Tok) → IfSome (whole s ts) (IsStatement (K.Word w ∷ ts))
 alone_sound w s is [] = is
 alone_sound w s is (t ∷ ts) = tt
 
-sentence_word_sound : (w : Word) (ts : List Tok) → IfSome (sentence_word w ts) (IsSentence (K.Word w ∷ ts))
-sentence_word_sound W.Agents ts = steps _ _ (whole_names ts) _ (whole_names_sound ts) (λ xs are. IsSentence.Agents are)
-sentence_word_sound W.Kinds ts = steps _ _ (whole_names ts) _ (whole_names_sound ts) (λ xs are. IsSentence.Kinds are)
-sentence_word_sound W.Template ts = template_sound ts
-sentence_word_sound W.Report ts = report_sound ts
-sentence_word_sound W.Clerk ts = alone_sound W.Clerk _ IsSentence.Clerk ts
-sentence_word_sound W.Journal ts = alone_sound W.Journal _ IsSentence.Journal ts
-sentence_word_sound w ts = commanded_sound (K.Word w ∷ ts) (command_word w ts) (command_word_sound w ts)
+statement_word_sound : (w : Word) (ts : List Tok) → IfSome (statement_word w ts) (IsStatement (K.Word w ∷ ts))
+statement_word_sound W.Agents ts = steps _ _ (whole_names ts) _ (whole_names_sound ts) (λ xs are. IsStatement.Agents are)
+statement_word_sound W.Kinds ts = steps _ _ (whole_names ts) _ (whole_names_sound ts) (λ xs are. IsStatement.Kinds are)
+statement_word_sound W.Template ts = template_sound ts
+statement_word_sound W.Report ts = report_sound ts
+statement_word_sound W.Clerk ts = alone_sound W.Clerk _ IsStatement.Clerk ts
+statement_word_sound W.Journal ts = alone_sound W.Journal _ IsStatement.Journal ts
+statement_word_sound w ts = commanded_sound (K.Word w ∷ ts) (command_word w ts) (command_word_sound w ts)
 
-numbered_sound : (ts : List Tok) → IfSome (numbered ts) (IsSentence ts)
+numbered_sound : (ts : List Tok) → IfSome (numbered ts) (IsStatement ts)
 unfolding numbered
 numbered_sound ts =
     steps _ _ (natural ts) _ (natural_is ts) (λ n at_n.
     steps _ _ (behind_sign S.Colon n.1) _ (sign_is S.Colon n.1) (λ a at_a.
     steps _ _ (command a) _ (command_sound a) (λ request is.
-    rw (at_n, at_a) (IsSentence.Numbered is))))
+    rw (at_n, at_a) (IsStatement.Numbered is))))
 
-pub sentence_sound : (ts : List Tok) → IfSome (sentence ts) (IsSentence ts)
-unfolding sentence
-sentence_sound (K.Word w ∷ ts) = sentence_word_sound w ts
-sentence_sound (K.Number n ∷ ts) = numbered_sound (K.Number n ∷ ts)
-sentence_sound _ = tt
+pub statement_sound : (ts : List Tok) → IfSome (statement ts) (IsStatement ts)
+unfolding statement
+statement_sound (K.Word w ∷ ts) = statement_word_sound w ts
+statement_sound (K.Number n ∷ ts) = numbered_sound (K.Number n ∷ ts)
+statement_sound _ = tt
 
 -- ---- what is a statement is read
 
-command_complete : {ts : List Tok} {request : Request} → IsCommand ts request → command ts ≡ Some request
+command_complete : {ts : List Tok} {request : Command} → IsCommand ts request → command ts ≡ Some request
 unfolding command register transmission tally portfolio watch read_watch
 command_complete (IsCommand.Register c) = rw (whole_contract_complete _ _ c) refl
 command_complete IsCommand.Transmit = refl
@@ -308,8 +308,8 @@ command_complete (IsCommand.Portfolio a l) = rw (arguments_complete a, whole_nam
 command_complete (IsCommand.Watch a) = rw (whole_arguments_complete a) refl
 command_complete IsCommand.Read = refl
 
-by_command : {ts : List Tok} {request : Request} → IsCommand ts request → sentence ts ≡ commanded (command ts)
-unfolding sentence command
+by_command : {ts : List Tok} {request : Command} → IsCommand ts request → statement ts ≡ commanded (command ts)
+unfolding statement command
 by_command (IsCommand.Register c) = refl
 by_command IsCommand.Transmit = refl
 by_command IsCommand.End = refl
@@ -324,22 +324,22 @@ unfolding report_step
 step_complete (IsStep.WithoutKey r) = rw (expression_complete _ _ _ r (omega arith)) refl
 step_complete (IsStep.WithKey r q) = rw (expression_complete _ _ _ r (omega arith), whole_expression_complete _ _ q) refl
 
-pub sentence_complete : {ts : List Tok} {s : Sentence} → IsSentence ts s → sentence ts ≡ Some s
-unfolding sentence template report report_head report_start report_binders numbered
-sentence_complete (IsSentence.Agents l) = rw (whole_names_complete l) refl
-sentence_complete (IsSentence.Kinds l) = rw (whole_names_complete l) refl
-sentence_complete (IsSentence.Template l c) = rw (parameters_complete l, whole_contract_complete _ _ c) refl
-sentence_complete (IsSentence.Report l t start bound step) =
+pub statement_complete : {ts : List Tok} {s : Statement} → IsStatement ts s → statement ts ≡ Some s
+unfolding statement template report report_head report_start report_binders numbered
+statement_complete (IsStatement.Agents l) = rw (whole_names_complete l) refl
+statement_complete (IsStatement.Kinds l) = rw (whole_names_complete l) refl
+statement_complete (IsStatement.Template l c) = rw (parameters_complete l, whole_contract_complete _ _ c) refl
+statement_complete (IsStatement.Report l t start bound step) =
     rw (parameters_complete l, t, expression_complete _ _ _ start (omega arith), binders_complete bound, step_complete step) refl
-sentence_complete IsSentence.Clerk = refl
-sentence_complete IsSentence.Journal = refl
-sentence_complete (IsSentence.Command c) = by_command c ∙ ap commanded (command_complete c)
-sentence_complete (IsSentence.Numbered c) = rw (command_complete c) refl
+statement_complete IsStatement.Clerk = refl
+statement_complete IsStatement.Journal = refl
+statement_complete (IsStatement.Command c) = by_command c ∙ ap commanded (command_complete c)
+statement_complete (IsStatement.Numbered c) = rw (command_complete c) refl
 
-pub sentence_found : (ts : List Tok) (s : Sentence) → sentence ts ≡ Some s → IsSentence ts s
-sentence_found ts s q = at_some (IsSentence ts) (sentence ts) s (sentence_sound ts) q
+pub statement_found : (ts : List Tok) (s : Statement) → statement ts ≡ Some s → IsStatement ts s
+statement_found ts s q = at_some (IsStatement ts) (statement ts) s (statement_sound ts) q
 
-pub no_sentence : (ts : List Tok) → sentence ts ≡ None → (s : Sentence) → IsSentence ts s → ⊥
+pub no_sentence : (ts : List Tok) → statement ts ≡ None → (s : Statement) → IsStatement ts s → ⊥
 no_sentence ts q s is =
-    let clash : None ≡ Some s = sym q ∙ sentence_complete is in
+    let clash : None ≡ Some s = sym q ∙ statement_complete is in
     absurd cc

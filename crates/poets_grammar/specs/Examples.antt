@@ -1,12 +1,12 @@
--- Sentences that are worked by hand: their tokens, and what they say.
+-- Statements that are worked by hand: their tokens, and what they say.
 use Rattle.std.specs.Prelude.{ℕ, List, [], ◌∷◌, replicate, pos, negsuc}
 use Rattle.poets_value.specs.declared.value.Name.{Name}
 use Rattle.poets_value.specs.declared.value.Value.TheVariants as V
 use Rattle.poets_expr.specs.declared.expr.Op.TheVariants as O
 use Rattle.poets_expr.specs.Expression.{Expression, Minus, Not, Literal, Unary, Binary}
 use Rattle.poets_syntax.specs.Contract.{Contract, Success, Plus, Par, Seq, App}
-use Rattle.poets_call.specs.Calls.{Register}
-use Rattle.poets_call.specs.Sentences.{Sentence, Agents, Command}
+use Rattle.poets_call.specs.Plain.{Register}
+use Rattle.poets_call.specs.Said.{Statement, Agents, Command}
 use Rattle.poets_lex.specs.declared.token.Word.TheVariants as W
 use Rattle.poets_lex.specs.declared.token.Sign.TheVariants as S
 use Rattle.poets_lex.specs.declared.token.Tok.{Tok}
@@ -68,14 +68,14 @@ joint_tree = Plus (App (name 0) []) (Par (App (name 1) []) (Seq Success (App (na
 abbrev pub agents : List Tok
 agents = K.Word W.Agents ∷ K.Name (name 0) ∷ K.Sign S.Comma ∷ K.Name (name 1) ∷ []
 
-abbrev pub agents_said : Sentence
+abbrev pub agents_said : Statement
 agents_said = Agents (name 0 ∷ name 1 ∷ [])
 
 -- register x = Success
 abbrev pub registered : List Tok
 registered = K.Word W.Register ∷ K.Name (name 0) ∷ K.Sign S.Equal ∷ K.Word W.Success ∷ []
 
-abbrev pub registered_said : Sentence
+abbrev pub registered_said : Statement
 registered_said = Command (Register (name 0) Success)
 
 -- agents ann,

@@ -2,14 +2,14 @@
 use Rattle.std.specs.Prelude.{◌≡◌, ◌↔◌, List, Some}
 use Rattle.poets_expr.specs.Expression.{Expression}
 use Rattle.poets_syntax.specs.Contract.{Contract}
-use Rattle.poets_call.specs.Sentences.{Sentence}
+use Rattle.poets_call.specs.Said.{Statement}
 use Rattle.poets_lex.specs.declared.token.Tok.{Tok}
 use Rattle.poets_grammar.specs.Expressions.{IsExpression}
 use Rattle.poets_grammar.specs.ContractGrammar.{IsContract}
-use Rattle.poets_grammar.specs.Statements.{IsSentence}
+use Rattle.poets_grammar.specs.Statements.{IsStatement}
 use Rattle.poets_grammar.specs.Reading.{whole_expression}
 use Rattle.poets_grammar.specs.ContractReading.{whole_contract}
-use Rattle.poets_grammar.specs.StatementReading.{sentence}
+use Rattle.poets_grammar.specs.StatementReading.{statement}
 
 -- no tokens have two trees
 abbrev pub OneExpression : Type 0
@@ -20,8 +20,8 @@ abbrev pub OneContract : Type 0
 OneContract = (ts : List Tok) (a b : Contract) → IsContract ts a → IsContract ts b → a ≡ b
 
 -- no statement says two things
-abbrev pub OneSentence : Type 0
-OneSentence = (ts : List Tok) (a b : Sentence) → IsSentence ts a → IsSentence ts b → a ≡ b
+abbrev pub OneStatement : Type 0
+OneStatement = (ts : List Tok) (a b : Statement) → IsStatement ts a → IsStatement ts b → a ≡ b
 
 -- what is read is what the tokens are
 abbrev pub ExpressionRead : Type 0
@@ -32,5 +32,5 @@ abbrev pub ContractRead : Type 0
 ContractRead = (ts : List Tok) (c : Contract) → IsContract ts c ↔ whole_contract ts ≡ Some c
 
 -- the statement that is read is the one that the tokens are
-abbrev pub SentenceRead : Type 0
-SentenceRead = (ts : List Tok) (s : Sentence) → IsSentence ts s ↔ sentence ts ≡ Some s
+abbrev pub StatementRead : Type 0
+StatementRead = (ts : List Tok) (s : Statement) → IsStatement ts s ↔ statement ts ≡ Some s

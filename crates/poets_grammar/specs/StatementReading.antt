@@ -5,8 +5,9 @@ use Rattle.poets_value.specs.declared.value.Ty.{Ty}
 use Rattle.poets_expr.specs.Expression.{Expression}
 use Rattle.poets_syntax.specs.declared.term.Binders.{Binders}
 use Rattle.poets_syntax.specs.declared.term.Param.{Param}
-use Rattle.poets_call.specs.Calls.{Request, Register, Transmit, End, Show, Tally, Portfolio, Watch, Read}
-use Rattle.poets_call.specs.Sentences.{Sentence, Agents, Kinds, Template, Report, Clerk, Journal, Command, Numbered}
+use Rattle.poets_call.specs.Plain.{Register, Transmit, End, Show, Tally, Portfolio, Watch, Read}
+use Rattle.poets_call.specs.Said.{Statement, Agents, Kinds, Template, Report, Clerk, Journal, Command, Numbered}
+use Rattle.poets_call.specs.Plain as plain
 use Rattle.poets_lex.specs.declared.token.Word.{Word}
 use Rattle.poets_lex.specs.declared.token.Word.TheVariants as W
 use Rattle.poets_lex.specs.declared.token.Sign.TheVariants as S
@@ -57,14 +58,14 @@ whole_arguments ts = do
 
 -- ---- commands, after their words
 
-unfoldable pub register : List Tok → Option Request
+unfoldable pub register : List Tok → Option plain.Command
 register ts = do
   x ← name ts
   a ← behind_sign S.Equal x.1
   c ← whole_contract a
   Some (Register x.0 c)
 
-unfoldable pub transmission : List Tok → Option Request
+unfoldable pub transmission : List Tok → Option plain.Command
 transmission ts = do
   x ← name ts
   sender ← name x.1
@@ -74,13 +75,13 @@ transmission ts = do
   day ← last_day kind.1
   Some (Transmit x.0 (record { sender = sender.0; receiver = receiver.0; what = record { kind = kind.0; amount = n.0 }; day = day }))
 
-unfoldable pub tally : List Tok → Option Request
+unfoldable pub tally : List Tok → Option plain.Command
 tally ts = do
   q ← name ts
   args ← whole_arguments q.1
   Some (Tally q.0 args)
 
-unfoldable pub portfolio : List Tok → Option Request
+unfoldable pub portfolio : List Tok → Option plain.Command
 portfolio ts = do
   q ← name ts
   args ← arguments q.1
@@ -88,18 +89,18 @@ portfolio ts = do
   names ← whole_names a
   Some (Portfolio q.0 args.0 names)
 
-unfoldable pub watch : List Tok → Option Request
+unfoldable pub watch : List Tok → Option plain.Command
 watch ts = do
   q ← name ts
   args ← whole_arguments q.1
   Some (Watch q.0 args)
 
-unfoldable pub read_watch : List Tok → Option Request
+unfoldable pub read_watch : List Tok → Option plain.Command
 read_watch ts = do
   n ← natural ts
   whole (Read n.0) n.1
 
-abbrev pub command_word : Word → List Tok → Option Request
+abbrev pub command_word : Word → List Tok → Option plain.Command
 command_word W.Register ts = register ts
 command_word W.Transmit ts = transmission ts
 command_word W.End ts = last_name ts >>= λ x. Some (End x)
@@ -110,13 +111,13 @@ command_word W.Watch ts = watch ts
 command_word W.Read ts = read_watch ts
 command_word _ ts = None
 
-unfoldable pub command : List Tok → Option Request
+unfoldable pub command : List Tok → Option plain.Command
 command (K.Word w ∷ ts) = command_word w ts
 command _ = None
 
 -- ---- statements, after their words
 
-unfoldable pub template : List Tok → Option Sentence
+unfoldable pub template : List Tok → Option Statement
 template ts = do
   f ← name ts
   params ← parameters f.1
@@ -163,7 +164,7 @@ report_step ts = do
   step ← expression ts
   report_key step.0 step.1 (behind_word W.By step.1)
 
-unfoldable pub report : List Tok → Option Sentence
+unfoldable pub report : List Tok → Option Statement
 report ts = do
   head ← report_head ts
   start ← report_start head.1
@@ -180,20 +181,20 @@ report ts = do
     key = step.1;
   }))
 
-abbrev pub commanded : Option Request → Option Sentence
+abbrev pub commanded : Option plain.Command → Option Statement
 commanded r = r >>= λ request. Some (Command request)
 
-abbrev pub sentence_word : Word → List Tok → Option Sentence
-sentence_word W.Agents ts = whole_names ts >>= λ names. Some (Agents names)
-sentence_word W.Kinds ts = whole_names ts >>= λ names. Some (Kinds names)
-sentence_word W.Template ts = template ts
-sentence_word W.Report ts = report ts
-sentence_word W.Clerk ts = whole Clerk ts
-sentence_word W.Journal ts = whole Journal ts
-sentence_word w ts = commanded (command_word w ts)
+abbrev pub statement_word : Word → List Tok → Option Statement
+statement_word W.Agents ts = whole_names ts >>= λ names. Some (Agents names)
+statement_word W.Kinds ts = whole_names ts >>= λ names. Some (Kinds names)
+statement_word W.Template ts = template ts
+statement_word W.Report ts = report ts
+statement_word W.Clerk ts = whole Clerk ts
+statement_word W.Journal ts = whole Journal ts
+statement_word w ts = commanded (command_word w ts)
 
 -- NUMBER ":" command
-unfoldable pub numbered : List Tok → Option Sentence
+unfoldable pub numbered : List Tok → Option Statement
 numbered ts = do
   n ← natural ts
   a ← behind_sign S.Colon n.1
@@ -201,7 +202,7 @@ numbered ts = do
   Some (Numbered n.0 request)
 
 -- what the tokens say as a statement
-unfoldable pub sentence : List Tok → Option Sentence
-sentence (K.Word w ∷ ts) = sentence_word w ts
-sentence (K.Number n ∷ ts) = numbered (K.Number n ∷ ts)
-sentence _ = None
+unfoldable pub statement : List Tok → Option Statement
+statement (K.Word w ∷ ts) = statement_word w ts
+statement (K.Number n ∷ ts) = numbered (K.Number n ∷ ts)
+statement _ = None

@@ -1,12 +1,12 @@
-//! Sentences worked by hand, each carried by a function that does nothing.
+//! Statements worked by hand, each carried by a function that does nothing.
 ghost use Rattle.std.specs.Prelude.{◌∷◌};
 ghost use Rattle.poets_expr.specs.Expression.{Expression};
-ghost use Rattle.poets_call.specs.Sentences.{Sentence};
+ghost use Rattle.poets_call.specs.Said.{Statement};
 ghost use Rattle.poets_lex.specs.declared.token.Sign.TheVariants as S;
 ghost use Rattle.poets_lex.specs.declared.token.Tok.TheVariants as K;
 ghost use Rattle.poets_grammar.specs.Expressions.{IsExpression};
 ghost use Rattle.poets_grammar.specs.ContractGrammar.{IsContract};
-ghost use Rattle.poets_grammar.specs.Statements.{IsSentence};
+ghost use Rattle.poets_grammar.specs.Statements.{IsStatement};
 ghost use Rattle.poets_grammar.specs.TooDeep.{IsTooDeep};
 ghost use Rattle.poets_grammar.specs.Examples.{mixed, mixed_tree, less, less_tree, chained, negative, negative_tree, negated, negated_tree, joint, joint_tree, agents, agents_said, registered, registered_said, cut_off, nested, added};
 
@@ -30,9 +30,9 @@ pub fn contracts()
 
 /// `agents ann, bob` and `register x = Success` are statements, and `agents ann,` is none.
 pub fn statements()
-    ensures names { IsSentence agents agents_said }
-    ensures command { IsSentence registered registered_said }
-    ensures cut_off { (s : Sentence) → ¬ (IsSentence cut_off s) }
+    ensures names { IsStatement agents agents_said }
+    ensures command { IsStatement registered registered_said }
+    ensures cut_off { (s : Statement) → ¬ (IsStatement cut_off s) }
 {}
 
 /// 201 brackets are too deep, also after a `)`, and 200 are not; 1,001 operators are too deep, and 1,000 are not.

@@ -1,5 +1,5 @@
 //! The laws of the grammar, each carried by a function that does nothing.
-ghost use Rattle.poets_grammar.specs.Laws.{OneExpression, OneContract, OneSentence, ExpressionRead, ContractRead, SentenceRead};
+ghost use Rattle.poets_grammar.specs.Laws.{OneExpression, OneContract, OneStatement, ExpressionRead, ContractRead, StatementRead};
 
 /// No tokens have two trees as an expression.
 pub fn one_expression()
@@ -12,8 +12,8 @@ pub fn one_contract()
 {}
 
 /// No statement says two things.
-pub fn one_sentence()
-    ensures { OneSentence }
+pub fn one_statement()
+    ensures { OneStatement }
 {}
 
 /// Reading finds the expression that the tokens are, and nothing where they are none.
@@ -27,6 +27,6 @@ pub fn contract_read()
 {}
 
 /// Reading finds what the tokens say as a statement, and nothing where they are none.
-pub fn sentence_read()
-    ensures { SentenceRead }
+pub fn statement_read()
+    ensures { StatementRead }
 {}

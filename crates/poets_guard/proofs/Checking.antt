@@ -4,20 +4,21 @@ use Rattle.std.specs.List.{AllByRecursion, IsDistinct}
 use Rattle.poets_value.specs.declared.value.Name.{Name}
 use Rattle.poets_expr.specs.Env.{same_name}
 use Rattle.poets_syntax.specs.declared.term.Binders.{Binders}
-use Rattle.poets_syntax.specs.Book.{Definition, template_in}
+use Rattle.poets_syntax.specs.Plain.{Template}
+use Rattle.poets_syntax.specs.Book.{template_in}
 use Rattle.poets_syntax.specs.Checked.{IsChecked, names_of_templates_and}
 use Rattle.poets_syntax.specs.Typed.{IsTypedTemplate}
 use Rattle.poets_syntax.proofs.Replacing.{truth}
 use Rattle.poets_guard.specs.Examples.{book_of, looping, looping_first, sending, hopeless, circling}
 
-typed_named : (P : Definition → Type 0) (templates : List Definition) → AllByRecursion P templates → (f : Name) (t : Definition) → template_in templates f ≡ Some t → P t
+typed_named : (P : Template → Type 0) (templates : List Template) → AllByRecursion P templates → (f : Name) (t : Template) → template_in templates f ≡ Some t → P t
 typed_named P [] h f t i = absurd cc
 typed_named P (u ∷ templates) h f t i = elim (truth (same_name u.name f)) [
   | inl e ↦ (let q : Some u ≡ Some t = rw e at i in let p : u ≡ t = cc in subst P p h.0)
   | inr e ↦ typed_named P templates h.1 f t (rw e at i)
 ]
 
-checked_by : (templates : List Definition) → AllByRecursion (IsTypedTemplate (book_of templates) []) templates →
+checked_by : (templates : List Template) → AllByRecursion (IsTypedTemplate (book_of templates) []) templates →
     IsDistinct same_name (names_of_templates_and (book_of templates) []) → IsChecked (book_of templates)
 checked_by templates typed distinct = (
   [],

@@ -14,10 +14,11 @@ use Rattle.poets_syntax.specs.declared.term.Binders.{Binders}
 use Rattle.poets_syntax.specs.declared.term.Book.{Book}
 use Rattle.poets_syntax.specs.declared.term.Template.{Template}
 use Rattle.poets_syntax.specs.Contract.{Contract, contract_of}
-use Rattle.poets_syntax.specs.Book.{Definitions, Definition, definition_of, definitions_of, template_in}
+use Rattle.poets_syntax.specs.Book.{template_of, book_of, template_in}
 use Rattle.poets_syntax.specs.Checked.{IsChecked}
 use Rattle.poets_syntax.specs.Applied.{ApplicationsFit}
 use Rattle.poets_syntax.specs.May.{May}
+use Rattle.poets_syntax.specs.Plain as plain
 use Rattle.poets_syntax.proofs.Typedness.{BodiesFit-typed}
 use Rattle.poets_guard.specs.declared.rules.Rule.{Rule}
 use Rattle.poets_guard.specs.declared.endings.Rules.{Rules}
@@ -38,7 +39,7 @@ GoOn-trans xs ys zs g h = record {
   same = λ k l. h.same k (let m = g.longer in omega (arith, l, m)) ∙ g.same k l;
 }
 
-module _ (book : Definitions) (granted : Bool) where
+module _ (book : plain.Book) (granted : Bool) where
   Holds-on : (old new : List (List Contract)) → GoOn old new → (k : ℕ) → k < length old → Holds book granted old k → Holds book granted new k
   Holds-on old new g k l h = subst (AllMayEnd book granted) (sym (g.same k l)) h
 
@@ -75,7 +76,7 @@ module _ (granted : Bool) (facts : Name → Option ℕ) where
   pub AreAdded-by : (c : Contract) (given second goal : ℕ) (old new : Rules) → new.count ≡ old.count →
       new.rules.items ≡ old.rules.items ++ record { first = given; second = second; conclusion = goal } ∷ [] →
       ((known : ℕ → Bool) → known 0 ≡ true → ends granted (says known facts) c ≡ true → known second ≡ true) →
-      ((book : Definitions) (meant : List (List Contract)) → ApplicationsFit book c → AreMeant book granted facts meant old → (second < length meant) × (Holds book granted meant second → MayEnd book granted c)) →
+      ((book : plain.Book) (meant : List (List Contract)) → ApplicationsFit book c → AreMeant book granted facts meant old → (second < length meant) × (Holds book granted meant second → MayEnd book granted c)) →
       AreAdded granted facts c given goal old new
   AreAdded-by c given second goal old new count rules tells means = record {
     complete = λ known closed. (
@@ -141,7 +142,7 @@ module _ (granted : Bool) (facts : Name → Option ℕ) where
   -- both parts of `||` and `;` have to end
   pub AreAdded-both : (a b c : Contract) (given goal first : ℕ) (old middle now new : Rules) → first ≡ old.count → middle.count ≡ old.count + 1 → middle.rules ≡ old.rules →
       ((says : Name → Bool) → ends granted says c ≡ true → (ends granted says a && ends granted says b) ≡ true) →
-      ((book : Definitions) → ApplicationsFit book c → ApplicationsFit book a × ApplicationsFit book b × (MayEnd book granted a → MayEnd book granted b → MayEnd book granted c)) →
+      ((book : plain.Book) → ApplicationsFit book c → ApplicationsFit book a × ApplicationsFit book b × (MayEnd book granted a → MayEnd book granted b → MayEnd book granted c)) →
       AreAdded granted facts a given first middle now → AreAdded granted facts b first goal now new → AreAdded granted facts c given goal old new
   AreAdded-both a b c given goal first old middle now new is count rules splits joins i j = record {
     complete = λ known closed. (let h = j.complete known closed in let k = i.complete known h.0 in (
@@ -182,7 +183,7 @@ bodies_at templates k t s =
     (get_or-map (λ u. contract_of u.body ∷ []) templates k t [] s.within ∙ ap (λ u. contract_of u.body ∷ []) (sym s.is)))
 
 -- one template more was looked at
-pub IsTold-more : (book : Book) → IsChecked (definitions_of book) → (k : ℕ) (t : Template) → StandsAt book.templates.items k t → (says old new : Name → Bool) →
+pub IsTold-more : (book : Book) → IsChecked (book_of book) → (k : ℕ) (t : Template) → StandsAt book.templates.items k t → (says old new : Name → Bool) →
     ((f : Name) → new f ≡ (if same_name t.name f then says t.name || old f else old f)) → IsTold k book.templates.items says old → IsTold (k + 1) book.templates.items says new
 IsTold-more book checked k t s says old new more h f =
     more f ∙ by (same_name t.name f) refl ∙ ap (λ o. says f && is_some o) (sym (template_in-take book checked k t s f))
@@ -192,21 +193,21 @@ IsTold-more book checked k t s says old new more h f =
     said_now false b = refl
 
     by : (b : Bool) → same_name t.name f ≡ b → (if b then says t.name || old f else old f)
-        ≡ (says f && is_some (if b then Some (definition_of t) else template_in (first_templates k book.templates.items) f))
+        ≡ (says f && is_some (if b then Some (template_of t) else template_in (first_templates k book.templates.items) f))
     by true e = rw (ap says (name_one t.name f e), h f) (said_now (says f) (is_some (template_in (first_templates k book.templates.items) f)))
     by false e = h f
 
-module _ (book : Book) (checked : IsChecked (definitions_of book)) (granted : Bool) (facts : Name → Option ℕ)
+module _ (book : Book) (checked : IsChecked (book_of book)) (granted : Bool) (facts : Name → Option ℕ)
     (are : AreFacts (length book.templates.items) book.templates.items facts) where
-  all_templates : first_templates (length book.templates.items) book.templates.items ≡ (definitions_of book).templates
-  all_templates = ap (map definition_of) (take_all (length book.templates.items) book.templates.items (omega arith))
+  all_templates : first_templates (length book.templates.items) book.templates.items ≡ (book_of book).templates
+  all_templates = ap (map template_of) (take_all (length book.templates.items) book.templates.items (omega arith))
 
   -- each template has the fact of its body
-  fact_of : (f : Name) (t : Definition) → template_in (definitions_of book).templates f ≡ Some t → (i : ℕ) × (facts f ≡ Some i) × (slice_get (bodies book.templates.items) i ≡ Some (t.body ∷ []))
+  fact_of : (f : Name) (t : plain.Template) → template_in (book_of book).templates f ≡ Some t → (i : ℕ) × (facts f ≡ Some i) × (slice_get (bodies book.templates.items) i ≡ Some (t.body ∷ []))
   fact_of f t e = map_some (slice_get (bodies book.templates.items)) (facts f) (Some (t.body ∷ [])) (are f ∙ rw (all_templates, e) refl)
 
   -- no rules as yet
-  pub IsBuilt-none : (s : Rules) → s.count ≡ length book.templates.items + 1 → s.rules.items ≡ [] → IsBuilt (definitions_of book) granted book.templates.items facts 0 s
+  pub IsBuilt-none : (s : Rules) → s.count ≡ length book.templates.items + 1 → s.rules.items ≡ [] → IsBuilt (book_of book) granted book.templates.items facts 0 s
   IsBuilt-none s count none = record {
     meant = bodies book.templates.items;
     right = record {
@@ -216,21 +217,21 @@ module _ (book : Book) (checked : IsChecked (definitions_of book)) (granted : Bo
       named = λ f k t e h. (let o = fact_of f t h in let same : o.0 ≡ k = (let g = o.1 in cc) in
           let at = subst (λ j. slice_get (bodies book.templates.items) j ≡ Some (t.body ∷ [])) same o.2 in
           (slice_get_within (bodies book.templates.items) k (t.body ∷ []) at, get_or_from_slice_get (bodies book.templates.items) k (t.body ∷ []) [] at));
-      right = rw none (All-nil (IsRight (definitions_of book) granted (bodies book.templates.items)));
+      right = rw none (All-nil (IsRight (book_of book) granted (bodies book.templates.items)));
     };
     complete = λ known closed f t i. absurd cc;
   }
 
   pub IsBuilt-more : (k : ℕ) (t : Template) (old new : Rules) → StandsAt book.templates.items k t →
       ((goal : ℕ) → facts t.name ≡ Some goal → AreAdded granted facts (contract_of t.body) 0 goal old new) →
-      IsBuilt (definitions_of book) granted book.templates.items facts k old → IsBuilt (definitions_of book) granted book.templates.items facts (k + 1) new
+      IsBuilt (book_of book) granted book.templates.items facts k old → IsBuilt (book_of book) granted book.templates.items facts (k + 1) new
   IsBuilt-more k t old new s added h =
-      let own : template_in (definitions_of book).templates t.name ≡ Some (definition_of t) = own_template book checked k t s.within s.is in
-      let o = fact_of t.name (definition_of t) own in
+      let own : template_in (book_of book).templates t.name ≡ Some (template_of t) = own_template book checked k t s.within s.is in
+      let o = fact_of t.name (template_of t) own in
       let a = added o.0 o.1 in
-      let d = h.right.named t.name o.0 (definition_of t) o.1 own in
-      let m = a.sound (definitions_of book) h.meant (BodiesFit-typed (definitions_of book) checked.0 checked.1.typed t.name (definition_of t) own) h.right h.right.some d.0
-      (λ _ e. subst (AllMayEnd (definitions_of book) granted) (sym d.1) (e, tt)) in
+      let d = h.right.named t.name o.0 (template_of t) o.1 own in
+      let m = a.sound (book_of book) h.meant (BodiesFit-typed (book_of book) checked.0 checked.1.typed t.name (template_of t) own) h.right h.right.some d.0
+      (λ _ e. subst (AllMayEnd (book_of book) granted) (sym d.1) (e, tt)) in
       record {
         meant = m.0;
         right = m.2;
@@ -240,8 +241,8 @@ module _ (book : Book) (checked : IsChecked (definitions_of book)) (granted : Bo
             step known f u (same_name t.name f) refl o.0 o.1 (sym (template_in-take book checked k t s f) ∙ here) may (c.1 closed.0) (h.complete known c.0 f u));
       }
     where
-      step : (known : ℕ → Bool) (f : Name) (u : Definition) (b : Bool) → same_name t.name f ≡ b → (goal : ℕ) → facts t.name ≡ Some goal →
-          (if b then Some (definition_of t) else template_in (first_templates k book.templates.items) f) ≡ Some u → ends granted (says known facts) u.body ≡ true →
+      step : (known : ℕ → Bool) (f : Name) (u : plain.Template) (b : Bool) → same_name t.name f ≡ b → (goal : ℕ) → facts t.name ≡ Some goal →
+          (if b then Some (template_of t) else template_in (first_templates k book.templates.items) f) ≡ Some u → ends granted (says known facts) u.body ≡ true →
           (ends granted (says known facts) (contract_of t.body) ≡ true → known goal ≡ true) →
           (template_in (first_templates k book.templates.items) f ≡ Some u → ends granted (says known facts) u.body ≡ true → says known facts f ≡ true) →
           says known facts f ≡ true
@@ -251,31 +252,31 @@ module _ (book : Book) (checked : IsChecked (definitions_of book)) (granted : Bo
       step known f u false e goal g i may here there = there i may
 
   -- what follows may end
-  follows_may : (meant : List (List Contract)) (s : Rules) → AreMeant (definitions_of book) granted facts meant s → {i : ℕ} → Follows s.rules.items i → Holds (definitions_of book) granted meant i
+  follows_may : (meant : List (List Contract)) (s : Rules) → AreMeant (book_of book) granted facts meant s → {i : ℕ} → Follows s.rules.items i → Holds (book_of book) granted meant i
   follows_may meant s m Follows.Given = m.given
   follows_may meant s m (Follows.By {r = r} c f g) =
-      (All-contains (IsRight (definitions_of book) granted meant) s.rules.items r m.right c).sound (follows_may meant s m f) (follows_may meant s m g)
+      (All-contains (IsRight (book_of book) granted meant) s.rules.items r m.right c).sound (follows_may meant s m f) (follows_may meant s m g)
 
   pub IsExact-told : (rules : Rules) (known : List Bool) (ending : Name → Bool) →
-      IsBuilt (definitions_of book) granted book.templates.items facts (length book.templates.items) rules → is_known known 0 ≡ true →
+      IsBuilt (book_of book) granted book.templates.items facts (length book.templates.items) rules → is_known known 0 ≡ true →
       All (Concludes known) rules.rules.items → AllFollow rules.rules.items known →
-      IsTold (length book.templates.items) book.templates.items (says (is_known known) facts) ending → IsExact (definitions_of book) granted ending
+      IsTold (length book.templates.items) book.templates.items (says (is_known known) facts) ending → IsExact (book_of book) granted ending
   IsExact-told rules known ending built given closed sound told f = (
     λ h. (
-        let both = both_true (says (is_known known) facts f) (is_some (template_in (definitions_of book).templates f)) (sym (told_all f) ∙ h) in
+        let both = both_true (says (is_known known) facts f) (is_some (template_in (book_of book).templates f)) (sym (told_all f) ∙ h) in
         let i = known_some (is_known known) (facts f) both.0 in
-        let t = some_of (template_in (definitions_of book).templates f) both.1 in
-        (t.0, t.1, (subst (AllMayEnd (definitions_of book) granted) (built.right.named f i.0 t.0 i.1 t.1).1 (follows_may built.meant rules built.right (sound i.0 i.2))).0)),
-    λ b. told_all f ∙ rw (closed_by f b.0 b.1 (ends-complete (definitions_of book) granted (says (is_known known) facts) closed_by b.2.1 refl b.2.2), b.1) refl,
+        let t = some_of (template_in (book_of book).templates f) both.1 in
+        (t.0, t.1, (subst (AllMayEnd (book_of book) granted) (built.right.named f i.0 t.0 i.1 t.1).1 (follows_may built.meant rules built.right (sound i.0 i.2))).0)),
+    λ b. told_all f ∙ rw (closed_by f b.0 b.1 (ends-complete (book_of book) granted (says (is_known known) facts) closed_by b.2.1 refl b.2.2), b.1) refl,
   )
     where
-      told_all : (f : Name) → ending f ≡ (says (is_known known) facts f && is_some (template_in (definitions_of book).templates f))
+      told_all : (f : Name) → ending f ≡ (says (is_known known) facts f && is_some (template_in (book_of book).templates f))
       told_all f = told f ∙ ap (λ ts. says (is_known known) facts f && is_some (template_in ts f)) all_templates
 
-      some_of : (o : Option Definition) → is_some o ≡ true → (t : Definition) × (o ≡ Some t)
+      some_of : (o : Option plain.Template) → is_some o ≡ true → (t : plain.Template) × (o ≡ Some t)
       some_of None h = absurd cc
       some_of (Some t) h = (t, refl)
 
-      closed_by : (f : Name) (u : Definition) → template_in (definitions_of book).templates f ≡ Some u → ends granted (says (is_known known) facts) u.body ≡ true →
+      closed_by : (f : Name) (u : plain.Template) → template_in (book_of book).templates f ≡ Some u → ends granted (says (is_known known) facts) u.body ≡ true →
           says (is_known known) facts f ≡ true
       closed_by f u i = built.complete (is_known known) (given, λ r c. All-contains (Concludes known) rules.rules.items r closed c) f u (ap (λ ts. template_in ts f) all_templates ∙ i)

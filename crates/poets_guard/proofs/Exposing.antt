@@ -8,7 +8,8 @@ use Rattle.poets_value.specs.Names.{name_cmp}
 use Rattle.poets_expr.specs.Env.{same_name}
 use Rattle.poets_expr.proofs.SameTrees.{name_one}
 use Rattle.poets_syntax.specs.Contract.{Contract}
-use Rattle.poets_syntax.specs.Book.{Definitions, Definition, template_in}
+use Rattle.poets_syntax.specs.Plain.{Book, Template}
+use Rattle.poets_syntax.specs.Book.{template_in}
 use Rattle.poets_syntax.specs.Marks.{Nullable, Hopeful}
 use Rattle.poets_syntax.specs.Applied.{ApplicationsFit, BodiesFit}
 use Rattle.poets_syntax.specs.Guarded.{Exposes, UnguardedEdge, IsPath}
@@ -22,10 +23,10 @@ use Rattle.poets_guard.proofs.Places.{same_name-self}
 use Rattle.poets_guard.proofs.Marking.{either_true, or_second, ends-sound, ends-complete}
 
 -- no granted step, or some number of them
-pub MayEnd-nullable : (book : Definitions) (c : Contract) → MayEnd book false c ↔ Nullable book c
+pub MayEnd-nullable : (book : Book) (c : Contract) → MayEnd book false c ↔ Nullable book c
 MayEnd-nullable book c = (λ m. May-Perf m.1 (m.2 refl), λ p. (0, Perf-May p, λ _. refl))
 
-pub MayEnd-hopeful : (book : Definitions) (c : Contract) → MayEnd book true c ↔ Hopeful book c
+pub MayEnd-hopeful : (book : Book) (c : Contract) → MayEnd book true c ↔ Hopeful book c
 MayEnd-hopeful book c = (λ m. (m.0, m.1), λ m. (m.0, m.1, λ e. absurd cc))
 
 is_among-append : (xs ys : List Name) (f : Name) → is_among (xs ++ ys) f ≡ (is_among xs f || is_among ys f)
@@ -40,7 +41,7 @@ in_second xs ys f h = is_among-append xs ys f ∙ or_second (is_among xs f) (is_
 in_either : (xs ys : List Name) (f : Name) → is_among (xs ++ ys) f ≡ true → (is_among xs f ≡ true) ⊎ (is_among ys f ≡ true)
 in_either xs ys f h = either_true (is_among xs f) (is_among ys f) (sym (is_among-append xs ys f) ∙ h)
 
-module _ (book : Definitions) (fit : BodiesFit book) (says : Name → Bool) (exact : IsExact book false says) where
+module _ (book : Book) (fit : BodiesFit book) (says : Name → Bool) (exact : IsExact book false says) where
   null_in : (c : Contract) → ApplicationsFit book c → ends false says c ≡ true → Nullable book c
   null_in c a h = (MayEnd-nullable book c).0 (ends-sound book false says (λ f. (exact f).0) c a h)
 
@@ -86,12 +87,12 @@ module _ (book : Definitions) (fit : BodiesFit book) (says : Name → Bool) (exa
 
   module _ (graph : BTreeMap Name Node) (is : IsGraph book.templates says graph) where
     -- the node of a template
-    pub node_in : (f : Name) (o : Option Definition) (n : Node) → option_map held (Some n) ≡ option_map (holding says) o →
-        (t : Definition) × (o ≡ Some t) × (held n ≡ holding says t)
+    pub node_in : (f : Name) (o : Option Template) (n : Node) → option_map held (Some n) ≡ option_map (holding says) o →
+        (t : Template) × (o ≡ Some t) × (held n ≡ holding says t)
     node_in f None n e = absurd cc
     node_in f (Some t) n e = (t, refl, cc)
 
-    pub node_out : (o : Option Node) (t : Definition) → option_map held o ≡ option_map (holding says) (Some t) →
+    pub node_out : (o : Option Node) (t : Template) → option_map held o ≡ option_map (holding says) (Some t) →
         (n : Node) × (o ≡ Some n) × (held n ≡ holding says t)
     node_out None t e = absurd cc
     node_out (Some n) t e = (n, refl, cc)

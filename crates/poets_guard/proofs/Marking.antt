@@ -10,7 +10,8 @@ use Rattle.poets_expr.specs.Val.{val}
 use Rattle.poets_expr.proofs.SameTrees.{both_true, name_one}
 use Rattle.poets_syntax.specs.declared.term.Binders.{Binders}
 use Rattle.poets_syntax.specs.Contract.{Contract}
-use Rattle.poets_syntax.specs.Book.{Definitions, Definition, template_in, parameter_env, granted as granted_env}
+use Rattle.poets_syntax.specs.Plain.{Book, Template}
+use Rattle.poets_syntax.specs.Book.{template_in, parameter_env, granted as granted_env}
 use Rattle.poets_syntax.specs.May.{May}
 use Rattle.poets_syntax.specs.Marks.{BodySatisfies}
 use Rattle.poets_syntax.specs.Applied.{Takes, ApplicationsFit}
@@ -35,10 +36,10 @@ or_second false b e = e
 and_both : (a b : Bool) → a ≡ true → b ≡ true → (a && b) ≡ true
 and_both a b e k = rw e k
 
-pub one_template : {o : Option Definition} {t u : Definition} → o ≡ Some t → o ≡ Some u → t ≡ u
+pub one_template : {o : Option Template} {t u : Template} → o ≡ Some t → o ≡ Some u → t ≡ u
 one_template i j = cc
 
-module _ (book : Definitions) (granted : Bool) where
+module _ (book : Book) (granted : Bool) where
   pub MayEnd-transmit : {b : Binders} {p : Expression} {c : Contract} → granted ≡ true → MayEnd book granted c → MayEnd book granted (Contract.Transmit b p c)
   MayEnd-transmit {b = b} k m = (suc m.0, May.Granted (May-anywhere m.1 refl (granted_env b [])), λ e. let l : true ≡ false = sym k ∙ e in cc)
 
@@ -60,7 +61,7 @@ module _ (book : Definitions) (granted : Bool) where
       let count : length t.params ≡ length args = subst (λ u. length u.params ≡ length args) (one_template h.1 body.1) h.2 in
       (body.2.0, May.Body body.1 count (May-anywhere body.2.1 refl (parameter_env t.params (map (val book.declared []) args))), body.2.2)
 
-module _ (book : Definitions) (granted : Bool) (says : Name → Bool) where
+module _ (book : Book) (granted : Bool) (says : Name → Bool) where
   -- what is said to end may end
   pub ends-sound : IsSound book granted says → (c : Contract) → ApplicationsFit book c → ends granted says c ≡ true → MayEnd book granted c
   ends-sound s Contract.Success a h = (0, May.Done, λ _. refl)
@@ -77,7 +78,7 @@ module _ (book : Definitions) (granted : Bool) (says : Name → Bool) where
   ends-sound s (Contract.App f args) h e = MayEnd-app book granted h (s f e)
 
   -- what may end is said to, where each template is whose body is said to
-  pub ends-complete : ((f : Name) (t : Definition) → template_in book.templates f ≡ Some t → ends granted says t.body ≡ true → says f ≡ true) →
+  pub ends-complete : ((f : Name) (t : Template) → template_in book.templates f ≡ Some t → ends granted says t.body ≡ true → says f ≡ true) →
       {env : Env} {c : Contract} {s : List Event} {n : ℕ} → May book env c s n → s ≡ [] → (granted ≡ false → n ≡ 0) → ends granted says c ≡ true
   ends-complete k May.Done e g = refl
   ends-complete k (May.Taken h m) e g = absurd cc

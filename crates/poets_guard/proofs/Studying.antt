@@ -12,7 +12,7 @@ use Rattle.poets_syntax.specs.declared.term.Book.{Book}
 use Rattle.poets_syntax.specs.declared.term.Template.{Template}
 use Rattle.poets_syntax.specs.declared.studied.Mark.{Mark}
 use Rattle.poets_syntax.specs.Contract.{Contract}
-use Rattle.poets_syntax.specs.Book.{Definitions, Definition, definition_of, definitions_of, template_in}
+use Rattle.poets_syntax.specs.Book.{template_of, book_of, template_in}
 use Rattle.poets_syntax.specs.Checked.{IsChecked}
 use Rattle.poets_syntax.specs.Marks.{Marks, AreRight, Nullable, Hopeful, BodySatisfies, nullable}
 use Rattle.poets_syntax.specs.Applied.{BodiesFit}
@@ -20,6 +20,7 @@ use Rattle.poets_syntax.specs.Guarded.{UnguardedEdge, IsPath, IsCycle, IsGuarded
 use Rattle.poets_syntax.specs.Typed.{is_among}
 use Rattle.poets_syntax.specs.Width.{wide_by, body_in, width}
 use Rattle.poets_syntax.specs.Studied.{marks_in, IsRightMark, IsStudiedBook}
+use Rattle.poets_syntax.specs.Plain as plain
 use Rattle.poets_syntax.proofs.Replacing.{truth}
 use Rattle.poets_syntax.proofs.StudiedMarks.{has_mark_iff}
 use Rattle.poets_syntax.proofs.Nullability.{CountsFit-fit}
@@ -83,22 +84,22 @@ cut-own a m n e = omega (arith, e)
 -- ---- marks
 
 -- what is found of a template
-pub record IsFound (book : Definitions) (graph : BTreeMap Name Node) (t : Definition) (m : Mark) : Type 0 where
+pub record IsFound (book : plain.Book) (graph : BTreeMap Name Node) (t : plain.Template) (m : Mark) : Type 0 where
   pub named : template_in book.templates t.name ≡ Some t
   pub nullable : IsTrue m.nullable ↔ Nullable book t.body
   pub hopeful : IsTrue m.hopeful ↔ Hopeful book t.body
   pub wide : HasWidth graph t.name m.wide
 
 -- a mark that is exact of the name is exact of the template's body
-of_body : (book : Definitions) (Is Is' : Contract → Type 0) (t : Definition) (b : Bool) (says : Name → Bool) → template_in book.templates t.name ≡ Some t →
+of_body : (book : plain.Book) (Is Is' : Contract → Type 0) (t : plain.Template) (b : Bool) (says : Name → Bool) → template_in book.templates t.name ≡ Some t →
     ((c : Contract) → Is c ↔ Is' c) → ((f : Name) → IsTrue (says f) ↔ BodySatisfies book Is f) → b ≡ says t.name → IsTrue b ↔ Is' t.body
 of_body book Is Is' t b says named same exact e = (
   λ h. (let u = (exact t.name).0 (subst IsTrue e h) in (same t.body).0 (subst (λ v. Is v.body) (one_template u.1 named) u.2)),
   λ h. subst IsTrue (sym e) ((exact t.name).1 (t, named, (same t.body).1 h)),
 )
 
-zip_at : (R : Template → Mark → Type 0) (S : Definition → Mark → Type 0) (templates : List Template) (marks : List Mark) →
-    ((k : ℕ) (t : Template) (m : Mark) → StandsAt templates k t → R t m → S (definition_of t) m) → AllZip R templates marks → AllZip S (map definition_of templates) marks
+zip_at : (R : Template → Mark → Type 0) (S : plain.Template → Mark → Type 0) (templates : List Template) (marks : List Mark) →
+    ((k : ℕ) (t : Template) (m : Mark) → StandsAt templates k t → R t m → S (template_of t) m) → AllZip R templates marks → AllZip S (map template_of templates) marks
 zip_at R S [] [] to h = tt
 zip_at R S [] (m ∷ marks) to h = absurd h
 zip_at R S (t ∷ templates) [] to h = absurd h
@@ -107,14 +108,14 @@ zip_at R S (t ∷ templates) (m ∷ marks) to h = (
   zip_at R S templates marks (λ k u n s r. to (suc k) u n (record { within = (let l = s.within in omega (arith, l)); is = s.is }) r) h.1,
 )
 
-zip_weaker : (R S : Definition → Mark → Type 0) (templates : List Definition) (marks : List Mark) → ((t : Definition) (m : Mark) → R t m → S t m) →
+zip_weaker : (R S : plain.Template → Mark → Type 0) (templates : List plain.Template) (marks : List Mark) → ((t : plain.Template) (m : Mark) → R t m → S t m) →
     AllZip R templates marks → AllZip S templates marks
 zip_weaker R S [] [] to h = tt
 zip_weaker R S [] (m ∷ marks) to h = absurd h
 zip_weaker R S (t ∷ templates) [] to h = absurd h
 zip_weaker R S (t ∷ templates) (m ∷ marks) to h = (to t m h.0, zip_weaker R S templates marks to h.1)
 
-zip_named : (R : Definition → Mark → Type 0) (templates : List Definition) (marks : List Mark) (f : Name) (t : Definition) → AllZip R templates marks →
+zip_named : (R : plain.Template → Mark → Type 0) (templates : List plain.Template) (marks : List Mark) (f : Name) (t : plain.Template) → AllZip R templates marks →
     template_in templates f ≡ Some t → (m : Mark) × R t m × (t.name ≡ f)
 zip_named R [] marks f t h i = absurd cc
 zip_named R (u ∷ templates) [] f t h i = absurd h
@@ -129,7 +130,7 @@ same_tests false false h k = refl
 same_tests true false h k = absurd (let e = h refl in cc)
 same_tests false true h k = absurd (let e = k refl in cc)
 
-module _ (book : Definitions) (fit : BodiesFit book) (says : Name → Bool) (exact : IsExact book false says)
+module _ (book : plain.Book) (fit : BodiesFit book) (says : Name → Bool) (exact : IsExact book false says)
     (graph : BTreeMap Name Node) (is : IsGraph book.templates says graph) (ms : List Mark) (found : AllZip (IsFound book graph) book.templates ms) where
   marks : Marks
   marks = marks_in book.templates ms
@@ -148,7 +149,7 @@ module _ (book : Definitions) (fit : BodiesFit book) (says : Name → Bool) (exa
       let m = zip_named (IsFound book graph) book.templates ms f t.0 found t.1 in
       no_cycle graph (subst (PathsEnd graph) m.2 m.1.wide.0) names (IsPath-alike (UnguardedEdge book) (HasEdge graph) (edge_out book fit says exact graph is) f names f c)
     where
-      starts : (f g : Name) (names : List Name) → IsPath (UnguardedEdge book) f names g → (t : Definition) × (template_in book.templates f ≡ Some t)
+      starts : (f g : Name) (names : List Name) → IsPath (UnguardedEdge book) f names g → (t : plain.Template) × (template_in book.templates f ≡ Some t)
       starts f g [] p = (p.0, p.1)
       starts f g (x ∷ names) p = (p.0.0, p.0.1)
 
@@ -173,7 +174,7 @@ module _ (book : Definitions) (fit : BodiesFit book) (says : Name → Bool) (exa
       none None e = refl
       none (Some n) e = absurd cc
 
-      by : (o : Option Definition) → template_in book.templates f ≡ o →
+      by : (o : Option plain.Template) → template_in book.templates f ≡ o →
           cut (body_in o (width book (marks_in book.templates ms))) ≡ width_at (λ g. cut (body_in (template_in book.templates g) (width book (marks_in book.templates ms)))) (get name_cmp graph f)
       by None e = rw (none (get name_cmp graph f) (is f ∙ ap (option_map (holding says)) e)) refl
       by (Some t) e =
@@ -200,46 +201,46 @@ module _ (book : Definitions) (fit : BodiesFit book) (says : Name → Bool) (exa
   }
 
 -- the marks that are found are those of a studied book
-pub IsStudiedBook-marked : (book : Book) → IsChecked (definitions_of book) → (is_nullable is_hopeful : Name → Bool) (graph : BTreeMap Name Node) (marks : List Mark) →
-    IsExact (definitions_of book) false is_nullable → IsExact (definitions_of book) true is_hopeful → IsGraph (definitions_of book).templates is_nullable graph →
-    AllZip (IsMarked graph is_nullable is_hopeful) book.templates.items marks → IsStudiedBook (definitions_of book) marks
+pub IsStudiedBook-marked : (book : Book) → IsChecked (book_of book) → (is_nullable is_hopeful : Name → Bool) (graph : BTreeMap Name Node) (marks : List Mark) →
+    IsExact (book_of book) false is_nullable → IsExact (book_of book) true is_hopeful → IsGraph (book_of book).templates is_nullable graph →
+    AllZip (IsMarked graph is_nullable is_hopeful) book.templates.items marks → IsStudiedBook (book_of book) marks
 IsStudiedBook-marked book checked is_nullable is_hopeful graph marks null hope is h =
-    studied_found (definitions_of book) (BodiesFit-typed (definitions_of book) checked.0 checked.1.typed) is_nullable null graph is marks
-    (zip_at (IsMarked graph is_nullable is_hopeful) (IsFound (definitions_of book) graph) book.templates.items marks (λ k t m s r.
+    studied_found (book_of book) (BodiesFit-typed (book_of book) checked.0 checked.1.typed) is_nullable null graph is marks
+    (zip_at (IsMarked graph is_nullable is_hopeful) (IsFound (book_of book) graph) book.templates.items marks (λ k t m s r.
     let named = own_template book checked k t s.within s.is in
     record {
       named = named;
-      nullable = of_body (definitions_of book) (MayEnd (definitions_of book) false) (Nullable (definitions_of book)) (definition_of t) m.nullable is_nullable named
-          (MayEnd-nullable (definitions_of book)) null r.nullable;
-      hopeful = of_body (definitions_of book) (MayEnd (definitions_of book) true) (Hopeful (definitions_of book)) (definition_of t) m.hopeful is_hopeful named
-          (MayEnd-hopeful (definitions_of book)) hope r.hopeful;
+      nullable = of_body (book_of book) (MayEnd (book_of book) false) (Nullable (book_of book)) (template_of t) m.nullable is_nullable named
+          (MayEnd-nullable (book_of book)) null r.nullable;
+      hopeful = of_body (book_of book) (MayEnd (book_of book) true) (Hopeful (book_of book)) (template_of t) m.hopeful is_hopeful named
+          (MayEnd-hopeful (book_of book)) hope r.hopeful;
       wide = r.wide;
     }) h) checked
 
 -- ---- the first cycle
 
-names-same : (templates : List Template) → map (λ (t : Template). t.name) templates ≡ map (λ (t : Definition). t.name) (map definition_of templates)
+names-same : (templates : List Template) → map (λ (t : Template). t.name) templates ≡ map (λ (t : plain.Template). t.name) (map template_of templates)
 names-same [] = refl
 names-same (t ∷ templates) = ap (λ xs. t.name ∷ xs) (names-same templates)
 
-pub HasNodesOf-graph : (says : Name → Bool) (graph : BTreeMap Name Node) (templates : List Template) → IsGraph (map definition_of templates) says graph → HasNodesOf graph templates
-HasNodesOf-graph says graph templates is f h = among templates f (by (get name_cmp graph f) (template_in (map definition_of templates) f) (is f) h)
+pub HasNodesOf-graph : (says : Name → Bool) (graph : BTreeMap Name Node) (templates : List Template) → IsGraph (map template_of templates) says graph → HasNodesOf graph templates
+HasNodesOf-graph says graph templates is f h = among templates f (by (get name_cmp graph f) (template_in (map template_of templates) f) (is f) h)
   where
-    by : (o : Option Node) (p : Option Definition) → option_map held o ≡ option_map (holding says) p → IsSome o → IsSome p
+    by : (o : Option Node) (p : Option plain.Template) → option_map held o ≡ option_map (holding says) p → IsSome o → IsSome p
     by None p e k = absurd cc
     by (Some n) None e k = absurd cc
     by (Some n) (Some t) e k = refl
 
-    among : (templates : List Template) (f : Name) → IsSome (template_in (map definition_of templates) f) → is_among (map (λ (t : Template). t.name) templates) f ≡ true
+    among : (templates : List Template) (f : Name) → IsSome (template_in (map template_of templates) f) → is_among (map (λ (t : Template). t.name) templates) f ≡ true
     among [] f k = absurd cc
     among (t ∷ templates) f k = elim (truth (same_name t.name f)) [
       | inl e ↦ (let q : f ≡ t.name = sym (name_one t.name f e) in rw q (rw (same_name-self t.name) refl))
       | inr e ↦ (let rest = among templates f (rw e at k) in or_second (same_name f t.name) (is_among (map (λ (u : Template). u.name) templates) f) rest)
     ]
 
-pub IsFirstCycle-found : (book : Book) → IsChecked (definitions_of book) → (says : Name → Bool) (graph : BTreeMap Name Node) (cycle : List Name) →
-    IsExact (definitions_of book) false says → IsGraph (definitions_of book).templates says graph →
-    IsFirstOf (HasEdge graph) (map (λ (t : Template). t.name) book.templates.items) cycle → IsFirstCycle (definitions_of book) cycle
+pub IsFirstCycle-found : (book : Book) → IsChecked (book_of book) → (says : Name → Bool) (graph : BTreeMap Name Node) (cycle : List Name) →
+    IsExact (book_of book) false says → IsGraph (book_of book).templates says graph →
+    IsFirstOf (HasEdge graph) (map (λ (t : Template). t.name) book.templates.items) cycle → IsFirstCycle (book_of book) cycle
 IsFirstCycle-found book checked says graph cycle exact is h = record {
   earlier = h.earlier;
   first = h.first;
@@ -250,14 +251,14 @@ IsFirstCycle-found book checked says graph cycle exact is h = record {
   is_cycle = cycle_in cycle h.is_cycle;
   none = λ k d l c. h.none k d l (
     c.0,
-    IsPath-alike (UnguardedEdge (definitions_of book)) (HasEdge graph) (edge_out (definitions_of book) fit says exact graph is)
+    IsPath-alike (UnguardedEdge (book_of book)) (HasEdge graph) (edge_out (book_of book) fit says exact graph is)
         (slice_index_or h.earlier k d) c.0 (slice_index_or h.earlier k d) c.1,
   );
 }
   where
-    fit : BodiesFit (definitions_of book)
-    fit = BodiesFit-typed (definitions_of book) checked.0 checked.1.typed
+    fit : BodiesFit (book_of book)
+    fit = BodiesFit-typed (book_of book) checked.0 checked.1.typed
 
-    cycle_in : (names : List Name) → IsCycle (HasEdge graph) names → IsCycle (UnguardedEdge (definitions_of book)) names
+    cycle_in : (names : List Name) → IsCycle (HasEdge graph) names → IsCycle (UnguardedEdge (book_of book)) names
     cycle_in [] p = p
-    cycle_in (f ∷ names) p = IsPath-alike (HasEdge graph) (UnguardedEdge (definitions_of book)) (edge_in (definitions_of book) fit says exact graph is) f names f p
+    cycle_in (f ∷ names) p = IsPath-alike (HasEdge graph) (UnguardedEdge (book_of book)) (edge_in (book_of book) fit says exact graph is) f names f p

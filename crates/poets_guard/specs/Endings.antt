@@ -2,7 +2,7 @@
 use Rattle.std.specs.Prelude.{◌≡◌, ℕ, Bool, true, false, ◌&&◌, ◌||◌, [], IsTrue, ◌↔◌}
 use Rattle.poets_value.specs.declared.value.Name.{Name}
 use Rattle.poets_syntax.specs.Contract.{Contract, Success, Failure, Transmit, Plus, Par, Seq, App}
-use Rattle.poets_syntax.specs.Book.{Definitions}
+use Rattle.poets_syntax.specs.Plain.{Book}
 use Rattle.poets_syntax.specs.May.{May}
 use Rattle.poets_syntax.specs.Marks.{BodySatisfies}
 
@@ -17,13 +17,13 @@ ends granted says (Seq a b) = ends granted says a && ends granted says b
 ends granted says (App f args) = says f
 
 -- granted steps alone perform the contract, and no step does where none is granted
-abbrev pub MayEnd : Definitions → (granted : Bool) → Contract → Type 0
+abbrev pub MayEnd : Book → (granted : Bool) → Contract → Type 0
 MayEnd book granted c = (n : ℕ) × May book [] c [] n × (granted ≡ false → n ≡ 0)
 
 -- each template that is said to may end
-abbrev pub IsSound : Definitions → (granted : Bool) → (says : Name → Bool) → Type 0
+abbrev pub IsSound : Book → (granted : Bool) → (says : Name → Bool) → Type 0
 IsSound book granted says = (f : Name) → says f ≡ true → BodySatisfies book (MayEnd book granted) f
 
 -- exactly the templates that may end are said to
-abbrev pub IsExact : Definitions → (granted : Bool) → (says : Name → Bool) → Type 0
+abbrev pub IsExact : Book → (granted : Bool) → (says : Name → Bool) → Type 0
 IsExact book granted says = (f : Name) → IsTrue (says f) ↔ BodySatisfies book (MayEnd book granted) f

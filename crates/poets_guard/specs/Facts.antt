@@ -4,7 +4,9 @@ use Rattle.poets_value.specs.declared.value.Name.{Name}
 use Rattle.poets_syntax.specs.declared.term.Template.{Template}
 use Rattle.poets_syntax.specs.Contract.{Contract, contract_of}
 use Rattle.poets_syntax.specs.Applied.{ApplicationsFit}
-use Rattle.poets_syntax.specs.Book.{Definitions, Definition, definition_of, template_in}
+use Rattle.poets_syntax.specs.Plain.{Book}
+use Rattle.poets_syntax.specs.Book.{template_of, template_in}
+use Rattle.poets_syntax.specs.Plain as plain
 use Rattle.poets_guard.specs.declared.rules.Rule.{Rule}
 use Rattle.poets_guard.specs.declared.endings.Rules.{Rules}
 use Rattle.poets_guard.specs.Endings.{ends, MayEnd}
@@ -24,22 +26,22 @@ abbrev pub bodies : List Template → List (List Contract)
 bodies templates = [] ∷ map (λ t. contract_of t.body ∷ []) templates
 
 -- each of the contracts may end
-abbrev pub AllMayEnd : Definitions → (granted : Bool) → List Contract → Type 0
+abbrev pub AllMayEnd : Book → (granted : Bool) → List Contract → Type 0
 AllMayEnd book granted [] = Unit {0}
 AllMayEnd book granted (c ∷ cs) = MayEnd book granted c × AllMayEnd book granted cs
 
 -- what the fact says holds
-abbrev pub Holds : Definitions → (granted : Bool) → (meant : List (List Contract)) → ℕ → Type 0
+abbrev pub Holds : Book → (granted : Bool) → (meant : List (List Contract)) → ℕ → Type 0
 Holds book granted meant k = AllMayEnd book granted (slice_index_or meant k [])
 
 -- the rule is of facts that have a meaning, and what it concludes holds if its premises do
-pub record IsRight (book : Definitions) (granted : Bool) (meant : List (List Contract)) (r : Rule) : Type 0 where
+pub record IsRight (book : Book) (granted : Bool) (meant : List (List Contract)) (r : Rule) : Type 0 where
   pub within : IsWithin (length meant) r
   pub sound : Holds book granted meant r.first → Holds book granted meant r.second → Holds book granted meant r.conclusion
 
 -- the first so many templates
-abbrev pub first_templates : ℕ → List Template → List Definition
-first_templates n templates = map definition_of (take n templates)
+abbrev pub first_templates : ℕ → List Template → List plain.Template
+first_templates n templates = map template_of (take n templates)
 
 -- each of the first so many templates has the fact of its body, and no other name has one
 abbrev pub AreFacts : ℕ → List Template → (facts : Name → Option ℕ) → Type 0
@@ -51,15 +53,15 @@ IsClosed known rules = (known 0 ≡ true) × ((r : Rule) → Contains rules r �
 
 -- where what follows is known, of the first so many templates each that may end by what is known is known to
 abbrev pub IsComplete : (granted : Bool) → (facts : Name → Option ℕ) → ℕ → List Template → List Rule → Type 0
-IsComplete granted facts n templates rules = (known : ℕ → Bool) → IsClosed known rules → (f : Name) (t : Definition) →
+IsComplete granted facts n templates rules = (known : ℕ → Bool) → IsClosed known rules → (f : Name) (t : plain.Template) →
     template_in (first_templates n templates) f ≡ Some t → ends granted (says known facts) t.body ≡ true → says known facts f ≡ true
 
 -- the facts say that these may end, where that of a template says so of its body; and the rules are right
-pub record AreMeant (book : Definitions) (granted : Bool) (facts : Name → Option ℕ) (meant : List (List Contract)) (s : Rules) : Type 0 where
+pub record AreMeant (book : Book) (granted : Bool) (facts : Name → Option ℕ) (meant : List (List Contract)) (s : Rules) : Type 0 where
   pub many : length meant ≡ s.count
   pub some : 0 < length meant
   pub given : Holds book granted meant 0
-  pub named : (f : Name) (k : ℕ) (t : Definition) → facts f ≡ Some k → template_in book.templates f ≡ Some t → (k < length meant) × (slice_index_or meant k [] ≡ t.body ∷ [])
+  pub named : (f : Name) (k : ℕ) (t : plain.Template) → facts f ≡ Some k → template_in book.templates f ≡ Some t → (k < length meant) × (slice_index_or meant k [] ≡ t.body ∷ [])
   pub right : All (IsRight book granted meant) s.rules.items
 
 -- the facts are more, and the first say what they said
@@ -70,11 +72,11 @@ pub record GoOn (old new : List (List Contract)) : Type 0 where
 -- where a fact is given, a goal follows by the new rules if the contract may end, and may be said only then
 pub record AreAdded (granted : Bool) (facts : Name → Option ℕ) (c : Contract) (given goal : ℕ) (old new : Rules) : Type 0 where
   pub complete : (known : ℕ → Bool) → IsClosed known new.rules.items → IsClosed known old.rules.items × (known given ≡ true → ends granted (says known facts) c ≡ true → known goal ≡ true)
-  pub sound : (book : Definitions) (meant : List (List Contract)) → ApplicationsFit book c → AreMeant book granted facts meant old → given < length meant → goal < length meant →
+  pub sound : (book : Book) (meant : List (List Contract)) → ApplicationsFit book c → AreMeant book granted facts meant old → given < length meant → goal < length meant →
       (Holds book granted meant given → MayEnd book granted c → Holds book granted meant goal) → (more : List (List Contract)) × GoOn meant more × AreMeant book granted facts more new
 
 -- the rules of the bodies of the first so many templates
-pub record IsBuilt (book : Definitions) (granted : Bool) (templates : List Template) (facts : Name → Option ℕ) (n : ℕ) (s : Rules) : Type 0 where
+pub record IsBuilt (book : Book) (granted : Bool) (templates : List Template) (facts : Name → Option ℕ) (n : ℕ) (s : Rules) : Type 0 where
   pub meant : List (List Contract)
   pub right : AreMeant book granted facts meant s
   pub complete : IsComplete granted facts n templates s.rules.items

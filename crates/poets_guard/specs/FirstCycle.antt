@@ -1,7 +1,7 @@
 -- The first cycle of a book.
 use Rattle.std.specs.Prelude.{◌≡◌, List, ◌∷◌, ◌++◌, map, All}
 use Rattle.poets_value.specs.declared.value.Name.{Name}
-use Rattle.poets_syntax.specs.Book.{Definitions}
+use Rattle.poets_syntax.specs.Plain.{Book}
 use Rattle.poets_syntax.specs.Guarded.{IsCycle, UnguardedEdge}
 
 -- some cycle begins with the name
@@ -20,5 +20,5 @@ pub record IsFirstOf (Edge : Name → Name → Type 0) (names cycle : List Name)
   pub none : All (λ f. ¬ (LiesOnCycle Edge f)) earlier
 
 -- the list is a cycle of unguarded edges, and begins with the first declared template that lies on one
-abbrev pub IsFirstCycle : Definitions → List Name → Type 0
+abbrev pub IsFirstCycle : Book → List Name → Type 0
 IsFirstCycle book cycle = IsFirstOf (UnguardedEdge book) (map (λ t. t.name) book.templates) cycle

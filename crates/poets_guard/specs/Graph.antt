@@ -5,7 +5,8 @@ use Rattle.poets_value.specs.declared.value.Name.{Name}
 use Rattle.poets_value.specs.Names.{name_cmp}
 use Rattle.poets_expr.specs.Size.{nodes, nodes_of_all}
 use Rattle.poets_syntax.specs.Contract.{Contract, Success, Failure, Transmit, Plus, Par, Seq, App}
-use Rattle.poets_syntax.specs.Book.{Definition, template_in}
+use Rattle.poets_syntax.specs.Plain.{Template}
+use Rattle.poets_syntax.specs.Book.{template_in}
 use Rattle.poets_syntax.specs.Typed.{is_among}
 use Rattle.poets_syntax.specs.Width.{size}
 use Rattle.poets_guard.specs.declared.graph.Node.{Node}
@@ -39,11 +40,11 @@ exposures says (App f args) = f ∷ []
 abbrev pub held : Node → ℕ × List Name
 held n = (n.own, n.exposed.items)
 
-abbrev pub holding : (says : Name → Bool) → Definition → ℕ × List Name
+abbrev pub holding : (says : Name → Bool) → Template → ℕ × List Name
 holding says t = (cut (own says t.body), exposures says t.body)
 
 -- each of the templates has its node, and nothing else has one
-abbrev pub IsGraph : List Definition → (says : Name → Bool) → BTreeMap Name Node → Type 0
+abbrev pub IsGraph : List Template → (says : Name → Bool) → BTreeMap Name Node → Type 0
 IsGraph templates says graph = (f : Name) → option_map held (get name_cmp graph f) ≡ option_map (holding says) (template_in templates f)
 
 -- an edge leads from a name to each that its node exposes

@@ -5,7 +5,7 @@ ghost use Rattle.std.specs.BTreeSet.{contains};
 ghost use Rattle.poets_value.specs.Names.{name_cmp};
 ghost use Rattle.poets_expr.specs.Env.{same_name};
 ghost use Rattle.poets_syntax.specs.Contract.{contract_of};
-ghost use Rattle.poets_syntax.specs.Book.{definitions_of};
+ghost use Rattle.poets_syntax.specs.Book.{book_of};
 ghost use Rattle.poets_syntax.specs.Checked.{IsChecked};
 ghost use Rattle.poets_guard.specs.Endings.{IsExact};
 ghost use Rattle.poets_guard.specs.Rules.{is_known};
@@ -113,7 +113,7 @@ impl Rules {
 
 // A fact for each template, after the one that is given.
 fn facts_of(alloc: Global, book: &Book) -> Result<Facts, Memory>
-    requires { IsChecked (definitions_of book.now) }
+    requires { IsChecked (book_of book.now) }
     ensures { IfOk result (λ facts. AreFacts (length book.now.templates.items) book.now.templates.items (get name_cmp facts)) }
 {
     let mut facts = BTreeMap::new(alloc);
@@ -125,9 +125,9 @@ fn facts_of(alloc: Global, book: &Book) -> Result<Facts, Memory>
 
 // The rules by which the facts of the templates follow.
 fn rules_of_book(alloc: Global, granted: bool, book: &Book, facts: &Facts) -> Result<Rules, Memory>
-    requires checked { IsChecked (definitions_of book.now) }
+    requires checked { IsChecked (book_of book.now) }
     requires facts { AreFacts (length book.now.templates.items) book.now.templates.items (get name_cmp facts.now) }
-    ensures { IfOk result (IsBuilt (definitions_of book.now) granted book.now.templates.items (get name_cmp facts.now) (length book.now.templates.items)) }
+    ensures { IfOk result (IsBuilt (book_of book.now) granted book.now.templates.items (get name_cmp facts.now) (length book.now.templates.items)) }
 {
     let templates = book.templates.as_slice();
     let mut rules = Rules {
@@ -168,8 +168,8 @@ pub(crate) fn templates_that_end(
     granted: bool,
     book: &Book,
 ) -> Result<BTreeSet<Name>, Memory>
-    requires { IsChecked (definitions_of book.now) }
-    ensures { IfOk result (λ ending. IsExact (definitions_of book.now) granted (contains name_cmp ending)) }
+    requires { IsChecked (book_of book.now) }
+    ensures { IfOk result (λ ending. IsExact (book_of book.now) granted (contains name_cmp ending)) }
 {
     let facts = facts_of(alloc, book)?;
     let rules = rules_of_book(alloc, granted, book, &facts)?;

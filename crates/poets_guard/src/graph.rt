@@ -3,10 +3,11 @@ ghost use Rattle.std.specs.Prelude.{◌≡◌, ◌+◌, ◌++◌, IfOk, OnOk, fa
 ghost use Rattle.std.specs.BTreeSet.{contains};
 ghost use Rattle.poets_value.specs.Names.{name_cmp};
 ghost use Rattle.poets_syntax.specs.Contract.{contract_of};
-ghost use Rattle.poets_syntax.specs.Book.{definitions_of};
+ghost use Rattle.poets_syntax.specs.Book.{book_of};
 ghost use Rattle.poets_syntax.specs.Checked.{IsChecked};
 ghost use Rattle.poets_guard.specs.Endings.{ends};
-ghost use Rattle.poets_guard.specs.Graph.{cut, own as own_lem, exposures, IsGraph};
+ghost use Rattle.poets_guard.specs.Graph.{cut, exposures, IsGraph};
+ghost use Rattle.poets_guard.specs.Graph as spec;
 
 use poets_syntax::{Book, Term, size};
 use poets_value::{List, Memory, Name, push};
@@ -38,7 +39,7 @@ pub(crate) type Graph = BTreeMap<Name, Node>;
 // Adds what a contract has in unguarded positions. Says whether the contract is nullable.
 fn gather(nullable: &BTreeSet<Name>, term: &Term, node: &mut Node) -> Result<bool, Memory>
     ensures nullable { IfOk result (λ b. b ≡ ends false (contains name_cmp nullable.now) (contract_of term.now)) }
-    ensures own { OnOk result (node.new.own ≡ cut (node.old.own + own_lem (contains name_cmp nullable.now) (contract_of term.now))) }
+    ensures own { OnOk result (node.new.own ≡ cut (node.old.own + spec.own (contains name_cmp nullable.now) (contract_of term.now))) }
     ensures exposed { OnOk result (node.new.exposed.items ≡ node.old.exposed.items ++ exposures (contains name_cmp nullable.now) (contract_of term.now)) }
 {
     match term {
@@ -80,7 +81,7 @@ fn gather(nullable: &BTreeSet<Name>, term: &Term, node: &mut Node) -> Result<boo
 
 // The node of a contract.
 fn node_of(alloc: Global, nullable: &BTreeSet<Name>, term: &Term) -> Result<Node, Memory>
-    ensures own { IfOk result (λ n. n.own ≡ cut (own_lem (contains name_cmp nullable.now) (contract_of term.now))) }
+    ensures own { IfOk result (λ n. n.own ≡ cut (spec.own (contains name_cmp nullable.now) (contract_of term.now))) }
     ensures exposed { IfOk result (λ n. n.exposed.items ≡ exposures (contains name_cmp nullable.now) (contract_of term.now)) }
 {
     let mut node = Node {
@@ -97,8 +98,8 @@ pub(crate) fn graph_of(
     book: &Book,
     nullable: &BTreeSet<Name>,
 ) -> Result<Graph, Memory>
-    requires { IsChecked (definitions_of book.now) }
-    ensures { IfOk result (λ graph. IsGraph (definitions_of book.now).templates (contains name_cmp nullable.now) graph) }
+    requires { IsChecked (book_of book.now) }
+    ensures { IfOk result (λ graph. IsGraph (book_of book.now).templates (contains name_cmp nullable.now) graph) }
 {
     let mut graph = BTreeMap::new(alloc);
     for template in book.templates.as_slice() {

@@ -1,6 +1,6 @@
 //! The study of a book.
 ghost use Rattle.std.specs.Prelude.{◌≡◌, IfOk, OnOk, IfErr};
-ghost use Rattle.poets_syntax.specs.Book.{definitions_of};
+ghost use Rattle.poets_syntax.specs.Book.{book_of};
 ghost use Rattle.poets_syntax.specs.Checked.{IsChecked};
 ghost use Rattle.poets_syntax.specs.Guarded.{IsGuarded};
 ghost use Rattle.poets_syntax.specs.Studied.{IsStudiedBook};
@@ -37,11 +37,11 @@ impl From<Memory> for GuardFault {
 /// The book, which is checked, with the marks of its templates. Of a book that is not guarded, a cycle that begins
 /// with the first declared template that lies on one.
 pub fn study(alloc: Global, book: Book) -> Result<Studied, GuardFault>
-    requires checked { IsChecked (definitions_of book) }
+    requires checked { IsChecked (book_of book) }
     ensures book { IfOk result (λ s. s.book ≡ book) }
-    ensures guarded { OnOk result (IsGuarded (definitions_of book)) }
-    ensures marks { IfOk result (λ s. IsStudiedBook (definitions_of book) s.marks) }
-    ensures unguarded { IfErr result (IsFaultOf (definitions_of book)) }
+    ensures guarded { OnOk result (IsGuarded (book_of book)) }
+    ensures marks { IfOk result (λ s. IsStudiedBook (book_of book) s.marks) }
+    ensures unguarded { IfErr result (IsFaultOf (book_of book)) }
 {
     let nullable = templates_that_end(alloc, false, &book)?;
     let hopeful = templates_that_end(alloc, true, &book)?;

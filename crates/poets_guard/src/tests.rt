@@ -1,8 +1,8 @@
 //! Books worked by hand, each studied once with memory.
 ghost use Rattle.std.specs.Prelude.{◌≡◌, ◌++◌, ◌∷◌, [], IfOk, map};
 ghost use Rattle.poets_syntax.specs.Contract.{contract_of};
-ghost use Rattle.poets_syntax.specs.Book.{definition_of, definitions_of};
-ghost use Rattle.poets_guard.specs.Examples.{applied as applied_lem, anything as anything_lem, template as template_lem, book_of as book_lem, looping as looping_lem, looping_first as looping_first_lem, sending as sending_lem, hopeless as hopeless_lem, circling as circling_lem};
+ghost use Rattle.poets_syntax.specs.Book.{template_of, book_of};
+ghost use Rattle.poets_guard.specs.Examples as examples;
 
 use crate::{GuardFault, study};
 use poets_expr::{Decls, Expr};
@@ -28,7 +28,7 @@ const BINDERS: Binders = Binders {
 };
 
 fn applied(alloc: Global, name: Name) -> Term
-    ensures { contract_of result ≡ applied_lem name }
+    ensures { contract_of result ≡ examples.applied name }
 {
     Term::App {
         name,
@@ -38,13 +38,13 @@ fn applied(alloc: Global, name: Name) -> Term
 
 // transmit(a, b, r, t | true). then
 fn anything(alloc: Global, then: Term) -> Result<Term, Memory>
-    ensures { IfOk result (λ c. contract_of c ≡ anything_lem BINDERS (contract_of then)) }
+    ensures { IfOk result (λ c. contract_of c ≡ examples.anything BINDERS (contract_of then)) }
 {
     transmit(alloc, BINDERS, Expr::Bool(true), then)
 }
 
 fn template(alloc: Global, name: Name, body: Term) -> Template
-    ensures { definition_of result ≡ template_lem name (contract_of body) }
+    ensures { template_of result ≡ examples.template name (contract_of body) }
 {
     Template {
         name,
@@ -54,7 +54,7 @@ fn template(alloc: Global, name: Name, body: Term) -> Template
 }
 
 fn book(alloc: Global, templates: List<Template>) -> Book
-    ensures { definitions_of result ≡ book_lem (map definition_of templates.items) }
+    ensures { book_of result ≡ examples.book_of (map template_of templates.items) }
 {
     Book {
         decls: Decls {
@@ -66,7 +66,7 @@ fn book(alloc: Global, templates: List<Template>) -> Book
 
 // template loop() = loop() || Success;;
 fn looping(alloc: Global) -> Result<Book, Memory>
-    ensures { IfOk result (λ b. definitions_of b ≡ looping_lem F) }
+    ensures { IfOk result (λ b. book_of b ≡ examples.looping F) }
 {
     let mut templates = List::new(alloc);
     let body = par(alloc, applied(alloc, F), Term::Success)?;
@@ -77,7 +77,7 @@ fn looping(alloc: Global) -> Result<Book, Memory>
 // template f() = g() ; f();;
 // template g() = g() || Success;;
 fn looping_first(alloc: Global) -> Result<Book, Memory>
-    ensures { IfOk result (λ b. definitions_of b ≡ looping_first_lem F G) }
+    ensures { IfOk result (λ b. book_of b ≡ examples.looping_first F G) }
 {
     let mut templates = List::new(alloc);
     let body = seq(alloc, applied(alloc, G), applied(alloc, F))?;
@@ -90,7 +90,7 @@ fn looping_first(alloc: Global) -> Result<Book, Memory>
 // template f() = (transmit(a, b, r, t | true). f()) + Success;;
 // template g() = f() ; f();;
 fn sending(alloc: Global) -> Result<Book, Memory>
-    ensures { IfOk result (λ b. definitions_of b ≡ sending_lem BINDERS F G) }
+    ensures { IfOk result (λ b. book_of b ≡ examples.sending BINDERS F G) }
 {
     let mut templates = List::new(alloc);
     let first = anything(alloc, applied(alloc, F))?;
@@ -104,7 +104,7 @@ fn sending(alloc: Global) -> Result<Book, Memory>
 // template f() = transmit(a, b, r, t | true). f();;
 // template g() = f() ; g();;
 fn hopeless(alloc: Global) -> Result<Book, Memory>
-    ensures { IfOk result (λ b. definitions_of b ≡ hopeless_lem BINDERS F G) }
+    ensures { IfOk result (λ b. book_of b ≡ examples.hopeless BINDERS F G) }
 {
     let mut templates = List::new(alloc);
     let body = anything(alloc, applied(alloc, F))?;
@@ -118,7 +118,7 @@ fn hopeless(alloc: Global) -> Result<Book, Memory>
 // template g() = h() || Success;;
 // template h() = g() || Success;;
 fn circling(alloc: Global) -> Result<Book, Memory>
-    ensures { IfOk result (λ b. definitions_of b ≡ circling_lem F G H) }
+    ensures { IfOk result (λ b. book_of b ≡ examples.circling F G H) }
 {
     let mut templates = List::new(alloc);
     let body = plus(alloc, applied(alloc, H), applied(alloc, G))?;

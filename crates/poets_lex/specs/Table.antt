@@ -1,8 +1,7 @@
 -- Names, and their table: the list of their texts, in which a name is a place.
-use Rattle.std.specs.Prelude.{◌≡◌, ◌≢◌, ℕ, ◌≤◌, List, [], ◌∷◌, ◌++◌, length, map, position, Option, Some, if◌then◌else◌, slice_get, IsTrue}
+use Rattle.std.specs.Prelude.{◌≡◌, ◌≢◌, ℕ, ◌≤◌, List, [], ◌∷◌, ◌++◌, length, map, position, Option, Some, if◌then◌else◌, slice_get, IsTrue, String, string_bytes}
 use Rattle.std.specs.List.{list_any, list_all}
 use Rattle.std.specs.Str.{bytes_eq}
-use Rattle.std.specs.Prelude.{String, string_bytes}
 use Rattle.std.specs.declared.alloc.Global.{Global}
 use Rattle.poets_lex.specs.declared.token.Word.{Word}
 use Rattle.poets_lex.specs.Bytes.{begins_name, is_in_name}

@@ -5,7 +5,7 @@ use Rattle.std.proofs.lemmas.List.Elements.{All-nil, All-cons}
 use Rattle.poets_value.specs.declared.event.Event.{Event}
 use Rattle.poets_expr.specs.Env.{Declared}
 use Rattle.poets_report.specs.declared.folds.Change.{Change}
-use Rattle.poets_report.specs.Query.{query_of, start}
+use Rattle.poets_report.specs.Reports.{report_of, start}
 use Rattle.poets_report.specs.Answers.{IsAnswer}
 use Rattle.poets_live.specs.Watching.{WatchView, Follows, Brought, Moved, OneEventMore}
 
@@ -15,11 +15,11 @@ all_rest P x xs h = (h 0 x (omega arith), λ k d lt. h (suc k) d (omega (arith, 
 pub moved_follows : (declared : Declared) (events : List Event) (e : Event) (old : WatchView) (c : Change) (new : WatchView) →
     Follows declared events old → Brought declared e old c → Moved old c new → Follows declared (events ++ e ∷ []) new
 moved_follows declared events e old c new h b m =
-    let q = query_of old.report in
+    let q = report_of old.report in
     let next : IsAnswer declared q old.args (events ++ e ∷ []) new.answer = b events new.answer h m.answer in
     record {
-      begun = m.start ∙ h.begun ∙ ap (λ a. start declared q a) (sym m.args) ∙ ap (λ r. start declared (query_of r) new.args) (sym m.report);
-      answers = subst (λ r. IsAnswer declared (query_of r) new.args (events ++ e ∷ []) new.answer) (sym m.report)
+      begun = m.start ∙ h.begun ∙ ap (λ a. start declared q a) (sym m.args) ∙ ap (λ r. start declared (report_of r) new.args) (sym m.report);
+      answers = subst (λ r. IsAnswer declared (report_of r) new.args (events ++ e ∷ []) new.answer) (sym m.report)
           (subst (λ a. IsAnswer declared q a (events ++ e ∷ []) new.answer) (sym m.args) next);
     }
 

@@ -7,8 +7,9 @@ use Rattle.poets_value.specs.declared.value.Value.{Value}
 use Rattle.poets_expr.specs.Env.{Declared}
 use Rattle.poets_report.specs.declared.report.Report.{Report}
 use Rattle.poets_report.specs.declared.folds.Change.{Change}
-use Rattle.poets_report.specs.Query.{query_of, start}
-use Rattle.poets_report.specs.Answers.{Finding, IsAnswer}
+use Rattle.poets_report.specs.Reports.{report_of, start}
+use Rattle.poets_report.specs.Plain.{Answer}
+use Rattle.poets_report.specs.Answers.{IsAnswer}
 use Rattle.poets_report.specs.Folds.{Changes, HasRoomFor, events_of}
 
 -- a watch: a report and its arguments
@@ -18,7 +19,7 @@ pub record WatchView : Type 0 where
   -- what is carried to the first event, and to the first event of each key
   pub start : Option Value
   -- the answer over the events so far
-  pub answer : Finding
+  pub answer : Answer
 
 -- a watch, and the keys for whose rows it has room
 pub record WatchState : Type 0 where
@@ -32,8 +33,8 @@ pub record WatchesView : Type 0 where
 
 -- the watch was begun under these declared names, and has its report's answer over these events
 pub record Follows (declared : Declared) (events : List Event) (w : WatchView) : Type 0 where
-  pub begun : w.start ≡ start declared (query_of w.report) w.args
-  pub answers : IsAnswer declared (query_of w.report) w.args events w.answer
+  pub begun : w.start ≡ start declared (report_of w.report) w.args
+  pub answers : IsAnswer declared (report_of w.report) w.args events w.answer
 
 abbrev pub AllFollow : Declared → List Event → List WatchView → Type 0
 AllFollow declared events watches = All (Follows declared events) watches
@@ -46,8 +47,8 @@ AllOfThree P _ _ _ = ⊥
 
 -- the change is what an event brings to a watch: put in place, it makes the answer over the events so far and this one
 abbrev pub Brought : Declared → Event → WatchView → Change → Type 0
-Brought declared e w c = (events : List Event) (new : Finding) → Follows declared events w → Changes c w.answer new →
-    IsAnswer declared (query_of w.report) w.args (events ++ e ∷ []) new
+Brought declared e w c = (events : List Event) (new : Answer) → Follows declared events w → Changes c w.answer new →
+    IsAnswer declared (report_of w.report) w.args (events ++ e ∷ []) new
 
 -- each change is what the event brings to its watch
 abbrev pub AllBrought : Declared → Event → List WatchView → List Change → Type 0

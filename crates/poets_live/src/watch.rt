@@ -1,7 +1,7 @@
 //! A report that is kept live.
 ghost use Rattle.std.specs.Prelude.{◌≡◌, ◌+◌, ◌≤◌, length, IfOk, IsOk, OnOk, OnErr};
 ghost use Rattle.poets_expr.specs.Env.{declared_of};
-ghost use Rattle.poets_report.specs.Answers.{finding_of};
+ghost use Rattle.poets_report.specs.Answers.{answer_of};
 ghost use Rattle.poets_report.specs.Folds.{HasRoomFor, IsSingle, events_of};
 ghost use Rattle.poets_live.specs.Watching.{Follows, Brought, Moved};
 
@@ -30,14 +30,14 @@ impl Model for Watch {
     ghost coded = { Prim.hlevel (codes, r.the_row.coded) };
 
     ghost use Rattle.std.specs.Prelude.{◌≡◌};
-    ghost use Rattle.poets_report.specs.Query.{query_of, given};
+    ghost use Rattle.poets_report.specs.Reports.{report_of, given};
 
     ghost view = { λ w. record {
       watch = record { report = w.report; args = w.args.items; start = w.fold.start; answer = w.fold.answer };
       keys = w.fold.keys;
     } };
 
-    ghost invariant = { λ w. w.fold.env ≡ given (query_of w.report) w.args.items };
+    ghost invariant = { λ w. w.fold.env ≡ given (report_of w.report) w.args.items };
 }
 
 impl Watch {
@@ -62,7 +62,7 @@ impl Watch {
 
     /// The answer over the events so far.
     pub(crate) fn read(&self) -> Result<Answer, Memory>
-        ensures answer { IfOk result (λ a. finding_of a ≡ self.now.watch.answer) }
+        ensures answer { IfOk result (λ a. answer_of a ≡ self.now.watch.answer) }
         ensures single { IsSingle self.now.watch.answer → IsOk result }
     {
         self.fold.read()

@@ -1,11 +1,9 @@
 //! All watches.
-ghost use Rattle.std.specs.Prelude.{◌≡◌, ◌+◌, ◌*◌, ◌-◌, ◌<◌, ◌≤◌, [], map, length, Some, slice_get};
-ghost use Rattle.std.specs.Prelude.{IfOk, IsOk, OnOk, OnErr};
+ghost use Rattle.std.specs.Prelude.{◌≡◌, ◌+◌, ◌*◌, ◌-◌, ◌<◌, ◌≤◌, [], map, length, Some, slice_get, IfOk, IsOk, OnOk, OnErr};
 ghost use Rattle.poets_expr.specs.Env.{declared_of};
-ghost use Rattle.poets_report.specs.Answers.{finding_of};
+ghost use Rattle.poets_report.specs.Answers.{answer_of};
 ghost use Rattle.poets_report.specs.Folds.{IsSingle};
-ghost use Rattle.poets_live.specs.Watching.{AllBrought, AllMoved, Begins, HaveRoom};
-ghost use Rattle.poets_live.specs.Watching.{AllOfThree, HasRoomIn, IsSeen, Moved};
+ghost use Rattle.poets_live.specs.Watching.{AllBrought, AllMoved, Begins, HaveRoom, AllOfThree, HasRoomIn, IsSeen, Moved};
 
 use crate::watch::Watch;
 use poets_expr::{Asks, Decls};
@@ -77,7 +75,7 @@ impl Watches {
     pub fn read(&self, number: u64) -> Result<Answer, Memory>
         requires { (0 < number) × (number ≤ length self.now.watches) }
         ensures answer { IfOk result (λ a.
-            (w : _) → slice_get self.now.watches (number - 1) ≡ Some w → finding_of a ≡ w.answer) }
+            (w : _) → slice_get self.now.watches (number - 1) ≡ Some w → answer_of a ≡ w.answer) }
         ensures single { (w : _) → slice_get self.now.watches (number - 1) ≡ Some w → IsSingle w.answer → IsOk result }
     {
         self.watches[(number - 1) as usize].read()

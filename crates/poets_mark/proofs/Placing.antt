@@ -10,7 +10,7 @@ use Rattle.poets_lex.specs.Lexes.{FirstFault}
 use Rattle.poets_lex.specs.Laws.{Stand}
 use Rattle.poets_lex.proofs.Standing.{standing}
 use Rattle.poets_parse.specs.declared.fault.SyntaxFault.TheVariants as F
-use Rattle.poets_call.specs.Sentences.{Sentence}
+use Rattle.poets_call.specs.Said.{Statement}
 use Rattle.poets_session.specs.declared.form.Form.{Form}
 use Rattle.poets_session.specs.declared.fault.SessionCause.{SessionCause}
 use Rattle.poets_session.specs.declared.fault.SessionCause.TheVariants as C
@@ -119,7 +119,7 @@ unread_no_byte : (piece : Piece) (number : ℕ) (r : Refusal) → IsUnread piece
 unread_no_byte piece number r (IsUnread.IsDeep h) = refl
 unread_no_byte piece number r (IsUnread.IsNoSentence h n) = refl
 
-refused_no_byte : (form : Form) (statements : List Sentence) (r : Refusal) → AreRefused form statements r → byte_in r ≡ None
+refused_no_byte : (form : Form) (statements : List Statement) (r : Refusal) → AreRefused form statements r → byte_in r ≡ None
 refused_no_byte form statements r (AreRefused.OutOfPlace h) = refl
 refused_no_byte form statements r (AreRefused.NotTyped h i) = refl
 refused_no_byte form statements r (AreRefused.NotGuarded h i j k) = refl

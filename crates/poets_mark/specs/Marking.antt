@@ -1,6 +1,6 @@
 -- Where the first fault of a text stands.
 use Rattle.std.specs.Prelude.{◌≡◌, ℕ, List}
-use Rattle.poets_call.specs.Sentences.{Sentence}
+use Rattle.poets_call.specs.Said.{Statement}
 use Rattle.poets_lex.specs.Table.{Table}
 use Rattle.poets_session.specs.Causes.{IsFirstFault}
 use Rattle.poets_session.specs.Sessions.{Text, IsSession}
@@ -13,7 +13,7 @@ use Rattle.poets_mark.specs.declared.spots.Spot.{Spot}
 
 -- the text is a session of the form
 abbrev pub IsSomeSession : Text → Form → Type 0
-IsSomeSession text form = (names : Table) × (statements : List Sentence) × IsSession text form names statements
+IsSomeSession text form = (names : Table) × (statements : List Statement) × IsSession text form names statements
 
 -- the spot where the first fault of the text stands
 abbrev pub IsFaultSpot : Text → Form → Spot → Type 0

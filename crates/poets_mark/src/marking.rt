@@ -1,7 +1,8 @@
 //! A fault's line with a mark below it.
 ghost use Rattle.std.specs.Prelude.{◌≡◌, ◌≤◌, ◌++◌, length, map, replicate, IfOk, IfSome, IfNone, OnOk, string_bytes};
 ghost use Rattle.poets_mark.specs.Marking.{IsFaultSpot, IsMarkOf, IsSomeSession};
-ghost use Rattle.poets_mark.specs.Lines.{shown as shown_lem, place_line as place_line_lem, text_line, mark_line};
+ghost use Rattle.poets_mark.specs.Lines.{text_line, mark_line};
+ghost use Rattle.poets_mark.specs.Lines as spec;
 
 use crate::places::place_of;
 use crate::spots::{Spot, spot_at};
@@ -34,7 +35,7 @@ fn fault_spot(alloc: Global, text: &[u8], form: Form) -> Result<Option<Spot>, Me
 
 // A byte as it is shown: a tab or CR as a space, and one that is no sign of ASCII that prints as `?`.
 fn shown(byte: u8) -> char
-    ensures { result ≡ shown_lem byte }
+    ensures { result ≡ spec.shown byte }
 {
     match byte {
         b' '..=b'~' => byte as char,
@@ -45,7 +46,7 @@ fn shown(byte: u8) -> char
 
 // Adds the bytes as they are shown.
 fn add_shown(lines: &mut String, bytes: &[u8]) -> Result<(), Memory>
-    ensures { OnOk result (string_bytes lines.new ≡ string_bytes lines.old ++ map shown_lem bytes.now) }
+    ensures { OnOk result (string_bytes lines.new ≡ string_bytes lines.old ++ map spec.shown bytes.now) }
 {
     for byte in bytes {
         lines.push(shown(*byte))?;
@@ -79,7 +80,7 @@ fn add_line(lines: &mut String, text: &[u8], spot: &Spot) -> Result<(), Memory>
 
 // The line that tells the place.
 fn place_line(alloc: Global, spot: &Spot) -> Result<String, Memory>
-    ensures { IfOk result (λ line. string_bytes line ≡ place_line_lem spot.now) }
+    ensures { IfOk result (λ line. string_bytes line ≡ spec.place_line spot.now) }
 {
     Ok(format!(in alloc; "line {}, column {}\n", spot.line, spot.column)?)
 }

@@ -1,7 +1,8 @@
 //! The places of faults.
 ghost use Rattle.std.specs.Prelude.{◌≡◌, [], ◌<◌, ◌≤◌, ◌+◌, ◌-◌, length, take, drop, unwrap_or, IfOk, IfSome, IfNone};
-ghost use Rattle.poets_session.specs.Pieces.{is_end as is_end_lem};
-ghost use Rattle.poets_mark.specs.Places.{ahead_of_end as ahead_of_end_lem, after_end as after_end_lem, first_place, statement_tokens, IsBeginOf, IsWithin, IsPlaceOf};
+ghost use Rattle.poets_session.specs.Pieces as pieces;
+ghost use Rattle.poets_mark.specs.Places.{first_place, statement_tokens, IsBeginOf, IsWithin, IsPlaceOf};
+ghost use Rattle.poets_mark.specs.Places as places;
 
 use poets_lex::{LexFault, Names, Sign, Tok, Token, tokens};
 use poets_parse::{SyntaxFault, begun};
@@ -11,7 +12,7 @@ use std::alloc::Global;
 
 // Whether the token ends a statement.
 fn is_end(token: &Token) -> bool
-    ensures { result ≡ is_end_lem token.now.what }
+    ensures { result ≡ pieces.is_end token.now.what }
 {
     match token.what {
         Tok::Sign(Sign::DoubleSemicolon) => true,
@@ -21,9 +22,9 @@ fn is_end(token: &Token) -> bool
 
 // The number of tokens ahead of the first `;;`, if there is one.
 fn end_of(tokens: &[Token]) -> Option<usize>
-    ensures ahead { IfSome result (λ n. (n < length tokens.now) × (ahead_of_end_lem tokens.now ≡ take n tokens.now)) }
-    ensures after { IfSome result (λ n. after_end_lem tokens.now ≡ drop (n + 1) tokens.now) }
-    ensures none { IfNone result ((ahead_of_end_lem tokens.now ≡ tokens.now) × (after_end_lem tokens.now ≡ [])) }
+    ensures ahead { IfSome result (λ n. (n < length tokens.now) × (places.ahead_of_end tokens.now ≡ take n tokens.now)) }
+    ensures after { IfSome result (λ n. places.after_end tokens.now ≡ drop (n + 1) tokens.now) }
+    ensures none { IfNone result ((places.ahead_of_end tokens.now ≡ tokens.now) × (places.after_end tokens.now ≡ [])) }
 {
     for (place, token) in tokens.iter().enumerate() {
         if is_end(token) {
@@ -35,7 +36,7 @@ fn end_of(tokens: &[Token]) -> Option<usize>
 
 // The tokens ahead of the first `;;`.
 fn ahead_of_end(tokens: &[Token]) -> &[Token]
-    ensures ahead { result.now ≡ ahead_of_end_lem tokens.now }
+    ensures ahead { result.now ≡ places.ahead_of_end tokens.now }
     ensures few { length result.now ≤ length tokens.now }
 {
     match end_of(tokens) {
@@ -46,7 +47,7 @@ fn ahead_of_end(tokens: &[Token]) -> &[Token]
 
 // The tokens after the first `;;`.
 fn after_end(tokens: &[Token]) -> &[Token]
-    ensures { result.now ≡ after_end_lem tokens.now }
+    ensures { result.now ≡ places.after_end tokens.now }
 {
     match end_of(tokens) {
         Some(end) => &tokens[end + 1..],

@@ -5,7 +5,7 @@ use Rattle.poets_expr.specs.Env.{Env}
 use Rattle.poets_expr.specs.Expression.{Expression}
 use Rattle.poets_syntax.specs.declared.term.Binders.{Binders}
 use Rattle.poets_syntax.specs.Contract.{Contract, Success, Failure, Transmit, Plus, Par, Seq}
-use Rattle.poets_syntax.specs.Book.{Definitions}
+use Rattle.poets_syntax.specs.Plain.{Book}
 use Rattle.poets_syntax.specs.May.{May}
 use Rattle.poets_syntax.proofs.Inversions.{of_plus}
 use Rattle.poets_syntax.proofs.Lists.{Between-none, Between-swap, Between-all}
@@ -13,7 +13,7 @@ use Rattle.poets_syntax.specs.Normal.{plus, par, seq, send}
 use Rattle.poets_norm.proofs.SomePart as SomePart
 use Rattle.poets_norm.proofs.SomePart.{IsOfSomePart}
 
-module _ {book : Definitions} {env : Env} {s : List Event} {n : ℕ} where
+module _ {book : Book} {env : Env} {s : List Event} {n : ℕ} where
   May-of_some_part : IsOfSomePart (λ c. May book env c s n)
   May-of_some_part = record {
     none = λ m. elim m [ ];
@@ -28,7 +28,7 @@ module _ {book : Definitions} {env : Env} {s : List Event} {n : ℕ} where
   pub plus_out : (a b : Contract) → May book env (plus a b) s n → May book env (Plus a b) s n
   plus_out = SomePart.plus_out (λ c. May book env c s n) May-of_some_part
 
-module _ {book : Definitions} {env : Env} where
+module _ {book : Book} {env : Env} where
   moved : {c : Contract} {s s' : List Event} {n n' : ℕ} → s ≡ s' → n ≡ n' → May book env c s n → May book env c s' n'
   moved {c} {s} {s'} {n} {n'} e q m = subst (λ u. May book env c u n') e (subst (λ k. May book env c s k) q m)
 

@@ -2,7 +2,7 @@
 use Rattle.std.proofs.Common.{sym, ◌∙◌}
 use Rattle.poets_expr.specs.Subst.{Givens}
 use Rattle.poets_syntax.specs.Contract.{Contract, Success, Failure, Transmit, Plus, Par, Seq, App}
-use Rattle.poets_syntax.specs.Book.{Definitions}
+use Rattle.poets_syntax.specs.Plain.{Book}
 use Rattle.poets_syntax.specs.Marks.{Marks}
 use Rattle.poets_syntax.specs.Normal.{params_in, normal}
 use Rattle.poets_syntax.specs.Replace.{without, replace}
@@ -11,7 +11,7 @@ pub use Rattle.poets_syntax.proofs.Exposures.{length-folded}
 use Rattle.poets_norm.specs.Laws.{CountsFit}
 use Rattle.poets_norm.proofs.Parts.{IsOfParts, kept_by_normal}
 
-module _ (book : Definitions) where
+module _ (book : Book) where
   pub CountsFit-of_parts : IsOfParts (CountsFit book)
   CountsFit-of_parts = record {
     failure = tt;
@@ -32,7 +32,7 @@ module _ (book : Definitions) where
   CountsFit-replace given (Seq a b) h = (CountsFit-replace given a h.0, CountsFit-replace given b h.1)
   CountsFit-replace given (App f args) h = λ t q. h t q ∙ sym (args_count given args)
 
-pub CountsFit-normal : (book : Definitions) (marks : Marks) (c : Contract) → CountsFit book c → CountsFit book (normal book marks c)
+pub CountsFit-normal : (book : Book) (marks : Marks) (c : Contract) → CountsFit book c → CountsFit book (normal book marks c)
 CountsFit-normal book marks = kept_by_normal book marks (CountsFit book) (record {
   of_parts = CountsFit-of_parts book;
   below = λ b p c h. h;

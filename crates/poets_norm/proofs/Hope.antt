@@ -7,7 +7,8 @@ use Rattle.poets_expr.specs.Expression.{Expression}
 use Rattle.poets_expr.specs.Val.{val}
 use Rattle.poets_syntax.specs.declared.term.Binders.{Binders}
 use Rattle.poets_syntax.specs.Contract.{Contract, Success, Failure, Transmit, Plus, Par, Seq, App}
-use Rattle.poets_syntax.specs.Book.{Definitions, parameter_env, granted}
+use Rattle.poets_syntax.specs.Plain.{Book}
+use Rattle.poets_syntax.specs.Book.{parameter_env, granted}
 use Rattle.poets_syntax.specs.Between.{Between}
 use Rattle.poets_syntax.specs.May.{May}
 use Rattle.poets_syntax.specs.Marks.{Marks, AreRight, Hopeful}
@@ -19,7 +20,7 @@ use Rattle.poets_norm.proofs.Counts.{length-folded}
 use Rattle.poets_norm.proofs.Parts.{All-distinct, All-choice, FailureOr, FailureOr-alternatives, FailureOr-par, FailureOr-seq, FailureOr-send, IsKeptOrFailure}
 
 -- each part is hopeful
-abbrev pub IsHopefulThroughout : Definitions → Contract → Type 0
+abbrev pub IsHopefulThroughout : Book → Contract → Type 0
 IsHopefulThroughout book Success = Unit {0}
 IsHopefulThroughout book Failure = ⊥
 IsHopefulThroughout book (Transmit b p c) = IsHopefulThroughout book c
@@ -29,10 +30,10 @@ IsHopefulThroughout book (Seq c₁ c₂) = IsHopefulThroughout book c₁ × IsHo
 IsHopefulThroughout book (App f args) = Hopeful book (App f args)
 
 -- what a normal form is
-abbrev pub IsFailureOrHopeful : Definitions → Contract → Type 0
+abbrev pub IsFailureOrHopeful : Book → Contract → Type 0
 IsFailureOrHopeful book c = FailureOr (IsHopefulThroughout book) c
 
-module _ (book : Definitions) where
+module _ (book : Book) where
   -- a contract whose parts are hopeful is
   pub hopeful_by_parts : (c : Contract) → IsHopefulThroughout book c → (env : Env) → (n : ℕ) × May book env c [] n
   hopeful_by_parts Success h env = (0, May.Done)
@@ -71,7 +72,7 @@ module _ (book : Definitions) where
     seq_parts = λ a b h. h;
   }
 
-module _ (book : Definitions) (marks : Marks) (right : AreRight book marks) where
+module _ (book : Book) (marks : Marks) (right : AreRight book marks) where
   -- a hopeful template that is applied to the right number of arguments
   hopeful-app : (f : Name) (args : List Expression) → CountsFit book (App f args) → marks.hopeful f ≡ true →
       Hopeful book (App f (folded book.declared (params_in book f) args))
@@ -100,14 +101,14 @@ module _ (book : Definitions) (marks : Marks) (right : AreRight book marks) wher
   ]
 
 -- such a contract is `Failure` exactly where it is not hopeful
-pub failure_is_hopeless : (book : Definitions) (c : Contract) → c ≡ Failure → Hopeful book c → ⊥
+pub failure_is_hopeless : (book : Book) (c : Contract) → c ≡ Failure → Hopeful book c → ⊥
 failure_is_hopeless book c e h = let m : May book [] Failure [] h.0 = subst (λ d. May book [] d [] h.0) e h.1 in elim m [ ]
 
-pub hopeless_is_failure : (book : Definitions) (c : Contract) → IsFailureOrHopeful book c → (Hopeful book c → ⊥) → c ≡ Failure
+pub hopeless_is_failure : (book : Book) (c : Contract) → IsFailureOrHopeful book c → (Hopeful book c → ⊥) → c ≡ Failure
 hopeless_is_failure book c (inl e) denied = e
 hopeless_is_failure book c (inr h) denied = absurd (denied (hopeful_by_parts book c h []))
 
 -- where it is not, some number of granted steps performs it
-pub hopeful_unless_failure : (book : Definitions) (c : Contract) → IsFailureOrHopeful book c → (c ≡ Failure → ⊥) → Hopeful book c
+pub hopeful_unless_failure : (book : Book) (c : Contract) → IsFailureOrHopeful book c → (c ≡ Failure → ⊥) → Hopeful book c
 hopeful_unless_failure book c (inl e) unless = absurd (unless e)
 hopeful_unless_failure book c (inr h) unless = hopeful_by_parts book c h []

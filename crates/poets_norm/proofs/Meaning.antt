@@ -10,7 +10,8 @@ use Rattle.poets_expr.proofs.FoldClosed.{fold-val}
 use Rattle.poets_syntax.specs.declared.term.Binders.{Binders}
 use Rattle.poets_syntax.specs.declared.term.Param.{Param}
 use Rattle.poets_syntax.specs.Contract.{Contract, Success, Failure, Transmit, Plus, Par, Seq, App}
-use Rattle.poets_syntax.specs.Book.{Definitions, BinderValues, values_of, undefined_values, bound}
+use Rattle.poets_syntax.specs.Plain.{Book}
+use Rattle.poets_syntax.specs.Book.{BinderValues, values_of, undefined_values, bound}
 use Rattle.poets_syntax.specs.May.{May}
 use Rattle.poets_syntax.specs.Replace.{AreUndeclared}
 use Rattle.poets_syntax.proofs.Replacing.{truth, bound-free, declared_free}
@@ -36,16 +37,16 @@ folded_vals declared env k (p ∷ params) (a ∷ args) h =
     ap₂ (λ x xs. x ∷ xs) (fold-val declared env k a p.ty h.0) (folded_vals declared env k params args h.1)
 
 -- an application that is performed is of a hopeful template
-hopeful_here : (book : Definitions) (marks : Marks) → AreRight book marks → {env : Env} {f : Name} {args : List Expression} {s : List Event} {n : ℕ} →
+hopeful_here : (book : Book) (marks : Marks) → AreRight book marks → {env : Env} {f : Name} {args : List Expression} {s : List Event} {n : ℕ} →
     May book env (App f args) s n → marks.hopeful f ≡ true
 hopeful_here book marks right {f = f} {s = s} {n = n} (May.Body {t = t} q l m) =
     (right.hopeful f).1 (t, q, (length s + n, May-anywhere (May-granted m) refl []))
 
 -- what one contract may be performed by, another may, under every environment that keeps the declared names
-abbrev pub Implies : Definitions → Contract → Contract → Type 0
+abbrev pub Implies : Book → Contract → Contract → Type 0
 Implies book c d = (env : Env) → KeepsDeclared book.declared env → (s : List Event) (n : ℕ) → May book env c s n → May book env d s n
 
-module _ {book : Definitions} where
+module _ {book : Book} where
   pub Implies-transmit : (b : Binders) (p : Expression) {c d : Contract} → AreUndeclared book.declared b → Implies book c d → Implies book (Transmit b p c) (Transmit b p d)
   Implies-transmit b p f i env k _ _ (May.Taken {e = e} {s = s} {n = n} q m) =
       May.Taken q (i (bound b (values_of e) env) (Keeps-bound book.declared b (values_of e) env f k) s n m)
@@ -63,7 +64,7 @@ module _ {book : Definitions} where
   Implies-seq i j env k s n (May.Then {s₁ = s₁} {s₂ = s₂} q m₁ m₂) = May.Then q (i env k s₁ 0 m₁) (j env k s₂ n m₂)
   Implies-seq i j env k s n (May.ThenGranted {n₁ = n₁} {n₂ = n₂} q m₁ m₂) = May.ThenGranted q (i env k s n₁ m₁) (j env k [] n₂ m₂)
 
-module _ (book : Definitions) (marks : Marks) (right : AreRight book marks) where
+module _ (book : Book) (marks : Marks) (right : AreRight book marks) where
   app_alike : (env : Env) → KeepsDeclared book.declared env → (f : Name) (args : List Expression) → HaveDeclaredLiterals book.declared args →
       Alike book.declared env (App f (folded book.declared (params_in book f) args)) env (App f args)
   app_alike env k f args h =

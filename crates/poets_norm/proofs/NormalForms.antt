@@ -14,7 +14,7 @@ use Rattle.poets_expr.specs.Fold.{is_folded, fold_closed}
 use Rattle.poets_syntax.specs.declared.term.Binders.{Binders}
 use Rattle.poets_syntax.specs.declared.term.Param.{Param}
 use Rattle.poets_syntax.specs.Contract.{Contract, Success, Failure, Transmit, Plus, Par, Seq, App}
-use Rattle.poets_syntax.specs.Book.{Definitions}
+use Rattle.poets_syntax.specs.Plain.{Book}
 use Rattle.poets_syntax.specs.Marks.{Marks}
 use Rattle.poets_syntax.specs.Normal.{alternatives, plus, par, seq, send, folded, params_in, app, normal}
 use Rattle.poets_syntax.proofs.Replacing.{truth}
@@ -23,7 +23,7 @@ use Rattle.poets_norm.proofs.Alternatives.{alternatives-one, alternatives-distin
 use Rattle.poets_norm.proofs.Parts.{All-distinct, FailureOr, FailureOr-alternatives, FailureOr-par, FailureOr-seq, FailureOr-send, IsKeptOrFailure}
 
 -- what a normal form is, where it is not `Failure`: each part is as its builder would make it
-abbrev pub IsBuilt : Definitions → Marks → Contract → Type 0
+abbrev pub IsBuilt : Book → Marks → Contract → Type 0
 IsBuilt book marks Success = Unit {0}
 IsBuilt book marks Failure = ⊥
 IsBuilt book marks (Transmit b p c) = IsBuilt book marks c
@@ -38,7 +38,7 @@ All-parts P (x ∷ xs) ys h =
     let rest = All-parts P xs ys (All-tail P x (xs ++ ys) h) in
     (All-cons P x xs (All-head P x (xs ++ ys) h) rest.0, rest.1)
 
-module _ (book : Definitions) (marks : Marks) where
+module _ (book : Book) (marks : Marks) where
   built_choice : (c : Contract) → IsGrouped c → All (IsBuilt book marks) (alternatives c) → FailureOr (IsBuilt book marks) c
   built_choice Failure h each = inl refl
   built_choice (Plus c d) h each =
@@ -99,7 +99,7 @@ folded-twice declared [] (a ∷ args) = refl
 folded-twice declared (p ∷ params) [] = refl
 folded-twice declared (p ∷ params) (a ∷ args) = ap₂ (λ x xs. x ∷ xs) (fold_closed-twice declared a p.ty) (folded-twice declared params args)
 
-module _ (book : Definitions) (marks : Marks) where
+module _ (book : Book) (marks : Marks) where
   built-app : (f : Name) (args : List Expression) → FailureOr (IsBuilt book marks) (app book marks f args)
   built-app f args = elim (truth (marks.hopeful f)) [
     | inl e ↦ rw e (inr (rw e (ap (App f) (folded-twice book.declared (params_in book f) args))))

@@ -5,7 +5,7 @@ use Rattle.poets_expr.specs.Expression.{Expression}
 use Rattle.poets_expr.specs.Subst.{Givens}
 use Rattle.poets_syntax.specs.declared.term.Binders.{Binders}
 use Rattle.poets_syntax.specs.Contract.{Contract, Success, Failure, Transmit, Plus, Par, Seq, App}
-use Rattle.poets_syntax.specs.Book.{Definitions}
+use Rattle.poets_syntax.specs.Plain.{Book}
 use Rattle.poets_syntax.specs.Marks.{Marks, AreRight, nullable}
 use Rattle.poets_syntax.specs.Normal.{plus, par, seq, send, normal}
 use Rattle.poets_syntax.specs.Replace.{replace}
@@ -68,7 +68,7 @@ module _ (marks : Marks) where
   nullable-replace given (Seq a b) = ap₂ (λ x y. x && y) (nullable-replace given a) (nullable-replace given b)
   nullable-replace given (App f args) = refl
 
-module _ (book : Definitions) (marks : Marks) (right : AreRight book marks) where
+module _ (book : Book) (marks : Marks) (right : AreRight book marks) where
   -- what is nullable is hopeful
   not_nullable : (f : Name) → marks.hopeful f ≡ false → marks.nullable f ≡ false
   not_nullable f h = elim (truth (marks.nullable f)) [

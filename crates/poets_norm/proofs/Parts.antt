@@ -6,7 +6,7 @@ use Rattle.poets_value.specs.declared.value.Name.{Name}
 use Rattle.poets_expr.specs.Expression.{Expression}
 use Rattle.poets_syntax.specs.declared.term.Binders.{Binders}
 use Rattle.poets_syntax.specs.Contract.{Contract, Success, Failure, Transmit, Plus, Par, Seq, App}
-use Rattle.poets_syntax.specs.Book.{Definitions}
+use Rattle.poets_syntax.specs.Plain.{Book}
 use Rattle.poets_syntax.specs.Marks.{Marks}
 use Rattle.poets_syntax.specs.Normal.{alternatives, plus, par, seq, send, folded, params_in, normal}
 use Rattle.poets_syntax.proofs.Choosing.{plus-keeps}
@@ -63,13 +63,13 @@ module _ (P : Contract → Type 0) (of : IsOfParts P) where
   kept_by_seq a b h k = by_part P (seq_is a b) h k (λ e. of.seq a b h k)
 
 -- and the normal form keeps it, where it looks at binders and predicates one by one and folding arguments keeps it
-pub record IsKept (book : Definitions) (P : Contract → Type 0) : Type 0 where
+pub record IsKept (book : Book) (P : Contract → Type 0) : Type 0 where
   pub of_parts : IsOfParts P
   pub below : (b : Binders) (p : Expression) (c : Contract) → P (Transmit b p c) → P c
   pub before : (b : Binders) (p : Expression) (c d : Contract) → P (Transmit b p c) → P d → P (Transmit b p d)
   pub folded : (f : Name) (args : List Expression) → P (App f args) → P (App f (folded book.declared (params_in book f) args))
 
-module _ (book : Definitions) (marks : Marks) (P : Contract → Type 0) (is : IsKept book P) where
+module _ (book : Book) (marks : Marks) (P : Contract → Type 0) (is : IsKept book P) where
   kept_by_send : (b : Binders) (p : Expression) (c : Contract) → P (Transmit b p c) → (d : Contract) → P d → P (send b p d)
   kept_by_send b p c h Failure k = is.of_parts.failure
   kept_by_send b p c h d k = is.before b p c d h k

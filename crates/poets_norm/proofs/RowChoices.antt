@@ -4,7 +4,7 @@ use Rattle.std.specs.Cmp.{both_ways}
 use Rattle.std.proofs.lemmas.List.{length-map}
 use borrow.Author.Tests.{eqb-true}
 use Rattle.poets_syntax.specs.Contract.{Contract, Failure, Plus}
-use Rattle.poets_syntax.specs.Book.{Definitions}
+use Rattle.poets_syntax.specs.Plain.{Book}
 use Rattle.poets_syntax.specs.Marks.{Marks}
 use Rattle.poets_syntax.specs.Same.{same_contract}
 use Rattle.poets_syntax.specs.Normal.{alternatives, plus, normal}
@@ -113,6 +113,6 @@ pub single_at : (nodes : List Node) (i : ℕ) (n : Node) → contract_at nodes i
 single_at nodes i n here h = here ∙ single (contract_at nodes) n h ∙ ap distinct_choice (sym here)
 
 -- the row of a normal form is a choice of distinct alternatives
-pub normal_distinct : (book : Definitions) (marks : Marks) (nodes : List Node) (p : ℕ) (c : Contract) → Stands nodes p (normal book marks c) →
+pub normal_distinct : (book : Book) (marks : Marks) (nodes : List Node) (p : ℕ) (c : Contract) → Stands nodes p (normal book marks c) →
     IsDistinctChoice (contract_at nodes p)
 normal_distinct book marks nodes p c s = subst IsDistinctChoice (sym s.contract) (normal_is_distinct book marks c)

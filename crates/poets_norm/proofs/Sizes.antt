@@ -10,7 +10,8 @@ use Rattle.poets_expr.specs.Val.{val}
 use Rattle.poets_syntax.specs.declared.term.Binders.{Binders}
 use Rattle.poets_syntax.specs.declared.term.Param.{Param}
 use Rattle.poets_syntax.specs.Contract.{Contract, Success, Failure, Transmit, Plus, Par, Seq, App}
-use Rattle.poets_syntax.specs.Book.{Definitions, template_in}
+use Rattle.poets_syntax.specs.Plain.{Book}
+use Rattle.poets_syntax.specs.Book.{template_in}
 use Rattle.poets_syntax.specs.Marks.{Marks, AreRight, nullable}
 use Rattle.poets_syntax.specs.Normal.{seq, send, folded, params_in, normal}
 use Rattle.poets_syntax.specs.Replace.{without, replace}
@@ -78,7 +79,7 @@ size-send : (b : Binders) (p : Expression) (c : Contract) → size (send b p c) 
 size-send b p Failure = omega arith
 size-send b p _ = omega arith
 
-module _ (book : Definitions) (marks : Marks) where
+module _ (book : Book) (marks : Marks) where
   pub size-normal : (c : Contract) → size (normal book marks c) ≤ size c
   size-normal Success = omega arith
   size-normal Failure = omega arith
@@ -143,7 +144,7 @@ module _ (w : Name → ℕ) (marks : Marks) where
   either_le true l = l
   either_le false l = omega arith
 
-  module _ (book : Definitions) (right : AreRight book marks) where
+  module _ (book : Book) (right : AreRight book marks) where
     pub exposed-normal : (c : Contract) → exposed w marks (normal book marks c) ≤ exposed w marks c
     exposed-normal Success = omega arith
     exposed-normal Failure = omega arith
@@ -158,7 +159,7 @@ module _ (w : Name → ℕ) (marks : Marks) where
     exposed-normal (App f args) = elim (truth (marks.hopeful f)) [ inl e ↦ rw e (omega arith) | inr e ↦ rw e (omega arith) ]
 
 -- widths
-module _ (book : Definitions) (marks : Marks) where
+module _ (book : Book) (marks : Marks) where
   wide_by-replace : (w : Name → ℕ) (given : Givens) (c : Contract) → wide_by w marks (replace given c) ≡ wide_by w marks c
   wide_by-replace w given c =
       omega (arith, wide_by-exposed w marks (replace given c), wide_by-exposed w marks c, size-replace given c, exposed-replace w marks given c)

@@ -9,7 +9,8 @@ use Rattle.poets_syntax.specs.declared.term.Binders.{Binders}
 use Rattle.poets_expr.specs.Expression.{Expression}
 use Rattle.poets_syntax.specs.Applied.{CountsFit}
 use Rattle.poets_syntax.specs.Contract.{Contract, Failure, App}
-use Rattle.poets_syntax.specs.Book.{Definitions, Definition, template_in}
+use Rattle.poets_syntax.specs.Plain.{Book, Template}
+use Rattle.poets_syntax.specs.Book.{template_in}
 use Rattle.poets_syntax.specs.Checked.{IsChecked}
 use Rattle.poets_syntax.specs.Guarded.{Exposes, UnguardedEdge, IsPath, IsGuarded}
 use Rattle.poets_syntax.specs.May.{May}
@@ -25,17 +26,17 @@ name n = record { id = n }
 abbrev binders : Binders
 binders = record { sender = name 3; receiver = name 4; what = name 5; day = name 6 }
 
-abbrev pub example : Definitions
+abbrev pub example : Book
 example = book_of binders (name 0) (name 2) (name 1)
 
-abbrev first : Definition
+abbrev first : Template
 first = record { name = name 0; params = record { name = name 2; ty = T.Int } ∷ []; body = anything binders }
 
-abbrev second : Definition
+abbrev second : Template
 second = record { name = name 1; params = []; body = Failure }
 
 -- what holds of both holds of each template
-each_template : (P : Definition → Type 0) → P first → P second → (f : Name) (t : Definition) → template_in example.templates f ≡ Some t → P t
+each_template : (P : Template → Type 0) → P first → P second → (f : Name) (t : Template) → template_in example.templates f ≡ Some t → P t
 each_template P h k f t q = elim (truth (same_name (name 0) f)) [
   | inl e ↦ subst P (same (rw e at q)) h
   | inr e ↦ elim (truth (same_name (name 1) f)) [
@@ -44,7 +45,7 @@ each_template P h k f t q = elim (truth (same_name (name 0) f)) [
   ]
 ]
   where
-    same : {t u : Definition} → Some t ≡ Some u → t ≡ u
+    same : {t u : Template} → Some t ≡ Some u → t ≡ u
     same e = cc
 
 no_edge : (f h : Name) → UnguardedEdge example f h → ⊥

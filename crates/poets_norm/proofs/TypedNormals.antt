@@ -7,7 +7,8 @@ use Rattle.poets_expr.specs.Fold.{fold_closed}
 use Rattle.poets_syntax.specs.declared.term.Binders.{Binders}
 use Rattle.poets_syntax.specs.declared.term.Param.{Param}
 use Rattle.poets_syntax.specs.Contract.{Contract, Success, Failure, Transmit, Plus, Par, Seq, App}
-use Rattle.poets_syntax.specs.Book.{Definitions, Definition, template_in}
+use Rattle.poets_syntax.specs.Plain.{Book, Template}
+use Rattle.poets_syntax.specs.Book.{template_in}
 use Rattle.poets_syntax.specs.Marks.{Marks}
 use Rattle.poets_syntax.specs.Normal.{send, folded, params_in, normal}
 use Rattle.poets_syntax.specs.TypeOf.{Passes, Scope}
@@ -33,10 +34,10 @@ check_args-folded declared s k (p ∷ params) (a ∷ args) h =
     let here = HasType-fold_closed declared s k a p.ty (HasType-checked declared s p.ty a both.1) in
     rw (check_type-typed declared s p.ty (fold_closed declared a p.ty) here) (check_args-folded declared s k params args both.2)
 
-params_in-known : (book : Definitions) (f : Name) (t : Definition) → template_in book.templates f ≡ Some t → params_in book f ≡ t.params
+params_in-known : (book : Book) (f : Name) (t : Template) → template_in book.templates f ≡ Some t → params_in book f ≡ t.params
 params_in-known book f t i = rw i refl
 
-module _ (book : Definitions) (reports : List Name) where
+module _ (book : Book) (reports : List Name) where
   pub IsTyped-of_parts : (scope : Scope) → IsOfParts (IsTyped book reports scope)
   IsTyped-of_parts s = record {
     failure = refl;

@@ -8,7 +8,7 @@ use Rattle.poets_expr.specs.Fold.{HasDeclaredLiterals, fold_closed, is_closed, i
 use Rattle.poets_expr.proofs.FoldClosed.{known-val}
 use Rattle.poets_syntax.specs.declared.term.Param.{Param}
 use Rattle.poets_syntax.specs.Contract.{Contract}
-use Rattle.poets_syntax.specs.Book.{Definitions}
+use Rattle.poets_syntax.specs.Plain.{Book}
 use Rattle.poets_syntax.specs.Marks.{Marks}
 use Rattle.poets_syntax.specs.Normal.{folded, params_in, normal}
 use Rattle.poets_syntax.specs.WellFormed.{HaveDeclaredLiterals, IsWellFormed}
@@ -42,7 +42,7 @@ module _ (declared : Declared) where
   HaveDeclaredLiterals-folded (p ∷ params) (a ∷ args) h =
       (HasDeclaredLiterals-fold_closed a p.ty h.0, HaveDeclaredLiterals-folded params args h.1)
 
-pub IsWellFormed-normal : (book : Definitions) (marks : Marks) (c : Contract) → IsWellFormed book.declared c →
+pub IsWellFormed-normal : (book : Book) (marks : Marks) (c : Contract) → IsWellFormed book.declared c →
     IsWellFormed book.declared (normal book marks c)
 IsWellFormed-normal book marks = kept_by_normal book marks (IsWellFormed book.declared) (record {
   of_parts = IsWellFormed-of_parts book.declared;

@@ -9,7 +9,7 @@ use Rattle.poets_expr.specs.Whole.{IsWholeExpression}
 use Rattle.poets_expr.proofs.WholeResults.{IsWhole-fold_closed}
 use Rattle.poets_syntax.specs.declared.term.Param.{Param}
 use Rattle.poets_syntax.specs.Contract.{Contract}
-use Rattle.poets_syntax.specs.Book.{Definitions}
+use Rattle.poets_syntax.specs.Plain.{Book}
 use Rattle.poets_syntax.specs.Whole.{IsWholeContract}
 use Rattle.poets_syntax.specs.Marks.{Marks}
 use Rattle.poets_syntax.specs.Normal.{folded, params_in, normal}
@@ -36,7 +36,7 @@ IsWhole-folded declared (p ∷ params) (a ∷ args) h =
     (IsWhole-fold_closed declared a p.ty (All-head IsWholeExpression a args h))
     (IsWhole-folded declared params args (All-tail IsWholeExpression a args h))
 
-pub IsWhole-normal : (book : Definitions) (marks : Marks) (c : Contract) → IsWholeContract c → IsWholeContract (normal book marks c)
+pub IsWhole-normal : (book : Book) (marks : Marks) (c : Contract) → IsWholeContract c → IsWholeContract (normal book marks c)
 IsWhole-normal book marks = kept_by_normal book marks IsWholeContract (record {
   of_parts = IsWhole-of_parts;
   below = λ b p c h. h.1;

@@ -7,7 +7,7 @@ use Rattle.poets_expr.specs.Expression.{Literal}
 use Rattle.poets_syntax.specs.declared.term.Binders.{Binders}
 use Rattle.poets_syntax.specs.declared.studied.Mark.{Mark}
 use Rattle.poets_syntax.specs.Contract.{Contract, Success, Failure, Transmit}
-use Rattle.poets_syntax.specs.Book.{Definitions}
+use Rattle.poets_syntax.specs.Plain.{Book}
 
 -- transmit(a, b, r, t | true). Success
 abbrev pub anything : Binders → Contract
@@ -15,7 +15,7 @@ anything b = Transmit b (Literal (V.Bool true)) Success
 
 -- template f(n : Int) = transmit(a, b, r, t | true). Success;;
 -- template g() = Failure;;
-abbrev pub book_of : Binders → (f n g : Name) → Definitions
+abbrev pub book_of : Binders → (f n g : Name) → Book
 book_of b f n g = record {
   declared = λ _. None;
   templates = record { name = f; params = record { name = n; ty = T.Int } ∷ []; body = anything b } ∷ record { name = g; params = []; body = Failure } ∷ [];

@@ -5,7 +5,7 @@ use Rattle.poets_value.specs.declared.value.Name.{Name}
 use Rattle.poets_expr.specs.Env.{Declared, Env}
 use Rattle.poets_expr.specs.Fold.{KeepsDeclared}
 use Rattle.poets_syntax.specs.Contract.{Contract, Failure}
-use Rattle.poets_syntax.specs.Book.{Definitions}
+use Rattle.poets_syntax.specs.Plain.{Book}
 use Rattle.poets_syntax.specs.Whole.{IsWholeContract}
 pub use Rattle.poets_syntax.specs.Applied.{CountsFit}
 use Rattle.poets_syntax.specs.May.{May}
@@ -15,43 +15,43 @@ use Rattle.poets_syntax.specs.WellFormed.{IsWellFormed, AreWellFormed}
 use Rattle.poets_syntax.specs.TypeOf.{Scope}
 use Rattle.poets_syntax.specs.Typed.{IsTyped}
 use Rattle.poets_syntax.specs.OfType.{IsUndeclaredScope}
-use Rattle.poets_syntax.specs.Plain.{plain, no_marks}
+use Rattle.poets_syntax.specs.NoTemplates.{without_templates, no_marks}
 
 -- the normal form is performed as the contract is, where declared names stand for themselves
 abbrev pub NormalAlike : Type 0
-NormalAlike = (book : Definitions) (marks : Marks) (env : Env) (c : Contract) (s : List Event) (n : ℕ) →
+NormalAlike = (book : Book) (marks : Marks) (env : Env) (c : Contract) (s : List Event) (n : ℕ) →
     AreRight book marks → KeepsDeclared book.declared env → IsWellFormed book.declared c →
     May book env (normal book marks c) s n ↔ May book env c s n
 
 -- the normal form is `Failure` exactly where no number of granted steps performs the contract
 abbrev pub NormalHopeless : Type 0
-NormalHopeless = (book : Definitions) (marks : Marks) (c : Contract) →
+NormalHopeless = (book : Book) (marks : Marks) (c : Contract) →
     AreRight book marks → IsWellFormed book.declared c → CountsFit book c →
     (normal book marks c ≡ Failure) ↔ ¬ (Hopeful book c)
 
 -- the normal form of a normal form is itself
 abbrev pub NormalTwice : Type 0
-NormalTwice = (book : Definitions) (marks : Marks) (c : Contract) → normal book marks (normal book marks c) ≡ normal book marks c
+NormalTwice = (book : Book) (marks : Marks) (c : Contract) → normal book marks (normal book marks c) ≡ normal book marks c
 
 -- the normal form of a whole contract is whole
 abbrev pub NormalWhole : Type 0
-NormalWhole = (book : Definitions) (marks : Marks) (c : Contract) → IsWholeContract c → IsWholeContract (normal book marks c)
+NormalWhole = (book : Book) (marks : Marks) (c : Contract) → IsWholeContract c → IsWholeContract (normal book marks c)
 
 -- the normal form of a well-formed contract is well-formed
 abbrev pub NormalWellFormed : Type 0
-NormalWellFormed = (book : Definitions) (marks : Marks) (c : Contract) → IsWellFormed book.declared c →
+NormalWellFormed = (book : Book) (marks : Marks) (c : Contract) → IsWellFormed book.declared c →
     IsWellFormed book.declared (normal book marks c)
 
 -- where the numbers of arguments fit in a contract, they fit in its normal form
 abbrev pub NormalCountsFit : Type 0
-NormalCountsFit = (book : Definitions) (marks : Marks) (c : Contract) → CountsFit book c → CountsFit book (normal book marks c)
+NormalCountsFit = (book : Book) (marks : Marks) (c : Contract) → CountsFit book c → CountsFit book (normal book marks c)
 
 -- the normal form of a typed contract is typed in the same scope, whatever the book and the marks are
 abbrev pub NormalTyped : Type 0
-NormalTyped = (book : Definitions) (reports : List Name) (marks : Marks) (scope : Scope) (c : Contract) →
+NormalTyped = (book : Book) (reports : List Name) (marks : Marks) (scope : Scope) (c : Contract) →
     IsUndeclaredScope book.declared scope → IsTyped book reports scope c → IsTyped book reports scope (normal book marks c)
 
 -- in a book without templates the marks that say no are right, and so is each count
 abbrev pub PlainBooks : Type 0
-PlainBooks = (declared : Declared) → AreRight (plain declared) no_marks × AreWellFormed (plain declared)
-    × ((c : Contract) → CountsFit (plain declared) c)
+PlainBooks = (declared : Declared) → AreRight (without_templates declared) no_marks × AreWellFormed (without_templates declared)
+    × ((c : Contract) → CountsFit (without_templates declared) c)

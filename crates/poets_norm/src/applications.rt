@@ -3,10 +3,10 @@ ghost use Rattle.std.specs.Prelude.{◌≡◌, ◌+◌, ◌≤◌, IfOk, map, op
 ghost use Rattle.std.specs.Option.{option_map_or};
 ghost use Rattle.poets_expr.specs.Env.{declared_of};
 ghost use Rattle.poets_expr.specs.Expression.{expression_of};
-ghost use Rattle.poets_expr.specs.Fold.{fold_closed as fold_closed_lem};
-ghost use Rattle.poets_syntax.specs.Book.{definitions_of};
+ghost use Rattle.poets_expr.specs.Fold as fold;
+ghost use Rattle.poets_syntax.specs.Book.{book_of};
 ghost use Rattle.poets_syntax.specs.Contract.{contract_of};
-ghost use Rattle.poets_syntax.specs.Normal.{folded as folded_lem, app as app_lem};
+ghost use Rattle.poets_syntax.specs.Normal as normal;
 ghost use Rattle.poets_syntax.specs.Studied.{marks_of};
 ghost use Rattle.poets_norm.specs.Applications.{applied};
 ghost use Rattle.poets_norm.specs.Questions.{operated, questions};
@@ -24,7 +24,7 @@ fn folded_arg<L>(
     arg: &Expr,
     asks: &mut Asks<L>,
 ) -> Result<Expr, Memory>
-    ensures value { IfOk result (λ r. expression_of r ≡ option_map_or (λ p. fold_closed_lem (declared_of decls.now.names) (expression_of arg.now) p.now.ty) param.entry (expression_of arg.now)) }
+    ensures value { IfOk result (λ r. expression_of r ≡ option_map_or (λ p. fold.fold_closed (declared_of decls.now.names) (expression_of arg.now) p.now.ty) param.entry (expression_of arg.now)) }
     ensures rises { asks.old ≤ asks.new }
     ensures asks { asks.new ≤ asks.old + operated (expression_of arg.now) }
     ensures questions { IfOk result (λ r. asks.new + operated (expression_of r) ≤ asks.old + operated (expression_of arg.now)) }
@@ -44,7 +44,7 @@ fn folded<L>(
     args: &[Expr],
     asks: &mut Asks<L>,
 ) -> Result<List<Expr>, Memory>
-    ensures value { IfOk result (λ r. map expression_of r.items ≡ folded_lem (declared_of decls.now.names) params.now (map expression_of args.now)) }
+    ensures value { IfOk result (λ r. map expression_of r.items ≡ normal.folded (declared_of decls.now.names) params.now (map expression_of args.now)) }
     ensures rises { asks.old ≤ asks.new }
     ensures asks { asks.new ≤ asks.old + sum_by operated (map expression_of args.now) }
     ensures questions { IfOk result (λ r. asks.new + sum_by operated (map expression_of r.items) ≤ asks.old + sum_by operated (map expression_of args.now)) }
@@ -66,7 +66,7 @@ pub(crate) fn kept_args<L>(
     args: &[Expr],
     asks: &mut Asks<L>,
 ) -> Result<Option<List<Expr>>, Memory>
-    ensures app { IfOk result (λ kept. applied name (option_map (λ r. map expression_of r.items) kept) ≡ app_lem (definitions_of studied.now.book) (marks_of studied.now) name (map expression_of args.now)) }
+    ensures app { IfOk result (λ kept. applied name (option_map (λ r. map expression_of r.items) kept) ≡ normal.app (book_of studied.now.book) (marks_of studied.now) name (map expression_of args.now)) }
     ensures rises { asks.old ≤ asks.new }
     ensures asks { asks.new ≤ asks.old + sum_by operated (map expression_of args.now) }
     ensures questions { IfOk result (λ kept. asks.new + questions (applied name (option_map (λ r. map expression_of r.items) kept)) ≤ asks.old + sum_by operated (map expression_of args.now)) }
@@ -90,7 +90,7 @@ pub fn app<L>(
     args: &[Expr],
     asks: &mut Asks<L>,
 ) -> Result<Term, Memory>
-    ensures app { IfOk result (λ r. contract_of r ≡ app_lem (definitions_of studied.now.book) (marks_of studied.now) name (map expression_of args.now)) }
+    ensures app { IfOk result (λ r. contract_of r ≡ normal.app (book_of studied.now.book) (marks_of studied.now) name (map expression_of args.now)) }
     ensures rises { asks.old ≤ asks.new }
     ensures asks { asks.new ≤ asks.old + sum_by operated (map expression_of args.now) }
     ensures questions { IfOk result (λ r. asks.new + questions (contract_of r) ≤ asks.old + sum_by operated (map expression_of args.now)) }

@@ -1,8 +1,10 @@
 //! Choices of distinct alternatives.
 ghost use Rattle.std.specs.Prelude.{◌≡◌, IfOk, if◌then◌else◌};
 ghost use Rattle.poets_syntax.specs.Contract.{contract_of, Plus};
-ghost use Rattle.poets_syntax.specs.Normal.{alternatives, plus as plus_lem};
-ghost use Rattle.poets_norm.specs.Choices.{distinct_choice as distinct_choice_lem, holds_equal, IsDistinctChoice};
+ghost use Rattle.poets_syntax.specs.Normal.{alternatives};
+ghost use Rattle.poets_syntax.specs.Normal as normal;
+ghost use Rattle.poets_norm.specs.Choices.{holds_equal, IsDistinctChoice};
+ghost use Rattle.poets_norm.specs.Choices as choices;
 
 use poets_syntax::{Term, build, same};
 use poets_value::Memory;
@@ -34,7 +36,7 @@ fn add(alloc: Global, choice: Term, last: Term, is_known: bool) -> Result<Term, 
 pub fn merge(alloc: Global, a: Term, b: Term) -> Result<Term, Memory>
     requires first { IsDistinctChoice (contract_of a) }
     requires second { IsDistinctChoice (contract_of b) }
-    ensures { IfOk result (λ r. contract_of r ≡ plus_lem (contract_of a) (contract_of b)) }
+    ensures { IfOk result (λ r. contract_of r ≡ normal.plus (contract_of a) (contract_of b)) }
 {
     match (a, b) {
         (Term::Failure, b) => Ok(b),
@@ -53,7 +55,7 @@ pub fn merge(alloc: Global, a: Term, b: Term) -> Result<Term, Memory>
 
 /// The choice of the distinct alternatives of a contract.
 pub fn distinct_choice(alloc: Global, term: Term) -> Result<Term, Memory>
-    ensures choice { IfOk result (λ r. contract_of r ≡ distinct_choice_lem (contract_of term)) }
+    ensures choice { IfOk result (λ r. contract_of r ≡ choices.distinct_choice (contract_of term)) }
     ensures distinct { IfOk result (λ r. IsDistinctChoice (contract_of r)) }
 {
     match term {
@@ -68,7 +70,7 @@ pub fn distinct_choice(alloc: Global, term: Term) -> Result<Term, Memory>
 
 /// The choice of two contracts: the alternatives of both from the left, of equal ones the first.
 pub fn plus(alloc: Global, a: Term, b: Term) -> Result<Term, Memory>
-    ensures { IfOk result (λ r. contract_of r ≡ plus_lem (contract_of a) (contract_of b)) }
+    ensures { IfOk result (λ r. contract_of r ≡ normal.plus (contract_of a) (contract_of b)) }
 {
     let both = build::plus(alloc, a, b)?;
     distinct_choice(alloc, both)

@@ -1,8 +1,10 @@
 //! The builders of normal forms in tables of rows. Alternatives are compared by the numbers of their rows.
 ghost use Rattle.std.specs.Prelude.{◌≡◌, ◌<◌, IfOk, IsTrue, length, if◌then◌else◌};
 ghost use Rattle.poets_syntax.specs.Contract.{Failure, Plus};
-ghost use Rattle.poets_syntax.specs.Normal.{alternatives, plus as plus_lem, par as par_lem, seq as seq_lem};
-ghost use Rattle.poets_norm.specs.Choices.{distinct_choice as distinct_choice_lem, holds_equal, IsDistinctChoice};
+ghost use Rattle.poets_syntax.specs.Normal.{alternatives};
+ghost use Rattle.poets_syntax.specs.Normal as normal;
+ghost use Rattle.poets_norm.specs.Choices.{holds_equal, IsDistinctChoice};
+ghost use Rattle.poets_norm.specs.Choices as choices;
 ghost use Rattle.poets_cons.specs.Table.{contract_at, Stands, Extends};
 
 use poets_cons::{Arena, Node};
@@ -21,7 +23,7 @@ pub fn par(arena: &mut Arena, a: usize, b: usize) -> Result<usize, Memory>
     requires first { a < length arena.old }
     requires second { b < length arena.old }
     ensures grows { Extends arena.old arena.new }
-    ensures stands { IfOk result (λ p. Stands arena.new p (par_lem (contract_at arena.old a) (contract_at arena.old b))) }
+    ensures stands { IfOk result (λ p. Stands arena.new p (normal.par (contract_at arena.old a) (contract_at arena.old b))) }
 {
     match (arena.node(a), arena.node(b)) {
         (Node::Failure, _) => Ok(a),
@@ -37,7 +39,7 @@ pub fn seq(arena: &mut Arena, a: usize, b: usize) -> Result<usize, Memory>
     requires first { a < length arena.old }
     requires second { b < length arena.old }
     ensures grows { Extends arena.old arena.new }
-    ensures stands { IfOk result (λ p. Stands arena.new p (seq_lem (contract_at arena.old a) (contract_at arena.old b))) }
+    ensures stands { IfOk result (λ p. Stands arena.new p (normal.seq (contract_at arena.old a) (contract_at arena.old b))) }
 {
     match (arena.node(a), arena.node(b)) {
         (Node::Failure, _) => Ok(a),
@@ -87,7 +89,7 @@ pub fn merge(arena: &mut Arena, a: usize, b: usize) -> Result<usize, Memory>
     requires first { IsDistinctChoice (contract_at arena.old a) }
     requires second { IsDistinctChoice (contract_at arena.old b) }
     ensures grows { Extends arena.old arena.new }
-    ensures stands { IfOk result (λ p. Stands arena.new p (plus_lem (contract_at arena.old a) (contract_at arena.old b))) }
+    ensures stands { IfOk result (λ p. Stands arena.new p (normal.plus (contract_at arena.old a) (contract_at arena.old b))) }
 {
     match (arena.node(a), arena.node(b)) {
         (Node::Failure, _) => Ok(b),
@@ -110,7 +112,7 @@ pub fn merge(arena: &mut Arena, a: usize, b: usize) -> Result<usize, Memory>
 pub fn distinct_choice(arena: &mut Arena, place: usize) -> Result<usize, Memory>
     requires { place < length arena.old }
     ensures grows { Extends arena.old arena.new }
-    ensures stands { IfOk result (λ p. Stands arena.new p (distinct_choice_lem (contract_at arena.old place))) }
+    ensures stands { IfOk result (λ p. Stands arena.new p (choices.distinct_choice (contract_at arena.old place))) }
 {
     match arena.node(place) {
         Node::Plus(a, b) => {
@@ -129,7 +131,7 @@ fn as_choice(arena: &mut Arena, place: usize, is_known: bool) -> Result<usize, M
     requires within { place < length arena.old }
     requires known { IsTrue is_known → IsDistinctChoice (contract_at arena.old place) }
     ensures grows { Extends arena.old arena.new }
-    ensures stands { IfOk result (λ p. Stands arena.new p (distinct_choice_lem (contract_at arena.old place))) }
+    ensures stands { IfOk result (λ p. Stands arena.new p (choices.distinct_choice (contract_at arena.old place))) }
 {
     if is_known {
         return Ok(place);
@@ -150,7 +152,7 @@ pub fn either(
     requires first { IsTrue is_a_known → IsDistinctChoice (contract_at arena.old a) }
     requires second { IsTrue is_b_known → IsDistinctChoice (contract_at arena.old b) }
     ensures grows { Extends arena.old arena.new }
-    ensures stands { IfOk result (λ p. Stands arena.new p (plus_lem (contract_at arena.old a) (contract_at arena.old b))) }
+    ensures stands { IfOk result (λ p. Stands arena.new p (normal.plus (contract_at arena.old a) (contract_at arena.old b))) }
 {
     let first = as_choice(arena, a, is_a_known)?;
     let second = as_choice(arena, b, is_b_known)?;

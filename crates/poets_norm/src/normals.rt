@@ -2,9 +2,9 @@
 ghost use Rattle.std.specs.Prelude.{◌≡◌, ◌+◌, ◌≤◌, IfOk};
 ghost use Rattle.poets_expr.specs.Expression.{expression_of};
 ghost use Rattle.poets_syntax.specs.Arguments.{arguments};
-ghost use Rattle.poets_syntax.specs.Book.{definitions_of};
+ghost use Rattle.poets_syntax.specs.Book.{book_of};
 ghost use Rattle.poets_syntax.specs.Contract.{contract_of};
-ghost use Rattle.poets_syntax.specs.Normal.{par as par_lem, seq as seq_lem, send as send_lem, normal as normal_lem};
+ghost use Rattle.poets_syntax.specs.Normal as spec;
 ghost use Rattle.poets_syntax.specs.Studied.{marks_of};
 ghost use Rattle.poets_syntax.specs.Width.{size};
 ghost use Rattle.poets_norm.specs.Questions.{questions};
@@ -18,7 +18,7 @@ use std::alloc::Global;
 
 /// Both contracts side by side: `Failure` where one is, and the other where one is `Success`.
 pub fn par(alloc: Global, a: Term, b: Term) -> Result<Term, Memory>
-    ensures { IfOk result (λ r. contract_of r ≡ par_lem (contract_of a) (contract_of b)) }
+    ensures { IfOk result (λ r. contract_of r ≡ spec.par (contract_of a) (contract_of b)) }
 {
     match (a, b) {
         (Term::Failure, _) | (_, Term::Failure) => Ok(Term::Failure),
@@ -30,7 +30,7 @@ pub fn par(alloc: Global, a: Term, b: Term) -> Result<Term, Memory>
 
 /// One contract and then the other: `Failure` where one is, and the other where one is `Success`.
 pub fn seq(alloc: Global, a: Term, b: Term) -> Result<Term, Memory>
-    ensures { IfOk result (λ r. contract_of r ≡ seq_lem (contract_of a) (contract_of b)) }
+    ensures { IfOk result (λ r. contract_of r ≡ spec.seq (contract_of a) (contract_of b)) }
 {
     match (a, b) {
         (Term::Failure, _) | (_, Term::Failure) => Ok(Term::Failure),
@@ -42,7 +42,7 @@ pub fn seq(alloc: Global, a: Term, b: Term) -> Result<Term, Memory>
 
 /// A transmission before a contract: `Failure` where that is.
 pub fn send(alloc: Global, binders: Binders, when: Expr, then: Term) -> Result<Term, Memory>
-    ensures { IfOk result (λ r. contract_of r ≡ send_lem binders (expression_of when) (contract_of then)) }
+    ensures { IfOk result (λ r. contract_of r ≡ spec.send binders (expression_of when) (contract_of then)) }
 {
     if matches!(&then, Term::Failure) {
         return Ok(Term::Failure);
@@ -57,7 +57,7 @@ pub fn normal<L>(
     term: &Term,
     asks: &mut Asks<L>,
 ) -> Result<Term, Memory>
-    ensures normal { IfOk result (λ r. contract_of r ≡ normal_lem (definitions_of studied.now.book) (marks_of studied.now) (contract_of term.now)) }
+    ensures normal { IfOk result (λ r. contract_of r ≡ spec.normal (book_of studied.now.book) (marks_of studied.now) (contract_of term.now)) }
     ensures rises { asks.old ≤ asks.new }
     ensures asks { asks.new ≤ asks.old + questions (contract_of term.now) }
     ensures questions { IfOk result (λ r. asks.new + questions (contract_of r) ≤ asks.old + questions (contract_of term.now)) }

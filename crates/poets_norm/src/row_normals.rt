@@ -2,12 +2,12 @@
 ghost use Rattle.std.specs.Prelude.{◌≡◌, ◌+◌, ◌≤◌, ◌<◌, IfOk, OnOk, length, map, option_map};
 ghost use Rattle.poets_expr.specs.Expression.{expression_of};
 ghost use Rattle.poets_syntax.specs.Arguments.{arguments};
-ghost use Rattle.poets_syntax.specs.Book.{definitions_of};
+ghost use Rattle.poets_syntax.specs.Book.{book_of};
 ghost use Rattle.poets_syntax.specs.Contract.{contract_of};
-ghost use Rattle.poets_syntax.specs.Normal.{normal as normal_lem, send as send_lem};
+ghost use Rattle.poets_syntax.specs.Normal as spec;
 ghost use Rattle.poets_syntax.specs.Studied.{marks_of};
 ghost use Rattle.poets_syntax.specs.Width.{size};
-ghost use Rattle.poets_norm.specs.Applications.{applied as applied_lem};
+ghost use Rattle.poets_norm.specs.Applications as spec_of_applications;
 ghost use Rattle.poets_norm.specs.Questions.{questions};
 ghost use Rattle.poets_cons.specs.Table.{contract_at, contract_of_rows, Stands, Extends};
 
@@ -27,7 +27,7 @@ pub fn normal_rows<L>(
     term: &Term,
     asks: &mut Asks<L>,
 ) -> Result<Rows, Memory>
-    ensures normal { IfOk result (λ r. contract_of_rows r ≡ normal_lem (definitions_of studied.now.book) (marks_of studied.now) (contract_of term.now)) }
+    ensures normal { IfOk result (λ r. contract_of_rows r ≡ spec.normal (book_of studied.now.book) (marks_of studied.now) (contract_of term.now)) }
     ensures rises { asks.old ≤ asks.new }
     ensures asks { asks.new ≤ asks.old + questions (contract_of term.now) }
     ensures size { asks.new ≤ asks.old + size (contract_of term.now) }
@@ -50,10 +50,10 @@ pub fn enter_normal<L>(
     asks: &mut Asks<L>,
 ) -> Result<usize, Memory>
     ensures grows { Extends arena.old arena.new }
-    ensures normal { IfOk result (λ p. Stands arena.new p (normal_lem (definitions_of studied.now.book) (marks_of studied.now) (contract_of term))) }
+    ensures normal { IfOk result (λ p. Stands arena.new p (spec.normal (book_of studied.now.book) (marks_of studied.now) (contract_of term))) }
     ensures rises { asks.old ≤ asks.new }
     ensures asks { asks.new ≤ asks.old + questions (contract_of term) }
-    ensures questions { OnOk result (asks.new + questions (normal_lem (definitions_of studied.now.book) (marks_of studied.now) (contract_of term)) ≤ asks.old + questions (contract_of term)) }
+    ensures questions { OnOk result (asks.new + questions (spec.normal (book_of studied.now.book) (marks_of studied.now) (contract_of term)) ≤ asks.old + questions (contract_of term)) }
     ensures size { asks.new ≤ asks.old + size (contract_of term) }
     ensures arguments { asks.new ≤ asks.old + arguments (contract_of term) }
 {
@@ -95,7 +95,7 @@ fn applied(
     args: Option<List<Expr>>,
 ) -> Result<usize, Memory>
     ensures grows { Extends arena.old arena.new }
-    ensures stands { IfOk result (λ p. Stands arena.new p (applied_lem name (option_map (λ r. map expression_of r.items) args))) }
+    ensures stands { IfOk result (λ p. Stands arena.new p (spec_of_applications.applied name (option_map (λ r. map expression_of r.items) args))) }
 {
     let Some(args) = args else {
         return failure(arena);
@@ -114,7 +114,7 @@ fn send(
 ) -> Result<usize, Memory>
     requires { then < length arena.old }
     ensures grows { Extends arena.old arena.new }
-    ensures stands { IfOk result (λ p. Stands arena.new p (send_lem binders (expression_of when) (contract_at arena.old then))) }
+    ensures stands { IfOk result (λ p. Stands arena.new p (spec.send binders (expression_of when) (contract_at arena.old then))) }
 {
     if matches!(arena.node(then), Node::Failure) {
         return Ok(then);
@@ -138,11 +138,11 @@ fn enter_both<L>(
     asks: &mut Asks<L>,
 ) -> Result<(usize, usize), Memory>
     ensures grows { Extends arena.old arena.new }
-    ensures first { IfOk result (λ p. Stands arena.new p.0 (normal_lem (definitions_of studied.now.book) (marks_of studied.now) (contract_of a.value))) }
-    ensures second { IfOk result (λ p. Stands arena.new p.1 (normal_lem (definitions_of studied.now.book) (marks_of studied.now) (contract_of b.value))) }
+    ensures first { IfOk result (λ p. Stands arena.new p.0 (spec.normal (book_of studied.now.book) (marks_of studied.now) (contract_of a.value))) }
+    ensures second { IfOk result (λ p. Stands arena.new p.1 (spec.normal (book_of studied.now.book) (marks_of studied.now) (contract_of b.value))) }
     ensures rises { asks.old ≤ asks.new }
     ensures asks { asks.new ≤ asks.old + questions (contract_of a.value) + questions (contract_of b.value) }
-    ensures questions { OnOk result (asks.new + questions (normal_lem (definitions_of studied.now.book) (marks_of studied.now) (contract_of a.value)) + questions (normal_lem (definitions_of studied.now.book) (marks_of studied.now) (contract_of b.value)) ≤ asks.old + questions (contract_of a.value) + questions (contract_of b.value)) }
+    ensures questions { OnOk result (asks.new + questions (spec.normal (book_of studied.now.book) (marks_of studied.now) (contract_of a.value)) + questions (spec.normal (book_of studied.now.book) (marks_of studied.now) (contract_of b.value)) ≤ asks.old + questions (contract_of a.value) + questions (contract_of b.value)) }
     ensures size { asks.new ≤ asks.old + size (contract_of a.value) + size (contract_of b.value) }
     ensures arguments { asks.new ≤ asks.old + arguments (contract_of a.value) + arguments (contract_of b.value) }
 {

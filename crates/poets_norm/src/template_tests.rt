@@ -2,10 +2,11 @@
 ghost use Rattle.std.specs.Prelude.{◌≡◌, ◌∷◌, [], IfOk};
 ghost use Rattle.poets_expr.specs.Expression.{expression_of};
 ghost use Rattle.poets_syntax.specs.Contract.{contract_of, Success, Transmit, App};
-ghost use Rattle.poets_syntax.specs.Book.{definitions_of};
+ghost use Rattle.poets_syntax.specs.Book.{book_of};
 ghost use Rattle.poets_syntax.specs.Studied.{marks_of};
 ghost use Rattle.poets_syntax.specs.Applied.{CountsFit};
-ghost use Rattle.poets_norm.specs.Examples.{anything as anything_lem, book_of, marks as marks_lem};
+ghost use Rattle.poets_norm.specs.Examples.{book_of};
+ghost use Rattle.poets_norm.specs.Examples as examples;
 
 use crate::{app, normal, normal_rows, wide};
 use poets_cons::to_term;
@@ -34,7 +35,7 @@ const BINDERS: Binders = Binders {
 
 // transmit(a, b, r, t | true). Success
 fn anything(alloc: Global) -> Result<Term, Memory>
-    ensures { IfOk result (λ c. contract_of c ≡ anything_lem BINDERS) }
+    ensures { IfOk result (λ c. contract_of c ≡ examples.anything BINDERS) }
 {
     transmit(alloc, BINDERS, Expr::Bool(true), Term::Success)
 }
@@ -42,7 +43,7 @@ fn anything(alloc: Global) -> Result<Term, Memory>
 // template f(n : Int) = transmit(a, b, r, t | true). Success;;
 // template g() = Failure;;
 fn book(alloc: Global) -> Result<Book, Memory>
-    ensures { IfOk result (λ b. definitions_of b ≡ book_of BINDERS F N G) }
+    ensures { IfOk result (λ b. book_of b ≡ book_of BINDERS F N G) }
 {
     let mut params = List::new(alloc);
     let number = Param {
@@ -70,7 +71,7 @@ fn book(alloc: Global) -> Result<Book, Memory>
 }
 
 fn marks(alloc: Global) -> Result<List<Mark>, Memory>
-    ensures { IfOk result (λ r. r.items ≡ marks_lem) }
+    ensures { IfOk result (λ r. r.items ≡ examples.marks) }
 {
     let first = Mark {
         nullable: false,
@@ -89,7 +90,7 @@ fn marks(alloc: Global) -> Result<List<Mark>, Memory>
 }
 
 fn studied(alloc: Global) -> Result<Studied, Memory>
-    ensures { IfOk result (λ s. definitions_of s.book ≡ book_of BINDERS F N G) }
+    ensures { IfOk result (λ s. book_of s.book ≡ book_of BINDERS F N G) }
 {
     let book = book(alloc)?;
     Studied::of(alloc, book, marks(alloc)?)

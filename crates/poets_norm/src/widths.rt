@@ -1,11 +1,12 @@
 //! The width of contracts, which bounds the residuals that are kept.
 ghost use Rattle.std.specs.Prelude.{◌≡◌, ◌+◌, ◌&&◌, min, false};
 ghost use Rattle.poets_syntax.specs.Applied.{CountsFit};
-ghost use Rattle.poets_syntax.specs.Book.{definitions_of, template_in};
+ghost use Rattle.poets_syntax.specs.Book.{book_of, template_in};
 ghost use Rattle.poets_syntax.specs.Contract.{contract_of};
 ghost use Rattle.poets_syntax.specs.Marks.{nullable};
 ghost use Rattle.poets_syntax.specs.Studied.{marks_of};
-ghost use Rattle.poets_syntax.specs.Width.{size as size_lem, body_in, wide_by, width};
+ghost use Rattle.poets_syntax.specs.Width.{body_in, wide_by, width};
+ghost use Rattle.poets_syntax.specs.Width as spec;
 
 use poets_syntax::{Studied, Term, size};
 
@@ -21,7 +22,7 @@ struct Measured {
 
 // A contract that exposes no application, and is not nullable.
 fn unexposed(term: &Term) -> Measured
-    ensures wide { result.wide ≡ min (size_lem (contract_of term.now)) 1001 }
+    ensures wide { result.wide ≡ min (spec.size (contract_of term.now)) 1001 }
     ensures nullable { result.nullable ≡ false }
 {
     Measured {
@@ -50,7 +51,7 @@ fn both(a: Measured, b: Measured) -> Measured
 
 // Measures a contract. The body of a template counts as its mark says.
 fn measure(studied: &Studied, term: &Term) -> Measured
-    ensures wide { result.wide ≡ min (wide_by (λ f. body_in (template_in (definitions_of studied.now.book).templates f) (width (definitions_of studied.now.book) (marks_of studied.now))) (marks_of studied.now) (contract_of term.now)) 1001 }
+    ensures wide { result.wide ≡ min (wide_by (λ f. body_in (template_in (book_of studied.now.book).templates f) (width (book_of studied.now.book) (marks_of studied.now))) (marks_of studied.now) (contract_of term.now)) 1001 }
     ensures nullable { result.nullable ≡ nullable (marks_of studied.now) (contract_of term.now) }
 {
     match term {
@@ -87,8 +88,8 @@ fn measure(studied: &Studied, term: &Term) -> Measured
 
 /// The width of the contract, cut at 1,001.
 pub fn wide(studied: &Studied, term: &Term) -> u64
-    requires { CountsFit (definitions_of studied.now.book) (contract_of term.now) }
-    ensures { result ≡ min (width (definitions_of studied.now.book) (marks_of studied.now) (contract_of term.now)) 1001 }
+    requires { CountsFit (book_of studied.now.book) (contract_of term.now) }
+    ensures { result ≡ min (width (book_of studied.now.book) (marks_of studied.now) (contract_of term.now)) 1001 }
 {
     let _book = studied.book();
     measure(studied, term).wide

@@ -1,4 +1,4 @@
 pub mod Depths
 pub mod Loops
 pub mod Lists
-pub mod Sentences
+pub mod StatementFaults

@@ -2,7 +2,8 @@
 ghost use Rattle.std.specs.Prelude.{◌≡◌, IfOk};
 ghost use Rattle.poets_expr.specs.Expression.{expression_of, Make, Binary, If};
 ghost use Rattle.poets_syntax.specs.Contract.{contract_of};
-ghost use Rattle.poets_call.specs.Calls.{request_of, Request};
+ghost use Rattle.poets_call.specs.Calls.{command_of};
+ghost use Rattle.poets_call.specs.Plain as plain;
 
 use poets_call::Command;
 use poets_expr::build::boxed;
@@ -47,7 +48,7 @@ pub(crate) fn conditional(
 
 // The registration of a contract under a name.
 pub(crate) fn registration(alloc: Global, name: Name, term: Term) -> Result<Command, Memory>
-    ensures { IfOk result (λ c. request_of c ≡ Request.Register name (contract_of term)) }
+    ensures { IfOk result (λ c. command_of c ≡ plain.Command.Register name (contract_of term)) }
 {
     let term = Arc::new(alloc, term)?;
     Ok(Command::Register { name, term })

@@ -1,7 +1,7 @@
 //! Commands, each after its word and up to the end of the statement.
 ghost use Rattle.std.specs.Prelude.{◌≡◌, map};
 ghost use Rattle.poets_expr.specs.Expression.{expression_of};
-ghost use Rattle.poets_call.specs.Calls.{request_of};
+ghost use Rattle.poets_call.specs.Calls.{command_of};
 ghost use Rattle.poets_grammar.specs.Tokens.{toks};
 ghost use Rattle.poets_grammar.specs.StatementReading as reading;
 ghost use Rattle.poets_parse.specs.Gives.{Gives};
@@ -38,7 +38,7 @@ fn whole_arguments(alloc: Global, tokens: &[Token]) -> Result<List<Expr>, ReadFa
 // "register" NAME "=" contract
 #[tactic(auto, unfolding(poets_grammar::specs::StatementReading::register))]
 fn register(alloc: Global, tokens: &[Token]) -> Result<Command, ReadFault>
-    ensures { Gives request_of result (reading.register (toks tokens.now)) }
+    ensures { Gives command_of result (reading.register (toks tokens.now)) }
 {
     let (name, rest) = name(tokens)?;
     let rest = sign(Sign::Equal, rest)?;
@@ -49,7 +49,7 @@ fn register(alloc: Global, tokens: &[Token]) -> Result<Command, ReadFault>
 // "transmit" NAME NAME NAME NUMBER NAME DAY: the contract, the sender, the receiver, the amount, the kind and the day
 #[tactic(auto, unfolding(poets_grammar::specs::StatementReading::transmission))]
 fn transmission(tokens: &[Token]) -> Result<Command, ReadFault>
-    ensures { Gives request_of result (reading.transmission (toks tokens.now)) }
+    ensures { Gives command_of result (reading.transmission (toks tokens.now)) }
 {
     let (contract, rest) = name(tokens)?;
     let (sender, rest) = name(rest)?;
@@ -70,7 +70,7 @@ fn transmission(tokens: &[Token]) -> Result<Command, ReadFault>
 // "tally" NAME "(" [ expression { "," expression } ] ")"
 #[tactic(auto, unfolding(poets_grammar::specs::StatementReading::tally))]
 fn tally(alloc: Global, tokens: &[Token]) -> Result<Command, ReadFault>
-    ensures { Gives request_of result (reading.tally (toks tokens.now)) }
+    ensures { Gives command_of result (reading.tally (toks tokens.now)) }
 {
     let (report, rest) = name(tokens)?;
     let args = whole_arguments(alloc, rest)?;
@@ -80,7 +80,7 @@ fn tally(alloc: Global, tokens: &[Token]) -> Result<Command, ReadFault>
 // "portfolio" NAME "(" [ expression { "," expression } ] ")" "over" names
 #[tactic(auto, unfolding(poets_grammar::specs::StatementReading::portfolio))]
 fn portfolio(alloc: Global, tokens: &[Token]) -> Result<Command, ReadFault>
-    ensures { Gives request_of result (reading.portfolio (toks tokens.now)) }
+    ensures { Gives command_of result (reading.portfolio (toks tokens.now)) }
 {
     let (report, rest) = name(tokens)?;
     let (args, rest) = arguments(alloc, rest)?;
@@ -92,7 +92,7 @@ fn portfolio(alloc: Global, tokens: &[Token]) -> Result<Command, ReadFault>
 // "watch" NAME "(" [ expression { "," expression } ] ")"
 #[tactic(auto, unfolding(poets_grammar::specs::StatementReading::watch))]
 fn watch(alloc: Global, tokens: &[Token]) -> Result<Command, ReadFault>
-    ensures { Gives request_of result (reading.watch (toks tokens.now)) }
+    ensures { Gives command_of result (reading.watch (toks tokens.now)) }
 {
     let (report, rest) = name(tokens)?;
     let args = whole_arguments(alloc, rest)?;
@@ -102,7 +102,7 @@ fn watch(alloc: Global, tokens: &[Token]) -> Result<Command, ReadFault>
 // "read" NUMBER
 #[tactic(auto, unfolding(poets_grammar::specs::StatementReading::read_watch))]
 fn read_watch(tokens: &[Token]) -> Result<Command, ReadFault>
-    ensures { Gives request_of result (reading.read_watch (toks tokens.now)) }
+    ensures { Gives command_of result (reading.read_watch (toks tokens.now)) }
 {
     let (number, rest) = natural(tokens)?;
     whole(Command::Read { number }, rest)
@@ -114,7 +114,7 @@ pub(crate) fn command_word(
     word: Word,
     tokens: &[Token],
 ) -> Result<Command, ReadFault>
-    ensures { Gives request_of result (reading.command_word word (toks tokens.now)) }
+    ensures { Gives command_of result (reading.command_word word (toks tokens.now)) }
 {
     match word {
         Word::Register => register(alloc, tokens),
@@ -138,7 +138,7 @@ pub(crate) fn command_word(
 // command
 #[tactic(auto, unfolding(poets_grammar::specs::StatementReading::command))]
 pub(crate) fn command(alloc: Global, tokens: &[Token]) -> Result<Command, ReadFault>
-    ensures { Gives request_of result (reading.command (toks tokens.now)) }
+    ensures { Gives command_of result (reading.command (toks tokens.now)) }
 {
     match first(tokens) {
         Some((Tok::Word(word), rest)) => command_word(alloc, word, rest),

@@ -1,7 +1,7 @@
 //! Templates and reports, each after its word and up to the end of the statement.
 ghost use Rattle.std.specs.Prelude.{◌≡◌, option_map};
 ghost use Rattle.poets_expr.specs.Expression.{expression_of};
-ghost use Rattle.poets_call.specs.Sentences.{sentence_of};
+ghost use Rattle.poets_call.specs.Statements.{statement_of};
 ghost use Rattle.poets_grammar.specs.Tokens.{toks};
 ghost use Rattle.poets_grammar.specs.Reading as expressions;
 ghost use Rattle.poets_grammar.specs.StatementReading as reading;
@@ -23,7 +23,7 @@ use std::alloc::Global;
 // "template" NAME "(" [ params ] ")" "=" contract
 #[tactic(auto, unfolding(poets_grammar::specs::StatementReading::template))]
 pub(crate) fn template(alloc: Global, tokens: &[Token]) -> Result<Statement, ReadFault>
-    ensures { Gives sentence_of result (reading.template (toks tokens.now)) }
+    ensures { Gives statement_of result (reading.template (toks tokens.now)) }
 {
     let (name, rest) = name(tokens)?;
     let (params, rest) = parameters(alloc, rest)?;
@@ -101,7 +101,7 @@ fn report_step(alloc: Global, tokens: &[Token]) -> Result<(Expr, Option<Expr>), 
 // "with" "(" NAME "," NAME "," NAME "," NAME ")" "in" expression [ "by" expression ]
 #[tactic(auto, unfolding(poets_grammar::specs::StatementReading::report))]
 pub(crate) fn report(alloc: Global, tokens: &[Token]) -> Result<Statement, ReadFault>
-    ensures { Gives sentence_of result (reading.report (toks tokens.now)) }
+    ensures { Gives statement_of result (reading.report (toks tokens.now)) }
 {
     let ((name, params, ty), rest) = report_head(alloc, tokens)?;
     let ((carry, start), rest) = report_start(alloc, rest)?;

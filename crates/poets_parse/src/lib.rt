@@ -12,9 +12,9 @@ mod expression;
 mod fault;
 mod list;
 mod literal;
-mod sentence;
+mod statements;
 mod step;
 
 pub use depth::is_too_deep;
 pub use fault::SyntaxFault;
-pub use sentence::{begun, statement};
+pub use statements::{begun, statement};

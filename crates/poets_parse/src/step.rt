@@ -1,6 +1,7 @@
 //! Single tokens.
 ghost use Rattle.std.specs.Prelude.{◌≡◌, ◌<◌, ◌≤ℤ◌, pos, length, [], ◌∷◌, IfSome, IfNone, IfOk, option_map};
-ghost use Rattle.poets_grammar.specs.Tokens.{toks, infix_operator as infix_operator_lem, type_of as type_of_lem};
+ghost use Rattle.poets_grammar.specs.Tokens.{toks};
+ghost use Rattle.poets_grammar.specs.Tokens as spec;
 ghost use Rattle.poets_grammar.specs.Reading as reading;
 ghost use Rattle.poets_grammar.specs.StatementReading as statements;
 ghost use Rattle.poets_parse.specs.Gives.{Gives, GivesFront, LeavesLess};
@@ -120,7 +121,7 @@ pub(crate) fn last_day(tokens: &[Token]) -> Result<Day, ReadFault>
 
 // The type that the word names.
 fn type_of(word: Word) -> Option<Ty>
-    ensures { result ≡ type_of_lem word }
+    ensures { result ≡ spec.type_of word }
 {
     match word {
         Word::IntType => Some(Ty::Int),
@@ -160,7 +161,7 @@ pub(crate) const PRODUCT: u8 = 6;
 
 // The operator that the token is between two operands, after its level.
 fn infix_operator(tok: Tok) -> Option<(u8, Op)>
-    ensures { result ≡ infix_operator_lem tok }
+    ensures { result ≡ spec.infix_operator tok }
 {
     match tok {
         Tok::Word(Word::Or) => Some((OR, Op::Or)),

@@ -6,17 +6,17 @@ use Rattle.poets_value.specs.declared.value.Value.TheVariants as V
 use Rattle.poets_expr.specs.Expression.{Expression, Literal, Undefined, Named, Unary, Make, Binary, If}
 use Rattle.poets_syntax.specs.Contract.{Contract, Success, Failure, Transmit, Plus, Par, Seq, App}
 use Rattle.poets_syntax.specs.Whole.{IsWholeContract}
-use Rattle.poets_call.specs.Calls.{Request}
-use Rattle.poets_call.specs.Taken.{IsWholeRequest}
-use Rattle.poets_call.specs.Sentences.{Command}
+use Rattle.poets_call.specs.Taken.{IsWholeCommand}
+use Rattle.poets_call.specs.Said.{Command}
+use Rattle.poets_call.specs.Plain as plain
 use Rattle.poets_lex.specs.declared.token.Token.{Token}
 use Rattle.poets_lex.specs.Table.{Table, IsTable}
 use Rattle.poets_lex.specs.Lexes.{Lexes}
 use Rattle.poets_grammar.specs.Tokens.{toks}
 use Rattle.poets_grammar.specs.ContractGrammar.{IsContract}
-use Rattle.poets_grammar.specs.Statements.{IsSentence}
+use Rattle.poets_grammar.specs.Statements.{IsStatement}
 use Rattle.poets_print.specs.Texts.{contract_text}
-use Rattle.poets_print.specs.Lines.{request_text}
+use Rattle.poets_print.specs.Lines.{command_text}
 
 -- the table has a text for the name
 abbrev pub IsListed : Table → Name → Type 0
@@ -51,17 +51,17 @@ CanWriteContract names (Seq a b) = CanWriteContract names a × CanWriteContract 
 CanWriteContract names (App f args) = IsListed names f × All (CanWrite names) args
 
 -- so can the command: no amount is negative, and a portfolio is over one name or more
-abbrev pub CanWriteRequest : Table → Request → Type 0
-CanWriteRequest names (Request.Register x c) = IsListed names x × CanWriteContract names c
-CanWriteRequest names (Request.Transmit x e) =
+abbrev pub CanWriteCommand : Table → plain.Command → Type 0
+CanWriteCommand names (plain.Command.Register x c) = IsListed names x × CanWriteContract names c
+CanWriteCommand names (plain.Command.Transmit x e) =
     IsListed names x × IsListed names e.sender × IsListed names e.receiver × (pos 0 ≤ℤ e.what.amount) × IsListed names e.what.kind
-CanWriteRequest names (Request.End x) = IsListed names x
-CanWriteRequest names (Request.Show x) = IsListed names x
-CanWriteRequest names (Request.Tally q args) = IsListed names q × All (CanWrite names) args
-CanWriteRequest names (Request.Portfolio q args over) =
+CanWriteCommand names (plain.Command.End x) = IsListed names x
+CanWriteCommand names (plain.Command.Show x) = IsListed names x
+CanWriteCommand names (plain.Command.Tally q args) = IsListed names q × All (CanWrite names) args
+CanWriteCommand names (plain.Command.Portfolio q args over) =
     IsListed names q × All (CanWrite names) args × All (IsListed names) over × (over ≢ [])
-CanWriteRequest names (Request.Watch q args) = IsListed names q × All (CanWrite names) args
-CanWriteRequest names (Request.Read n) = Unit {0}
+CanWriteCommand names (plain.Command.Watch q args) = IsListed names q × All (CanWrite names) args
+CanWriteCommand names (plain.Command.Read n) = Unit {0}
 
 -- the text of a contract is cut into tokens, without a new name, and the tokens are the contract
 abbrev pub ContractReadsBack : Type 0
@@ -72,5 +72,5 @@ ContractReadsBack =
 -- so is the text of a command
 abbrev pub CommandReadsBack : Type 0
 CommandReadsBack =
-    (names : Table) (request : Request) → IsTable names → IsWholeRequest request → CanWriteRequest names request
-    → (tokens : List Token) × Lexes names (request_text names request) 0 tokens names × IsSentence (toks tokens) (Command request)
+    (names : Table) (command : plain.Command) → IsTable names → IsWholeCommand command → CanWriteCommand names command
+    → (tokens : List Token) × Lexes names (command_text names command) 0 tokens names × IsStatement (toks tokens) (Command command)

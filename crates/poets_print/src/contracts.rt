@@ -2,7 +2,7 @@
 ghost use Rattle.std.specs.Prelude.{◌≡◌, ◌++◌, [], OnOk, IfOk, string_bytes, map, codes, nat_lt, nat_le};
 ghost use Rattle.poets_expr.specs.Expression.{expression_of};
 ghost use Rattle.poets_syntax.specs.Contract.{contract_of};
-ghost use Rattle.poets_print.specs.Levels.{contract_level as contract_level_lem};
+ghost use Rattle.poets_print.specs.Levels as spec;
 ghost use Rattle.poets_print.specs.Texts.{expression_text, contract_text, bracketed, call_text, behind_commas, listed, binders_text};
 
 use crate::expressions::put_expression;

@@ -2,7 +2,7 @@
 ghost use Rattle.std.specs.Prelude.{◌≡◌};
 ghost use Rattle.poets_expr.specs.Expression.{expression_of};
 ghost use Rattle.poets_syntax.specs.Contract.{contract_of};
-ghost use Rattle.poets_print.specs.Levels.{op_level as op_level_lem, level as level_lem, left_in_brackets as left_lem, right_in_brackets as right_lem, is_number as is_number_lem, negated_in_brackets as negated_lem, denied_in_brackets as denied_lem, contract_level as contract_level_lem};
+ghost use Rattle.poets_print.specs.Levels as levels;
 
 use poets_expr::{Expr, Op};
 use poets_syntax::Term;
@@ -11,7 +11,7 @@ use poets_syntax::Term;
 const COMPARISONS: u8 = 4;
 
 fn op_level(op: Op) -> u8
-    ensures { result ≡ op_level_lem op }
+    ensures { result ≡ levels.op_level op }
 {
     match op {
         Op::Or => 1,
@@ -23,7 +23,7 @@ fn op_level(op: Op) -> u8
 }
 
 fn level(e: &Expr) -> u8
-    ensures { result ≡ level_lem (expression_of e.now) }
+    ensures { result ≡ levels.level (expression_of e.now) }
 {
     match e {
         Expr::Op(op, _, _) => op_level(*op),
@@ -35,7 +35,7 @@ fn level(e: &Expr) -> u8
 
 /// Whether a left part stands in brackets.
 pub(crate) fn left_in_brackets(op: Op, left: &Expr) -> bool
-    ensures { result ≡ left_lem op (expression_of left.now) }
+    ensures { result ≡ levels.left_in_brackets op (expression_of left.now) }
 {
     if op_level(op) == COMPARISONS {
         level(left) <= COMPARISONS
@@ -46,13 +46,13 @@ pub(crate) fn left_in_brackets(op: Op, left: &Expr) -> bool
 
 /// Whether a right part stands in brackets.
 pub(crate) fn right_in_brackets(op: Op, right: &Expr) -> bool
-    ensures { result ≡ right_lem op (expression_of right.now) }
+    ensures { result ≡ levels.right_in_brackets op (expression_of right.now) }
 {
     level(right) <= op_level(op)
 }
 
 fn is_number(e: &Expr) -> bool
-    ensures { result ≡ is_number_lem (expression_of e.now) }
+    ensures { result ≡ levels.is_number (expression_of e.now) }
 {
     match e {
         Expr::Int(_) => true,
@@ -62,20 +62,20 @@ fn is_number(e: &Expr) -> bool
 
 /// Whether the part of a negation stands in brackets.
 pub(crate) fn negated_in_brackets(part: &Expr) -> bool
-    ensures { result ≡ negated_lem (expression_of part.now) }
+    ensures { result ≡ levels.negated_in_brackets (expression_of part.now) }
 {
     is_number(part) || level(part) < 7
 }
 
 /// Whether the part of `not` stands in brackets.
 pub(crate) fn denied_in_brackets(part: &Expr) -> bool
-    ensures { result ≡ denied_lem (expression_of part.now) }
+    ensures { result ≡ levels.denied_in_brackets (expression_of part.now) }
 {
     level(part) < 3
 }
 
 pub(crate) fn contract_level(term: &Term) -> u8
-    ensures { result ≡ contract_level_lem (contract_of term.now) }
+    ensures { result ≡ levels.contract_level (contract_of term.now) }
 {
     match term {
         Term::Plus(_, _) => 1,

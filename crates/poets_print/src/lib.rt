@@ -3,6 +3,7 @@
 //! A text is written from front to back at the end of one string, so the time is linear in its length.
 #![tactic(auto)]
 
+mod commands;
 mod contracts;
 mod expressions;
 pub mod laws;
@@ -10,11 +11,10 @@ mod levels;
 mod lines;
 mod pieces;
 mod replies;
-mod requests;
 mod words;
 
+pub use commands::command_text;
 pub use contracts::term_text;
 pub use lines::line_text;
 pub use replies::reply_text;
-pub use requests::command_text;
 pub use words::{name_text, type_text};

@@ -1,7 +1,7 @@
 //! The lines of a history.
 ghost use Rattle.std.specs.Prelude.{◌≡◌, ◌++◌, OnOk, IfOk, string_bytes};
 ghost use Rattle.poets_call.specs.Calls.{entry_of};
-ghost use Rattle.poets_print.specs.Lines.{line_text as line_text_lem};
+ghost use Rattle.poets_print.specs.Lines as lines;
 
 use crate::pieces::{put, put_count};
 use crate::replies::put_reply;
@@ -15,7 +15,7 @@ use std::alloc::Global;
 ///
 /// A name that the table does not have prints as nothing.
 pub fn line_text(alloc: Global, names: &Names, number: u64, entry: &Entry) -> Result<String, Memory>
-    ensures { IfOk result (λ text. string_bytes text ≡ line_text_lem names.now number (entry_of entry.now)) }
+    ensures { IfOk result (λ text. string_bytes text ≡ lines.line_text names.now number (entry_of entry.now)) }
 {
     let mut text = String::new(alloc);
     put_count(&mut text, number)?;

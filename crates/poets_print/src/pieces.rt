@@ -2,7 +2,8 @@
 ghost use Rattle.std.specs.Prelude.{◌≡◌, ◌++◌, OnOk, string_bytes, codes, Some, None, option_map, unwrap_or, slice_get, true, false};
 ghost use Rattle.std.specs.Fmt.{decimal, signed_decimal};
 ghost use Rattle.poets_value.specs.Civil.{day_text};
-ghost use Rattle.poets_print.specs.Texts.{name_text as name_text_lem, type_text as type_text_lem, truth_text, resource_text, value_text};
+ghost use Rattle.poets_print.specs.Texts.{truth_text, resource_text, value_text};
+ghost use Rattle.poets_print.specs.Texts as texts;
 ghost use Rattle.poets_print.specs.Lines.{optional_text};
 
 use crate::words::{name_text, type_text};
@@ -18,7 +19,7 @@ pub(crate) fn put(out: &mut String, text: &str) -> Result<(), Memory>
 }
 
 pub(crate) fn put_name(out: &mut String, names: &Names, name: Name) -> Result<(), Memory>
-    ensures { OnOk result (string_bytes out.new ≡ string_bytes out.old ++ name_text_lem names.now name) }
+    ensures { OnOk result (string_bytes out.new ≡ string_bytes out.old ++ texts.name_text names.now name) }
 {
     put(out, name_text(names, name))
 }
@@ -30,7 +31,7 @@ pub(crate) fn put_named(
     text: &str,
     name: Name,
 ) -> Result<(), Memory>
-    ensures { OnOk result (string_bytes out.new ≡ string_bytes out.old ++ (text.now ++ name_text_lem names.now name)) }
+    ensures { OnOk result (string_bytes out.new ≡ string_bytes out.old ++ (text.now ++ texts.name_text names.now name)) }
 {
     put(out, text)?;
     put_name(out, names, name)
@@ -78,7 +79,7 @@ pub(crate) fn put_literal_day(out: &mut String, day: Day) -> Result<(), Memory>
 
 /// Puts the undefined literal of a type, `undefined Int`.
 pub(crate) fn put_undefined(out: &mut String, ty: Ty) -> Result<(), Memory>
-    ensures { OnOk result (string_bytes out.new ≡ string_bytes out.old ++ (codes "undefined " ++ type_text_lem ty)) }
+    ensures { OnOk result (string_bytes out.new ≡ string_bytes out.old ++ (codes "undefined " ++ texts.type_text ty)) }
 {
     put(out, "undefined ")?;
     put(out, type_text(ty))

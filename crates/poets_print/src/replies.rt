@@ -2,10 +2,12 @@
 ghost use Rattle.std.specs.Prelude.{◌≡◌, ◌++◌, OnOk, IfOk, string_bytes, codes, map};
 ghost use Rattle.std.specs.Fmt.{decimal};
 ghost use Rattle.poets_syntax.specs.Contract.{contract_of};
-ghost use Rattle.poets_report.specs.Answers.{finding_of};
-ghost use Rattle.poets_call.specs.Calls.{response_of, Response, folio_row_of};
+ghost use Rattle.poets_report.specs.Answers.{answer_of};
+ghost use Rattle.poets_call.specs.Calls.{reply_of, folio_row_of};
+ghost use Rattle.poets_call.specs.Plain as plain;
 ghost use Rattle.poets_print.specs.Texts.{contract_text, behind_commas};
-ghost use Rattle.poets_print.specs.Lines.{yes_text, row_text, rows_text, finding_text, answered_text, part_text, parts_text, total_text, response_text};
+ghost use Rattle.poets_print.specs.Lines.{yes_text, row_text, rows_text, answer_text, answered_text, part_text, parts_text, total_text};
+ghost use Rattle.poets_print.specs.Lines as lines;
 
 use crate::contracts::put_contract;
 use crate::pieces::{put, put_counted, put_day, put_name, put_named, put_optional};
@@ -59,7 +61,7 @@ fn put_rows(out: &mut String, names: &Names, rows: &List<Row>) -> Result<(), Mem
 
 // Puts a report's answer.
 fn put_answer(out: &mut String, names: &Names, answer: &Answer) -> Result<(), Memory>
-    ensures { OnOk result (string_bytes out.new ≡ string_bytes out.old ++ finding_text names.now (finding_of answer.now)) }
+    ensures { OnOk result (string_bytes out.new ≡ string_bytes out.old ++ answer_text names.now (answer_of answer.now)) }
 {
     match answer {
         Answer::Single(value) => put_optional(out, names, value),
@@ -69,7 +71,7 @@ fn put_answer(out: &mut String, names: &Names, answer: &Answer) -> Result<(), Me
 
 // Puts a report's answer with the word that tells its form.
 fn put_answered(out: &mut String, names: &Names, answer: &Answer) -> Result<(), Memory>
-    ensures { OnOk result (string_bytes out.new ≡ string_bytes out.old ++ answered_text names.now (finding_of answer.now)) }
+    ensures { OnOk result (string_bytes out.new ≡ string_bytes out.old ++ answered_text names.now (answer_of answer.now)) }
 {
     match answer {
         Answer::Single(value) => {
@@ -105,7 +107,7 @@ fn put_more_parts(out: &mut String, names: &Names, parts: &[(Name, Answer)]) -> 
 
 // Puts the parts of a portfolio, and its total where there is one.
 fn put_folio(out: &mut String, names: &Names, folio: &Folio) -> Result<(), Memory>
-    ensures { OnOk result (string_bytes out.new ≡ string_bytes out.old ++ response_text names.now (Response.Folio (map folio_row_of folio.now.rows.items) folio.now.total)) }
+    ensures { OnOk result (string_bytes out.new ≡ string_bytes out.old ++ lines.reply_text names.now (plain.Reply.Folio (map folio_row_of folio.now.rows.items) folio.now.total)) }
 {
     put(out, "portfolio ")?;
     put_parts(out, names, folio.rows.as_slice())?;
@@ -147,7 +149,7 @@ fn put_shown(
     may_end: bool,
     ended: bool,
 ) -> Result<(), Memory>
-    ensures { OnOk result (string_bytes out.new ≡ string_bytes out.old ++ response_text names.now (Response.Shown (contract_of residual.now) count may_end ended)) }
+    ensures { OnOk result (string_bytes out.new ≡ string_bytes out.old ++ lines.reply_text names.now (plain.Reply.Shown (contract_of residual.now) count may_end ended)) }
 {
     put_counted(out, "events ", count)?;
     put(out, ", may end ")?;
@@ -160,7 +162,7 @@ fn put_shown(
 
 /// Puts a reply.
 pub(crate) fn put_reply(out: &mut String, names: &Names, reply: &Reply) -> Result<(), Memory>
-    ensures { OnOk result (string_bytes out.new ≡ string_bytes out.old ++ response_text names.now (response_of reply.now)) }
+    ensures { OnOk result (string_bytes out.new ≡ string_bytes out.old ++ lines.reply_text names.now (reply_of reply.now)) }
 {
     match reply {
         Reply::Registered(number) => put_counted(out, "registered ", *number),
@@ -199,7 +201,7 @@ pub(crate) fn put_reply(out: &mut String, names: &Names, reply: &Reply) -> Resul
 ///
 /// A name that the table does not have prints as nothing.
 pub fn reply_text(alloc: Global, names: &Names, reply: &Reply) -> Result<String, Memory>
-    ensures { IfOk result (λ text. string_bytes text ≡ response_text names.now (response_of reply.now)) }
+    ensures { IfOk result (λ text. string_bytes text ≡ lines.reply_text names.now (reply_of reply.now)) }
 {
     let mut text = String::new(alloc);
     put_reply(&mut text, names, reply)?;

@@ -6,8 +6,9 @@ use Rattle.poets_value.specs.declared.value.Value.{Value}
 use Rattle.poets_expr.specs.Env.{Declared}
 use Rattle.poets_expr.specs.Expression.{Expression}
 use Rattle.poets_report.specs.Keys.{Key, KeyPrecedes, same_key}
-use Rattle.poets_report.specs.Query.{Query, start, stage, key_on}
-use Rattle.poets_report.specs.Answers.{Row, Finding, Single, Rows, Rising, IsAnswer_by, EveryAnswer}
+use Rattle.poets_report.specs.Plain.{Report, Row, Answer, Single, Rows}
+use Rattle.poets_report.specs.Reports.{start, stage, key_on}
+use Rattle.poets_report.specs.Answers.{Rising, IsAnswer_by, EveryAnswer}
 use Rattle.poets_report.specs.Keyed.{Sets, row_at}
 use Rattle.poets_report.specs.declared.folds.Change.{Change}
 use Rattle.poets_report.proofs.KeyOrder.{key_same}
@@ -64,10 +65,10 @@ set_one k v (r ∷ rows) h =
     passed j new p sets false true e f = rw (e, f) refl
     passed j new p sets false false e f = rw (e, f) (let s = sets.each j in rw e at s)
 
-module _ (declared : Declared) (q : Query) (args : List (Option Value)) where
+module _ (declared : Declared) (q : Report) (args : List (Option Value)) where
   -- one event more
-  step : (by : Option Expression) (events : List Event) (e : Event) (a : Finding) → IsAnswer_by by declared q args events a →
-      (b : Finding) × IsAnswer_by by declared q args (events ++ e ∷ []) b
+  step : (by : Option Expression) (events : List Event) (e : Event) (a : Answer) → IsAnswer_by by declared q args events a →
+      (b : Answer) × IsAnswer_by by declared q args (events ++ e ∷ []) b
   step None events e (Single v) h =
       let c : Change = record { key = None; row = Some (stage declared q args v e) } in
       let b = Single (stage declared q args v e) in
@@ -82,12 +83,12 @@ module _ (declared : Declared) (q : Query) (args : List (Option Value)) where
       (Rows s.0, answer_step declared q args (Some key) events e (start declared q args) (Rows rows) (Rows s.0) c refl h (refl, refl) (s.0, refl, s.1))
 
   -- no event
-  none : (by : Option Expression) → (a : Finding) × IsAnswer_by by declared q args [] a
+  none : (by : Option Expression) → (a : Answer) × IsAnswer_by by declared q args [] a
   none None = (Single (start declared q args), refl)
   none (Some key) = (Rows [], rows_by_key declared q args key [] [] tt (λ k. refl))
 
-  go_on : (by : Option Expression) (events more : List Event) (a : Finding) → IsAnswer_by by declared q args events a →
-      (b : Finding) × IsAnswer_by by declared q args (events ++ more) b
+  go_on : (by : Option Expression) (events more : List Event) (a : Answer) → IsAnswer_by by declared q args events a →
+      (b : Answer) × IsAnswer_by by declared q args (events ++ more) b
   go_on by events [] a h = (a, subst (λ s. IsAnswer_by by declared q args s a) (sym (append-nil events)) h)
   go_on by events (e ∷ more) a h =
       let s = step by events e a h in

@@ -6,8 +6,9 @@ use Rattle.poets_value.specs.declared.value.Value.{Value}
 use Rattle.poets_expr.specs.Env.{Declared}
 use Rattle.poets_expr.specs.Expression.{Expression}
 use Rattle.poets_report.specs.Keys.{Key, same_key}
-use Rattle.poets_report.specs.Query.{Query, folded, key_on, with_key}
-use Rattle.poets_report.specs.Answers.{Row, Rising, AreRows, IsFoldOfKey}
+use Rattle.poets_report.specs.Plain.{Report, Row}
+use Rattle.poets_report.specs.Reports.{folded, key_on, with_key}
+use Rattle.poets_report.specs.Answers.{Rising, AreRows, IsFoldOfKey}
 use Rattle.poets_report.specs.Keyed.{row_at}
 use Rattle.poets_report.proofs.KeyOrder.{key_same}
 use Rattle.poets_report.proofs.RisingRows.{found_contained, contained_found}
@@ -36,7 +37,7 @@ module _ (key_of : Event → Key) (k : Key) where
       by true s below = let no : e ∷ with_key key_of k events ≡ [] = rw s at h in cc
       by false s below = below (rw s at h)
 
-module _ (declared : Declared) (q : Query) (args : List (Option Value)) (key : Expression) (events : List Event) where
+module _ (declared : Declared) (q : Report) (args : List (Option Value)) (key : Expression) (events : List Event) where
   abbrev of : Event → Key
   of = key_on declared q args key
 

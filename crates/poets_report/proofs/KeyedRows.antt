@@ -11,7 +11,8 @@ use Rattle.std.proofs.lemmas.Map.Keys.{sorted_head, sorted_tail}
 use Rattle.poets_value.specs.declared.value.Value.{Value}
 use Rattle.poets_value.specs.Order.{value_cmp}
 use Rattle.poets_report.specs.Keys.{Key, same_key}
-use Rattle.poets_report.specs.Answers.{Row, Rising}
+use Rattle.poets_report.specs.Plain.{Row}
+use Rattle.poets_report.specs.Answers.{Rising}
 use Rattle.poets_report.specs.Keyed.{Cell, row_at, row_before, rows_of, HasRoom, Sets}
 use Rattle.poets_report.proofs.KeyOrder.{key_less, key_equal, key_same}
 use Rattle.poets_report.proofs.RisingRows.{StartsAfter, absent_before, rising_behind, rows_one, same_turned}

@@ -4,12 +4,12 @@ use Rattle.poets_value.specs.declared.event.Event.{Event}
 use Rattle.poets_value.specs.declared.value.Value.{Value}
 use Rattle.poets_expr.specs.Env.{Declared}
 use Rattle.poets_expr.specs.Expression.{Expression}
-use Rattle.poets_report.specs.Query.{Query}
-use Rattle.poets_report.specs.Answers.{Finding, Single, Rows, IsAnswer_by, OneAnswer}
+use Rattle.poets_report.specs.Plain.{Report, Answer, Single, Rows}
+use Rattle.poets_report.specs.Answers.{IsAnswer_by, OneAnswer}
 use Rattle.poets_report.proofs.RisingRows.{rows_one}
 use Rattle.poets_report.proofs.FoldsByKey.{by_key}
 
-one_by : (by : Option Expression) (declared : Declared) (q : Query) (args : List (Option Value)) (s : List Event) (a b : Finding) →
+one_by : (by : Option Expression) (declared : Declared) (q : Report) (args : List (Option Value)) (s : List Event) (a b : Answer) →
     IsAnswer_by by declared q args s a → IsAnswer_by by declared q args s b → a ≡ b
 one_by None declared q args s (Single v) (Single w) h k = ap Single (h ∙ sym k)
 one_by None declared q args s (Single v) (Rows rs) h k = elim k [ ]

@@ -6,7 +6,8 @@ use Rattle.std.specs.List.{Contains}
 use Rattle.std.proofs.lemmas.Map.Views.{Contains-from_lookup}
 use Rattle.poets_value.specs.declared.value.Value.{Value}
 use Rattle.poets_report.specs.Keys.{Key, KeyPrecedes, key_cmp, same_key}
-use Rattle.poets_report.specs.Answers.{Row, Rising}
+use Rattle.poets_report.specs.Plain.{Row}
+use Rattle.poets_report.specs.Answers.{Rising}
 use Rattle.poets_report.specs.Keyed.{row_at}
 use Rattle.poets_report.proofs.KeyOrder.{key_less, key_equal, key_greater, key_same, key_total}
 

@@ -8,8 +8,9 @@ use Rattle.poets_value.specs.declared.value.Value.{Value}
 use Rattle.poets_expr.specs.Env.{Declared, Env}
 use Rattle.poets_expr.specs.Expression.{Expression}
 use Rattle.poets_report.specs.Keys.{Key, same_key}
-use Rattle.poets_report.specs.Query.{Query, given, start, stage, folded, key_on, with_key}
-use Rattle.poets_report.specs.Answers.{Row, Finding, Single, Rows, AreRows, IsAnswer, IsAnswer_by}
+use Rattle.poets_report.specs.Plain.{Report, Row, Answer, Single, Rows}
+use Rattle.poets_report.specs.Reports.{given, start, stage, folded, key_on, with_key}
+use Rattle.poets_report.specs.Answers.{AreRows, IsAnswer, IsAnswer_by}
 use Rattle.poets_report.specs.Keyed.{Cell, KeyedView, Sets, row_at}
 use Rattle.poets_report.specs.declared.folds.Change.{Change}
 use Rattle.poets_report.specs.declared.folds.Running.{Running}
@@ -20,13 +21,13 @@ use Rattle.poets_report.proofs.FoldsByKey.{if_any, by_key, rows_by_key}
 
 -- the change of one event: without a key, what is carried past it; with a key, that in the row of the event's key,
 -- to which the start is carried where there is none
-abbrev pub IsStep : Option Expression → Declared → Query → List (Option Value) → Option Value → Finding → Event → Change → Type 0
+abbrev pub IsStep : Option Expression → Declared → Report → List (Option Value) → Option Value → Answer → Event → Change → Type 0
 IsStep None declared q args start (Single v) e c = c.row ≡ Some (stage declared q args v e)
 IsStep (Some key) declared q args start (Rows rows) e c =
     (c.key ≡ key_on declared q args key e) × (c.row ≡ Some (stage declared q args (unwrap_or (row_at c.key rows) start) e))
 IsStep _ declared q args start answer e c = Unit {0}
 
-module _ (declared : Declared) (q : Query) (args : List (Option Value)) where
+module _ (declared : Declared) (q : Report) (args : List (Option Value)) where
   folded-last : (events : List Event) (e : Event) → folded declared q args (events ++ e ∷ []) ≡ stage declared q args (folded declared q args events) e
   folded-last events e = fold-append (stage declared q args) (start declared q args) events (e ∷ [])
 
@@ -75,7 +76,7 @@ module _ (declared : Declared) (q : Query) (args : List (Option Value)) where
             subst (λ b. with_key of k (events ++ e ∷ []) ≡ with_key of k events ++ (if b then e ∷ [] else [])) n (with_key-last k) ∙ append-nil (with_key of k events) in
             rw n (by_key declared q args key events old h k ∙ ap (if_any (folded declared q args)) (sym same))
 
-  pub answer_step : (by : Option Expression) (events : List Event) (e : Event) (v : Option Value) (old new : Finding) (c : Change) → v ≡ start declared q args →
+  pub answer_step : (by : Option Expression) (events : List Event) (e : Event) (v : Option Value) (old new : Answer) (c : Change) → v ≡ start declared q args →
       IsAnswer_by by declared q args events old → IsStep by declared q args v old e c → Changes c old new →
       IsAnswer_by by declared q args (events ++ e ∷ []) new
   answer_step None events e v (Single x) new c s h b k =
@@ -91,7 +92,7 @@ module _ (declared : Declared) (q : Query) (args : List (Option Value)) where
       (rows_step key events e v c.row rows k.0 s h (b.1 ∙ ap (λ x. Some (stage declared q args x e)) at) sets)
 
 -- what is put in the row of an event's key
-pub keyed_brings : (declared : Declared) (q : Query) (e : Event) (env : Env) (v : Option Value) (running : Running) (rows : KeyedView) (c : Change) → running ≡ R.Keyed rows →
+pub keyed_brings : (declared : Declared) (q : Report) (e : Event) (env : Env) (v : Option Value) (running : Running) (rows : KeyedView) (c : Change) → running ≡ R.Keyed rows →
     ((args : List (Option Value)) (key : Expression) → env ≡ given q args → q.key ≡ Some key → c.key ≡ key_on declared q args key e) →
     ((args : List (Option Value)) → env ≡ given q args → c.row ≡ Some (stage declared q args (unwrap_or (row_at c.key rows.rows) v) e)) →
     Brings declared q e (fold_by env v running) c
@@ -105,7 +106,7 @@ keyed_brings declared q e env v running rows c same key_is row args events new h
     step (Some key) s = (key_is args key h.under s, row args h.under)
 
 -- a fold with what an event brings put in place goes on over the event
-pub brought_goes_on : (declared : Declared) (q : Query) (e : Event) (old new : FoldView) (c : Change) →
+pub brought_goes_on : (declared : Declared) (q : Report) (e : Event) (old new : FoldView) (c : Change) →
     Brings declared q e old c → Changes c old.answer new.answer → new.env ≡ old.env → new.start ≡ old.start → GoesOn declared q (e ∷ []) old new
 brought_goes_on declared q e old new c b k env start_same args events h = record {
   under = env ∙ h.under;

@@ -6,23 +6,16 @@ use Rattle.poets_value.specs.declared.value.Value.{Value}
 use Rattle.poets_expr.specs.Env.{Declared}
 use Rattle.poets_expr.specs.Expression.{Expression}
 use Rattle.poets_report.specs.Keys.{Key, KeyPrecedes}
-use Rattle.poets_report.specs.Query.{Query, folded, key_on, with_key}
+use Rattle.poets_report.specs.Plain.{Report, Row, Single, Rows}
+use Rattle.poets_report.specs.Reports.{folded, key_on, with_key}
+use Rattle.poets_report.specs.Plain as plain
 use Rattle.poets_report.specs.declared.report.Answer.{Answer}
 use Rattle.poets_report.specs.declared.report.Answer.TheVariants as A
 
--- a key and its value
-abbrev pub Row : Type 0
-Row = Key × Option Value
-
--- an answer
-pub data Finding : Type 0 where
-  Single : Option Value → Finding
-  Rows : List Row → Finding
-
 -- `Answer` as plain data, its rows as a list
-abbrev pub finding_of : Answer → Finding
-finding_of (A.Single v) = Single v
-finding_of (A.Rows rows) = Rows rows.items
+abbrev pub answer_of : Answer → plain.Answer
+answer_of (A.Single v) = Single v
+answer_of (A.Rows rows) = Rows rows.items
 
 -- the keys rise, so that no two rows have one key
 abbrev pub Rising : List Row → Type 0
@@ -32,13 +25,13 @@ Rising (r ∷ r' ∷ rows) = KeyPrecedes r.0 r'.0 × Rising (r' ∷ rows)
 
 -- some event has the key, and the value is the fold over the events with the key
 abbrev pub IsFoldOfKey :
-    Declared → Query → List (Option Value) → (Event → Key) → List Event → Key → Option Value → Type 0
+    Declared → Report → List (Option Value) → (Event → Key) → List Event → Key → Option Value → Type 0
 IsFoldOfKey declared q args key_of events k v =
     Contains (map key_of events) k × (v ≡ folded declared q args (with_key key_of k events))
 
 -- the rows of a report by a key
 pub record AreRows
-    (declared : Declared) (q : Query) (args : List (Option Value)) (key : Expression) (events : List Event)
+    (declared : Declared) (q : Report) (args : List (Option Value)) (key : Expression) (events : List Event)
     (rows : List Row) : Type 0 where
   pub rising : Rising rows
   -- there is a row for each key that some event has, with the fold over the events with that key, and there is no other
@@ -46,22 +39,22 @@ pub record AreRows
       Contains rows (k, v) ↔ IsFoldOfKey declared q args (key_on declared q args key) events k v
 
 -- by the report's key, if it has one
-abbrev pub IsAnswer_by : Option Expression → Declared → Query → List (Option Value) → List Event → Finding → Type 0
+abbrev pub IsAnswer_by : Option Expression → Declared → Report → List (Option Value) → List Event → plain.Answer → Type 0
 IsAnswer_by None declared q args events (Single v) = v ≡ folded declared q args events
 IsAnswer_by None declared q args events (Rows rows) = ⊥
 IsAnswer_by (Some key) declared q args events (Single v) = ⊥
 IsAnswer_by (Some key) declared q args events (Rows rows) = AreRows declared q args key events rows
 
 -- the answer of a report under arguments over a list of events
-abbrev pub IsAnswer : Declared → Query → List (Option Value) → List Event → Finding → Type 0
+abbrev pub IsAnswer : Declared → Report → List (Option Value) → List Event → plain.Answer → Type 0
 IsAnswer declared q args events finding = IsAnswer_by q.key declared q args events finding
 
 -- a report has one answer
 abbrev pub OneAnswer : Type 0
-OneAnswer = (declared : Declared) (q : Query) (args : List (Option Value)) (s : List Event) (a b : Finding) →
+OneAnswer = (declared : Declared) (q : Report) (args : List (Option Value)) (s : List Event) (a b : plain.Answer) →
     IsAnswer declared q args s a → IsAnswer declared q args s b → a ≡ b
 
 -- and it has an answer over each list of events
 abbrev pub EveryAnswer : Type 0
-EveryAnswer = (declared : Declared) (q : Query) (args : List (Option Value)) (s : List Event) →
-    (a : Finding) × IsAnswer declared q args s a
+EveryAnswer = (declared : Declared) (q : Report) (args : List (Option Value)) (s : List Event) →
+    (a : plain.Answer) × IsAnswer declared q args s a

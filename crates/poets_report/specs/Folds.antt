@@ -3,8 +3,9 @@ use Rattle.std.specs.Prelude.{◌≡◌, ℕ, List, map, [], ◌∷◌, ◌++◌
 use Rattle.poets_value.specs.declared.event.Event.{Event}
 use Rattle.poets_value.specs.declared.value.Value.{Value}
 use Rattle.poets_expr.specs.Env.{Declared, Env}
-use Rattle.poets_report.specs.Query.{Query, given, start}
-use Rattle.poets_report.specs.Answers.{Row, Finding, Single, Rows, IsAnswer}
+use Rattle.poets_report.specs.Plain.{Report, Row, Answer, Single, Rows}
+use Rattle.poets_report.specs.Reports.{given, start}
+use Rattle.poets_report.specs.Answers.{IsAnswer}
 use Rattle.poets_report.specs.Keyed.{Sets, HasRoom}
 use Rattle.poets_report.specs.declared.folds.Change.{Change}
 use Rattle.poets_report.specs.declared.folds.Running.{Running}
@@ -17,11 +18,11 @@ pub record FoldView : Type 0 where
   -- what is carried to the first event, and to the first event of each key
   pub start : Option Value
   -- the answer over the events so far
-  pub answer : Finding
+  pub answer : Answer
   -- the keys for whose rows there is room
   pub keys : List Value
 
-abbrev pub answer_in : Running → Finding
+abbrev pub answer_in : Running → Answer
 answer_in (R.Carried v) = Single v
 answer_in (R.Keyed rows) = Rows rows.rows
 
@@ -35,7 +36,7 @@ fold_by env start running = record { env = env; start = start; answer = answer_i
 
 -- the fold of a report under arguments stands for these events: it has the answer over them, and goes on from it
 pub record StandsFor
-    (declared : Declared) (q : Query) (args : List (Option Value)) (events : List Event) (fold : FoldView)
+    (declared : Declared) (q : Report) (args : List (Option Value)) (events : List Event) (fold : FoldView)
     : Type 0 where
   pub under : fold.env ≡ given q args
   pub starts : fold.start ≡ start declared q args
@@ -46,26 +47,26 @@ abbrev pub events_of : List (ℕ × Event) → List Event
 events_of log = map (λ p. p.1) log
 
 -- a fold that stood for any events stands for these and then `more`
-abbrev pub GoesOn : Declared → Query → List Event → FoldView → FoldView → Type 0
+abbrev pub GoesOn : Declared → Report → List Event → FoldView → FoldView → Type 0
 GoesOn declared q more old new = (args : List (Option Value)) (events : List Event) →
     StandsFor declared q args events old → StandsFor declared q args (events ++ more) new
 
 -- a change put in place in an answer
-abbrev pub Changes : Change → Finding → Finding → Type 0
+abbrev pub Changes : Change → Answer → Answer → Type 0
 Changes c (Single v) new = new ≡ Single (unwrap_or c.row v)
 Changes c (Rows rows) new = (rows' : List Row) × (new ≡ Rows rows') × Sets c.key c.row rows rows'
 
 -- the change is what an event brings to a fold: put in place, it makes the answer over the events so far and this one
-abbrev pub Brings : Declared → Query → Event → FoldView → Change → Type 0
-Brings declared q e fold c = (args : List (Option Value)) (events : List Event) (new : Finding) →
+abbrev pub Brings : Declared → Report → Event → FoldView → Change → Type 0
+Brings declared q e fold c = (args : List (Option Value)) (events : List Event) (new : Answer) →
     StandsFor declared q args events fold → Changes c fold.answer new → IsAnswer declared q args (events ++ e ∷ []) new
 
 -- there is room to put the change in place
-abbrev pub HasRoomFor : Change → Finding → List Value → Type 0
+abbrev pub HasRoomFor : Change → Answer → List Value → Type 0
 HasRoomFor c (Single v) keys = Unit {0}
 HasRoomFor c (Rows rows) keys = HasRoom c.key keys
 
 -- the answer is of a report without a key
-abbrev pub IsSingle : Finding → Type 0
+abbrev pub IsSingle : Answer → Type 0
 IsSingle (Single v) = Unit {0}
 IsSingle (Rows rows) = ⊥

@@ -6,7 +6,8 @@ use Rattle.std.specs.BTreeMap.{is_at}
 use Rattle.poets_value.specs.declared.value.Value.{Value}
 use Rattle.poets_value.specs.Order.{value_cmp}
 use Rattle.poets_report.specs.Keys.{Key, same_key}
-use Rattle.poets_report.specs.Answers.{Row, Rising}
+use Rattle.poets_report.specs.Plain.{Row}
+use Rattle.poets_report.specs.Answers.{Rising}
 
 -- what a key has: the value of its row, or no row
 abbrev pub Cell : Type 0

@@ -1,5 +1,6 @@
 pub mod Keys
-pub mod Query
+pub mod Plain
+pub mod Reports
 pub mod Answers
 pub mod Keyed
 pub mod Folds

@@ -2,10 +2,10 @@
 ghost use Rattle.std.specs.Prelude.{◌≡◌, ◌+◌, ◌*◌, ◌≤◌, ◌∷◌, [], Some, length, IfOk, IsOk, OnOk, OnErr};
 ghost use Rattle.poets_expr.specs.Asked.{one_more};
 ghost use Rattle.poets_expr.specs.Env.{Declared, declared_of};
-ghost use Rattle.poets_report.specs.Query.{query_of, given, key_on, start as start_lem, stage as stage_lem};
-ghost use Rattle.poets_report.specs.Answers.{finding_of, IsAnswer};
-ghost use Rattle.poets_report.specs.Folds.{StandsFor, GoesOn, Brings, Changes, HasRoomFor, IsSingle};
-ghost use Rattle.poets_report.specs.Folds.{answer_in, events_of, fold_by};
+ghost use Rattle.poets_report.specs.Reports.{report_of, given, key_on};
+ghost use Rattle.poets_report.specs.Reports as reports;
+ghost use Rattle.poets_report.specs.Answers.{answer_of, IsAnswer};
+ghost use Rattle.poets_report.specs.Folds.{StandsFor, GoesOn, Brings, Changes, HasRoomFor, IsSingle, answer_in, events_of, fold_by};
 
 use crate::keyed::KeyedRows;
 use crate::report::{Answer, Report};
@@ -63,7 +63,7 @@ impl Fold {
     ) -> Result<Fold, Memory>
         requires { length args.now.items ≡ length report.now.params.items }
         ensures stands { IfOk result
-            (StandsFor (declared_of decls.now.names) (query_of report.now) args.now.items []) }
+            (StandsFor (declared_of decls.now.names) (report_of report.now) args.now.items []) }
         ensures asks { asks.new ≤ asks.old + 1 }
         ensures rises { asks.old ≤ asks.new }
     {
@@ -86,7 +86,7 @@ impl Fold {
         asks: &mut Asks<L>,
     ) -> Result<Fold, Memory>
         ensures stands { IfOk result
-            (GoesOn (declared_of decls.now.names) (query_of report.now) events.now self) }
+            (GoesOn (declared_of decls.now.names) (report_of report.now) events.now self) }
         ensures asks { asks.new ≤ asks.old + 2 * length events.now }
         ensures rises { asks.old ≤ asks.new }
     {
@@ -105,7 +105,7 @@ impl Fold {
         asks: &mut Asks<L>,
     ) -> Result<Fold, Memory>
         ensures stands { IfOk result
-            (GoesOn (declared_of decls.now.names) (query_of report.now) (events_of log.now) self) }
+            (GoesOn (declared_of decls.now.names) (report_of report.now) (events_of log.now) self) }
         ensures asks { asks.new ≤ asks.old + 2 * length log.now }
         ensures rises { asks.old ≤ asks.new }
     {
@@ -124,7 +124,7 @@ impl Fold {
         asks: &mut Asks<L>,
     ) -> Result<(), Memory>
         ensures stands { OnOk result
-            (GoesOn (declared_of decls.now.names) (query_of report.now) (event.now ∷ []) self.old self.new) }
+            (GoesOn (declared_of decls.now.names) (report_of report.now) (event.now ∷ []) self.old self.new) }
         ensures err { OnErr result (self.new ≡ self.old) }
         ensures asks { asks.new ≤ asks.old + 2 }
         ensures rises { asks.old ≤ asks.new }
@@ -141,7 +141,7 @@ impl Fold {
         event: &Event,
         asks: &mut Asks<L>,
     ) -> Change
-        ensures brings { Brings (declared_of decls.now.names) (query_of report.now) event.now self.old result }
+        ensures brings { Brings (declared_of decls.now.names) (report_of report.now) event.now self.old result }
         ensures same { self.new ≡ self.old }
         ensures asks { asks.new ≤ asks.old + 2 }
         ensures rises { asks.old ≤ asks.new }
@@ -189,7 +189,7 @@ impl Fold {
 
     /// The answer so far. Without a key it takes no memory.
     pub fn read(&self) -> Result<Answer, Memory>
-        ensures answer { IfOk result (λ a. finding_of a ≡ self.now.answer) }
+        ensures answer { IfOk result (λ a. answer_of a ≡ self.now.answer) }
         ensures single { IsSingle self.now.answer → IsOk result }
     {
         match &self.running {
@@ -200,7 +200,7 @@ impl Fold {
 
     /// The answer over the events.
     pub fn answer(self) -> Result<Answer, Memory>
-        ensures answer { IfOk result (λ a. finding_of a ≡ self.answer) }
+        ensures answer { IfOk result (λ a. answer_of a ≡ self.answer) }
         ensures single { IsSingle self.answer → IsOk result }
     {
         self.read()
@@ -209,8 +209,8 @@ impl Fold {
 
 // The answer over no event, where the start is this.
 fn running_from(alloc: Global, report: &Report, start: &Option<Value>) -> Running
-    ensures { (declared : Declared) (args : _) → start.now ≡ start_lem declared (query_of report.now) args
-        → IsAnswer declared (query_of report.now) args [] (answer_in result) }
+    ensures { (declared : Declared) (args : _) → start.now ≡ reports.start declared (report_of report.now) args
+        → IsAnswer declared (report_of report.now) args [] (answer_in result) }
 {
     match &report.key {
         None => Running::Carried(*start),
@@ -228,7 +228,7 @@ fn brought<L>(
     event: &Event,
     asks: &mut Asks<L>,
 ) -> Change
-    ensures brings { Brings (declared_of decls.now.names) (query_of report.now) event.now
+    ensures brings { Brings (declared_of decls.now.names) (report_of report.now) event.now
         (fold_by scope.old start.now running.now) result }
     ensures same { scope.new ≡ scope.old }
     ensures asks { asks.new ≤ asks.old + 2 }
@@ -262,9 +262,9 @@ fn key_of<L>(
     event: &Event,
     asks: &mut Asks<L>,
 ) -> Option<Value>
-    ensures value { (args : _) (key : _) → scope.old ≡ given (query_of report.now) args
-        → (query_of report.now).key ≡ Some key
-        → result ≡ key_on (declared_of decls.now.names) (query_of report.now) args key event.now }
+    ensures value { (args : _) (key : _) → scope.old ≡ given (report_of report.now) args
+        → (report_of report.now).key ≡ Some key
+        → result ≡ key_on (declared_of decls.now.names) (report_of report.now) args key event.now }
     ensures same { scope.new ≡ scope.old }
     ensures asks { asks.new ≤ asks.old + 1 }
     ensures rises { asks.old ≤ asks.new }
@@ -284,8 +284,8 @@ fn stage<L>(
     event: &Event,
     asks: &mut Asks<L>,
 ) -> Option<Value>
-    ensures value { (args : _) → scope.old ≡ given (query_of report.now) args
-        → result ≡ stage_lem (declared_of decls.now.names) (query_of report.now) args carried event.now }
+    ensures value { (args : _) → scope.old ≡ given (report_of report.now) args
+        → result ≡ reports.stage (declared_of decls.now.names) (report_of report.now) args carried event.now }
     ensures same { scope.new ≡ scope.old }
     ensures asks { asks.new ≡ one_more asks.old }
     ensures rises { asks.old ≤ asks.new }
@@ -305,7 +305,7 @@ pub fn value_of<L>(
 ) -> Result<Answer, Memory>
     requires { length args.now.items ≡ length report.now.params.items }
     ensures answer { IfOk result (λ a.
-        IsAnswer (declared_of decls.now.names) (query_of report.now) args.now.items events.now (finding_of a)) }
+        IsAnswer (declared_of decls.now.names) (report_of report.now) args.now.items events.now (answer_of a)) }
     ensures asks { asks.new ≤ asks.old + 1 + 2 * length events.now }
     ensures rises { asks.old ≤ asks.new }
 {

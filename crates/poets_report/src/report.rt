@@ -1,7 +1,7 @@
 //! Reports and their answers.
 ghost use Rattle.std.specs.Prelude.{◌≡◌, IfOk, option_map};
 ghost use Rattle.poets_expr.specs.Expression.{expression_of};
-ghost use Rattle.poets_report.specs.Query.{query_of};
+ghost use Rattle.poets_report.specs.Reports.{report_of};
 
 use poets_expr::{Expr, build};
 use poets_syntax::build::copy_params;
@@ -36,7 +36,7 @@ pub enum Answer {
 
 /// The same report.
 pub fn copy(alloc: Global, report: &Report) -> Result<Report, Memory>
-    ensures { IfOk result (λ r. query_of r ≡ query_of report.now) }
+    ensures { IfOk result (λ r. report_of r ≡ report_of report.now) }
 {
     let params = copy_params(alloc, &report.params)?;
     let start = build::copy(alloc, &report.start)?;

@@ -12,7 +12,8 @@ use Rattle.poets_expr.specs.Expression.{Expression, expression_of}
 use Rattle.poets_syntax.specs.declared.term.Binders.{Binders}
 use Rattle.poets_syntax.specs.Contract.{Contract, Transmit, App}
 use Rattle.poets_syntax.specs.Arguments.{arguments}
-use Rattle.poets_syntax.specs.Book.{Definitions, Definition, template_in}
+use Rattle.poets_syntax.specs.Plain.{Book, Template}
+use Rattle.poets_syntax.specs.Book.{template_in}
 use Rattle.poets_syntax.specs.Applied.{CountsFit}
 use Rattle.poets_syntax.specs.Marks.{Marks}
 use Rattle.poets_syntax.specs.Residual.{after, body_of}
@@ -49,7 +50,7 @@ pub app_is : (nodes : List Node) (place : ℕ) {n : Node} {f : Name} {args : Arc
 app_is nodes place {f = f} h e copies q = row_is nodes place h e ∙ ap (λ xs. App f (map expression_of xs)) (sym q)
 
 -- two rows, both of which stand ready in a whole
-module _ (book : Definitions) (marks : Marks) (whole : Contract) (old mid : List Node) (x : Extends old mid) (a b : ℕ) (l : b < length old)
+module _ (book : Book) (marks : Marks) (whole : Contract) (old mid : List Node) (x : Extends old mid) (a b : ℕ) (l : b < length old)
     (m : ReadyIn book marks (contract_at old a) whole) (n : ReadyIn book marks (contract_at old b) whole) (memo notes more : ℕ → Option ℕ) (new : List Node)
     {u v w : ℕ} {E : Type 0} {f : ℕ} (s : IsSpent book marks (contract_at old a) (IsNoted old memo) (IsNoted mid notes) u v {E = E} (Ok f)) where
   both_spent : {r : Result ℕ E} → IsSpent book marks (contract_at mid b) (IsNoted mid notes) (IsNoted new more) v w r →
@@ -72,7 +73,7 @@ module _ (book : Definitions) (marks : Marks) (whole : Contract) (old mid : List
       (always r (λ d h. noted_later new last y more (λ k j i. (all k j i).0) d h)) (both_spent t)
 
 -- what one row asked, where more rows were added
-module _ (book : Definitions) (marks : Marks) (a c : Contract) where
+module _ (book : Book) (marks : Marks) (a c : Contract) where
   pub passed_spent : (Before : Contract → Type 0) (e : Event) (old : List Node) (memo : ℕ → Option ℕ) → AreNotes book marks e old memo → (new : List Node) → Extends old new →
       (u v : ℕ) {E : Type 0} (f g : ℕ) → ReadyIn book marks a c → IsSpent book marks a Before (IsNoted old memo) u v {E = E} (Ok f) →
       IsSpent book marks c Before (IsNoted new memo) u v {E = E} (Ok g)
@@ -88,7 +89,7 @@ module _ (book : Definitions) (marks : Marks) (a c : Contract) where
       (λ d h. h) (λ d h. inr h) s
 
 -- a row that is not noted, whose derivation adds no notes
-module _ (book : Definitions) (marks : Marks) (e : Event) (old : List Node) (memo : ℕ → Option ℕ) (all : AreNotes book marks e old memo) (place : ℕ) where
+module _ (book : Book) (marks : Marks) (e : Event) (old : List Node) (memo : ℕ → Option ℕ) (all : AreNotes book marks e old memo) (place : ℕ) where
   inside : (k v : ℕ) → memo k ≡ Some v → k < length old
   inside k v m = (all k v m).0
 
@@ -115,8 +116,8 @@ module _ (book : Definitions) (marks : Marks) (e : Event) (old : List Node) (mem
           row_spent (subst (λ k. IsAmong k (ready book marks k)) (sym whole) (ready-transmit book marks b p c)) u v (omega (arith, paid, ap (asked_of book) whole))
 
 -- an application of a template
-module _ (book : Definitions) (marks : Marks) (study : IsStudied book marks) (c : Contract) (f : Name) (args : List Expression) (whole : c ≡ App f args)
-    (h : CountsFit book c) (t : Definition) (q : template_in book.templates f ≡ Some t) where
+module _ (book : Book) (marks : Marks) (study : IsStudied book marks) (c : Contract) (f : Name) (args : List Expression) (whole : c ≡ App f args)
+    (h : CountsFit book c) (t : Template) (q : template_in book.templates f ≡ Some t) where
   fits : CountsFit book (App f args)
   fits = subst (CountsFit book) whole h
 

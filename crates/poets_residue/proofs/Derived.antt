@@ -2,7 +2,7 @@
 use Rattle.std.proofs.Common.{◌≡◌, ℕ, ◌+◌, ◌<◌, ◌≤◌, true, false, nat_eq, cond, arith, List, length, Option, Some, refl, sym, ◌∙◌, ap, subst, Result, IfOk}
 use Rattle.poets_value.specs.declared.event.Event.{Event}
 use Rattle.poets_syntax.specs.Contract.{Contract, Failure, Plus, Par, Seq}
-use Rattle.poets_syntax.specs.Book.{Definitions}
+use Rattle.poets_syntax.specs.Plain.{Book}
 use Rattle.poets_syntax.specs.Applied.{CountsFit}
 use Rattle.poets_syntax.specs.Marks.{Marks, nullable}
 use Rattle.poets_syntax.specs.Normal.{plus, par, seq}
@@ -18,7 +18,7 @@ use Rattle.poets_residue.proofs.Noted.{notes_later, noted_stands, noted_notes, k
 use Rattle.poets_residue.proofs.Widths.{width-plus, width-par, width-seq, width-first, size-width}
 
 -- the second of two parts, once rows were added
-module _ (book : Definitions) (marks : Marks) (old new : List Node) (x : Extends old new) (b : ℕ) (l : b < length old) where
+module _ (book : Book) (marks : Marks) (old new : List Node) (x : Extends old new) (b : ℕ) (l : b < length old) where
   pub next_within : b < length new
   next_within = omega (arith, l, length-extends old new x)
 
@@ -34,7 +34,7 @@ module _ (book : Definitions) (marks : Marks) (old new : List Node) (x : Extends
   pub next_asks : (y z : ℕ) → AsksInWidth book marks (contract_at new b) y z → AsksInWidth book marks (contract_at old b) y z
   next_asks y z h = subst (λ c. AsksInWidth book marks c y z) (contract_at-later old new x b l) h
 
-module _ (book : Definitions) (marks : Marks) (e : Event) where
+module _ (book : Book) (marks : Marks) (e : Event) where
   -- the residual of a row that is known
   pub known_derived : (nodes : List Node) (notes : ℕ → Option ℕ) → AreNotes book marks e nodes notes → (place v : ℕ) → notes place ≡ Some v →
       IsDerived book marks e nodes notes (contract_at nodes place) v
@@ -108,7 +108,7 @@ module _ (book : Definitions) (marks : Marks) (e : Event) where
           stands = over_stands book marks e old n₁ mid x y a b f q l m d.stands t n₂ z g u.stands new p k j;
         }) h
 
-module _ (book : Definitions) (marks : Marks) where
+module _ (book : Book) (marks : Marks) where
   -- nothing was asked
   pub none_asked : (c : Contract) (x : ℕ) → AsksInWidth book marks c x x
   none_asked c x = omega (arith, size-width book marks c)
@@ -142,7 +142,7 @@ module _ (book : Definitions) (marks : Marks) where
       omega (arith, whole)
 
 -- contracts with one residual
-pub same_derived : (book : Definitions) (marks : Marks) (e : Event) (nodes : List Node) (memo : ℕ → Option ℕ) (c d : Contract) → after book marks e c ≡ after book marks e d →
+pub same_derived : (book : Book) (marks : Marks) (e : Event) (nodes : List Node) (memo : ℕ → Option ℕ) (c d : Contract) → after book marks e c ≡ after book marks e d →
     {E : Type 0} (r : Result ℕ E) → IfOk r (IsDerived book marks e nodes memo c) → IfOk r (IsDerived book marks e nodes memo d)
 same_derived book marks e nodes memo c d q r h =
     one_ok (IsDerived book marks e nodes memo c) (IsDerived book marks e nodes memo d) r

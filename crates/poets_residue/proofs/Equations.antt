@@ -6,7 +6,8 @@ use Rattle.poets_expr.specs.Expression.{Expression}
 use Rattle.poets_expr.specs.Val.{val}
 use Rattle.poets_syntax.specs.declared.term.Binders.{Binders}
 use Rattle.poets_syntax.specs.Contract.{Contract, Success, Failure, Transmit, Plus, Par, Seq, App}
-use Rattle.poets_syntax.specs.Book.{Definitions, Definition, template_in, taken}
+use Rattle.poets_syntax.specs.Plain.{Book, Template}
+use Rattle.poets_syntax.specs.Book.{template_in, taken}
 use Rattle.poets_syntax.specs.Replace.{replace}
 use Rattle.poets_syntax.specs.Marks.{Marks, nullable}
 use Rattle.poets_syntax.specs.Applied.{CountsFit}
@@ -20,7 +21,7 @@ use Rattle.poets_residue.specs.Unfolding.{UnfoldsWithin, IsStudied}
 use Rattle.poets_residue.proofs.Kept.{after_at-failure}
 use Rattle.poets_residue.proofs.Unfoldings.{found}
 
-module _ (book : Definitions) (marks : Marks) (e : Event) where
+module _ (book : Book) (marks : Marks) (e : Event) where
   pub after_at-success : (d : ℕ) → after_at d book marks e Success ≡ Failure
   after_at-success zero = refl
   after_at-success (suc d) = refl
@@ -101,6 +102,6 @@ module _ (book : Definitions) (marks : Marks) (e : Event) where
   after-none study f args h q =
       after-app study f args h ∙ ap (λ o. after book marks e (body_of book marks o args)) q ∙ after_at-failure (length book.templates) book marks e
 
-  pub after-some : IsStudied book marks → (f : Name) (args : List Expression) → CountsFit book (App f args) → (t : Definition) →
+  pub after-some : IsStudied book marks → (f : Name) (args : List Expression) → CountsFit book (App f args) → (t : Template) →
       template_in book.templates f ≡ Some t → after book marks e (App f args) ≡ after book marks e (body_of book marks (Some t) args)
   after-some study f args h t q = after-app study f args h ∙ ap (λ o. after book marks e (body_of book marks o args)) q

@@ -8,7 +8,8 @@ use Rattle.poets_expr.specs.Subst.{Givens}
 use Rattle.poets_syntax.specs.declared.term.Binders.{Binders}
 use Rattle.poets_syntax.specs.Contract.{Contract}
 use Rattle.poets_syntax.specs.Contract as C
-use Rattle.poets_syntax.specs.Book.{Definitions, Definition, template_in, taken, parameter_env}
+use Rattle.poets_syntax.specs.Plain.{Book, Template}
+use Rattle.poets_syntax.specs.Book.{template_in, taken, parameter_env}
 use Rattle.poets_syntax.specs.Between.{Between}
 use Rattle.poets_syntax.specs.Replace.{replace, env_of}
 use Rattle.poets_syntax.specs.Perf.{Holds}
@@ -27,7 +28,7 @@ use Rattle.poets_norm.proofs.Builders.{plus_in, plus_out, par_in, par_out, seq_i
 use Rattle.poets_norm.proofs.Meaning.{normal_in, normal_out}
 
 -- the traces of the second contract are those that may follow the event in the first
-abbrev pub Follows : Definitions → Event → Contract → Contract → Type 0
+abbrev pub Follows : Book → Event → Contract → Contract → Type 0
 Follows book e c r = (s : List Event) (n : ℕ) → May book [] r s n ↔ May book [] c (e ∷ s) n
 
 -- the first event of a trace goes to the first part, or the first part is over
@@ -39,7 +40,7 @@ first_event {e = e} {s = s} {s₁ = x ∷ s₁} {s₂ = s₂} q none some =
     let tail : s ≡ s₁ ++ s₂ = cc in
     some s₁ head tail
 
-module _ (book : Definitions) (marks : Marks) (right : AreRight book marks) (given : Givens) (c : Contract)
+module _ (book : Book) (marks : Marks) (right : AreRight book marks) (given : Givens) (c : Contract)
     (values : HaveDeclaredNames book.declared given) (formed : IsWellFormed book.declared c) where
   alike : Alike book.declared [] (replace given c) (env_of given ++ []) c
   alike = Alike-replace book.declared c [] given (env_of given ++ []) (BindersAreUndeclared-of book.declared c formed)
@@ -56,7 +57,7 @@ module _ (book : Definitions) (marks : Marks) (right : AreRight book marks) (giv
       subst (λ env. May book env c s n) (append-nil (env_of given))
       (Alike-May alike (normal_out book marks right (replace given c) (IsWellFormed-replace book.declared given values c formed) [] (λ x k. refl) s n m))
 
-module _ (book : Definitions) (e : Event) where
+module _ (book : Book) (e : Event) where
   pub Follows-success : Follows book e C.Success C.Failure
   Follows-success s n = ((λ m. elim m [ ]), (λ m. done m))
     where
@@ -126,7 +127,7 @@ module _ (book : Definitions) (e : Event) where
       body : {s : List Event} {n : ℕ} → May book [] (C.App f args) (e ∷ s) n → May book [] C.Failure s n
       body (May.Body q l m) = absurd cc
 
-module _ (book : Definitions) (marks : Marks) (right : AreRight book marks) (e : Event) where
+module _ (book : Book) (marks : Marks) (right : AreRight book marks) (e : Event) where
   pub Follows-taken : IsDeclaredEvent book.declared e → (b : Binders) (p : Expression) (c : Contract) → IsWellFormed book.declared c →
       Holds book (taken b e []) p → Follows book e (C.Transmit b p c) (normal book marks (replace (event_givens b e) c))
   Follows-taken declared b p c formed h s n = (
@@ -137,7 +138,7 @@ module _ (book : Definitions) (marks : Marks) (right : AreRight book marks) (e :
       took : {s : List Event} {n : ℕ} → May book [] (C.Transmit b p c) (e ∷ s) n → May book [] (normal book marks (replace (event_givens b e) c)) s n
       took (May.Taken _ m) = replaced_in book marks right (event_givens b e) c (HaveDeclaredNames-event book.declared b e declared) formed m
 
-  pub Follows-body : (f : Name) (args : List Expression) (t : Definition) {r : Contract} → IsWellFormed book.declared t.body →
+  pub Follows-body : (f : Name) (args : List Expression) (t : Template) {r : Contract} → IsWellFormed book.declared t.body →
       HaveDeclaredLiterals book.declared args → template_in book.templates f ≡ Some t → length t.params ≡ length args →
       Follows book e (normal book marks (replace (argument_givens book.declared t.params args) t.body)) r → Follows book e (C.App f args) r
   Follows-body f args t {r} formed literals q l follows s n =

@@ -4,7 +4,8 @@ use Rattle.poets_value.specs.declared.event.Event.{Event}
 use Rattle.poets_expr.specs.Expression.{Expression}
 use Rattle.poets_expr.specs.Val.{val}
 use Rattle.poets_syntax.specs.Contract.{Contract, Success, Failure, Transmit, Plus, Par, Seq, App}
-use Rattle.poets_syntax.specs.Book.{Definitions, Definition, template_in, taken}
+use Rattle.poets_syntax.specs.Plain.{Book, Template}
+use Rattle.poets_syntax.specs.Book.{template_in, taken}
 use Rattle.poets_syntax.specs.Replace.{replace}
 use Rattle.poets_syntax.specs.Marks.{Marks, nullable}
 use Rattle.poets_syntax.specs.Normal.{par, seq}
@@ -22,8 +23,8 @@ abbrev pub IsJoined : Marks → Contract → Type 0
 IsJoined marks (Seq a b) = nullable marks a ≡ true
 IsJoined marks _ = Unit {0}
 
-module _ (book : Definitions) (marks : Marks) (e : Event) where
-  distinct-body : (d : ℕ) (o : Option Definition) (args : List Expression) → IsDistinctChoice (after_at d book marks e (body_of book marks o args))
+module _ (book : Book) (marks : Marks) (e : Event) where
+  distinct-body : (d : ℕ) (o : Option Template) (args : List Expression) → IsDistinctChoice (after_at d book marks e (body_of book marks o args))
   distinct-body d o args =
       let c = body_of book marks o args in
       let built = of_body book marks (FailureOr (IsBuilt book marks)) (inl refl) o args

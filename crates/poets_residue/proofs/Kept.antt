@@ -6,7 +6,8 @@ use Rattle.poets_expr.specs.Expression.{Expression}
 use Rattle.poets_expr.specs.Val.{val}
 use Rattle.poets_syntax.specs.declared.term.Binders.{Binders}
 use Rattle.poets_syntax.specs.Contract.{Contract, Success, Failure, Transmit, Plus, Par, Seq, App}
-use Rattle.poets_syntax.specs.Book.{Definitions, Definition, template_in, taken}
+use Rattle.poets_syntax.specs.Plain.{Book, Template}
+use Rattle.poets_syntax.specs.Book.{template_in, taken}
 use Rattle.poets_syntax.specs.Replace.{replace}
 use Rattle.poets_syntax.specs.Marks.{Marks, AreRight, nullable}
 use Rattle.poets_syntax.specs.Normal.{normal, par, seq}
@@ -14,16 +15,15 @@ use Rattle.poets_syntax.specs.WellFormed.{IsWellFormed, IsDeclaredEvent, AreWell
 use Rattle.poets_syntax.specs.Residual.{event_givens, argument_givens, is_true, after_by, after_at, body_of}
 use Rattle.poets_syntax.proofs.Givens.{HaveDeclaredNames-event, HaveDeclaredNames-arguments}
 use Rattle.poets_syntax.proofs.WellFormedness.{IsWellFormed-replace}
-use Rattle.poets_syntax.specs.Applied.{CountsFit}
+use Rattle.poets_syntax.specs.Applied.{CountsFit, BodiesCountsFit}
 use Rattle.poets_norm.proofs.Parts.{IsOfParts, kept_by_plus, kept_by_par, kept_by_seq, FailureOr, IsKeptOrFailure}
 use Rattle.poets_norm.proofs.WellFormedness.{IsWellFormed-of_parts, IsWellFormed-normal}
 use Rattle.poets_norm.proofs.Counts.{CountsFit-of_parts, CountsFit-normal, CountsFit-replace}
 use Rattle.poets_norm.proofs.Hope.{IsHopefulThroughout, IsFailureOrHopeful, IsHopefulThroughout-kept, IsFailureOrHopeful-normal}
 use Rattle.poets_norm.proofs.NormalForms.{IsBuilt, IsBuilt-kept, built-normal}
-use Rattle.poets_syntax.specs.Applied.{BodiesCountsFit}
 
 -- nothing is left of `Failure`
-pub after_at-failure : (d : ℕ) (book : Definitions) (marks : Marks) (e : Event) → after_at d book marks e Failure ≡ Failure
+pub after_at-failure : (d : ℕ) (book : Book) (marks : Marks) (e : Event) → after_at d book marks e Failure ≡ Failure
 after_at-failure zero book marks e = refl
 after_at-failure (suc d) book marks e = refl
 
@@ -32,7 +32,7 @@ either_way P true h k = h
 either_way P false h k = k
 
 -- what has it exactly where its parts have it
-module _ (book : Definitions) (marks : Marks) (e : Event) (P : Contract → Type 0) (of : IsOfParts P)
+module _ (book : Book) (marks : Marks) (e : Event) (P : Contract → Type 0) (of : IsOfParts P)
     (taken_on : (b : Binders) (p : Expression) (c : Contract) → P (Transmit b p c) → P (normal book marks (replace (event_givens b e) c))) where
   kept_by_after_by : (unfold_at : Name → List Expression → Contract) → ((f : Name) (args : List Expression) → P (App f args) → P (unfold_at f args)) →
       (c : Contract) → P c → P (after_by unfold_at book marks e c)
@@ -62,25 +62,25 @@ module _ (book : Definitions) (marks : Marks) (e : Event) (P : Contract → Type
       (λ f args k. kept_by_after_at bodies d (body_of book marks (template_in book.templates f) args) (bodies f args k)) c h
 
 -- a fact of the body of each template
-pub of_body : (book : Definitions) (marks : Marks) (P : Contract → Type 0) → P Failure → (o : Option Definition) (args : List Expression) →
-    ((t : Definition) → o ≡ Some t → P (body_of book marks (Some t) args)) → P (body_of book marks o args)
+pub of_body : (book : Book) (marks : Marks) (P : Contract → Type 0) → P Failure → (o : Option Template) (args : List Expression) →
+    ((t : Template) → o ≡ Some t → P (body_of book marks (Some t) args)) → P (body_of book marks o args)
 of_body book marks P none None args h = none
 of_body book marks P none (Some t) args h = h t refl
 
 -- residuals are well-formed
-pub IsWellFormed-body : (book : Definitions) (marks : Marks) (t : Definition) (args : List Expression) →
+pub IsWellFormed-body : (book : Book) (marks : Marks) (t : Template) (args : List Expression) →
     IsWellFormed book.declared t.body → IsWellFormed book.declared (App t.name args) → IsWellFormed book.declared (body_of book marks (Some t) args)
 IsWellFormed-body book marks t args h k =
     IsWellFormed-normal book marks (replace (argument_givens book.declared t.params args) t.body)
     (IsWellFormed-replace book.declared (argument_givens book.declared t.params args) (HaveDeclaredNames-arguments book.declared t.params args k) t.body h)
 
-pub IsWellFormed-taken : (book : Definitions) (marks : Marks) (e : Event) → IsDeclaredEvent book.declared e → (b : Binders) (c : Contract) →
+pub IsWellFormed-taken : (book : Book) (marks : Marks) (e : Event) → IsDeclaredEvent book.declared e → (b : Binders) (c : Contract) →
     IsWellFormed book.declared c → IsWellFormed book.declared (normal book marks (replace (event_givens b e) c))
 IsWellFormed-taken book marks e declared b c h =
     IsWellFormed-normal book marks (replace (event_givens b e) c)
     (IsWellFormed-replace book.declared (event_givens b e) (HaveDeclaredNames-event book.declared b e declared) c h)
 
-pub IsWellFormed-after_at : (book : Definitions) (marks : Marks) → AreWellFormed book → (e : Event) → IsDeclaredEvent book.declared e →
+pub IsWellFormed-after_at : (book : Book) (marks : Marks) → AreWellFormed book → (e : Event) → IsDeclaredEvent book.declared e →
     (d : ℕ) (c : Contract) → IsWellFormed book.declared c → IsWellFormed book.declared (after_at d book marks e c)
 IsWellFormed-after_at book marks formed e declared =
     kept_by_after_at book marks e (IsWellFormed book.declared) (IsWellFormed-of_parts book.declared)
@@ -89,13 +89,13 @@ IsWellFormed-after_at book marks formed e declared =
     (λ t q. IsWellFormed-body book marks t args (formed f t q) h))
 
 -- the numbers of arguments in residuals fit
-pub CountsFit-body : (book : Definitions) (marks : Marks) → BodiesCountsFit book → (f : Name) (args : List Expression) →
+pub CountsFit-body : (book : Book) (marks : Marks) → BodiesCountsFit book → (f : Name) (args : List Expression) →
     CountsFit book (body_of book marks (template_in book.templates f) args)
 CountsFit-body book marks fit f args = of_body book marks (CountsFit book) tt (template_in book.templates f) args
     (λ t q. CountsFit-normal book marks (replace (argument_givens book.declared t.params args) t.body)
     (CountsFit-replace book (argument_givens book.declared t.params args) t.body (fit f t q)))
 
-pub CountsFit-after_at : (book : Definitions) (marks : Marks) → BodiesCountsFit book → (e : Event) →
+pub CountsFit-after_at : (book : Book) (marks : Marks) → BodiesCountsFit book → (e : Event) →
     (d : ℕ) (c : Contract) → CountsFit book c → CountsFit book (after_at d book marks e c)
 CountsFit-after_at book marks fit e =
     kept_by_after_at book marks e (CountsFit book) (CountsFit-of_parts book)
@@ -103,7 +103,7 @@ CountsFit-after_at book marks fit e =
     (λ f args h. CountsFit-body book marks fit f args)
 
 -- what the builders keep, but for `Failure`, where the parts meet a premise
-module _ (book : Definitions) (marks : Marks) (e : Event) (P : Contract → Type 0) (of : IsOfParts P) (Q : Contract → Type 0) (kept : IsKeptOrFailure Q)
+module _ (book : Book) (marks : Marks) (e : Event) (P : Contract → Type 0) (of : IsOfParts P) (Q : Contract → Type 0) (kept : IsKeptOrFailure Q)
     (taken_on : (b : Binders) (p : Expression) (c : Contract) → P (Transmit b p c) → FailureOr Q (normal book marks (replace (event_givens b e) c))) where
   or_failure_after_by : (unfold_at : Name → List Expression → Contract) →
       ((f : Name) (args : List Expression) → P (App f args) → FailureOr Q (unfold_at f args)) →
@@ -144,7 +144,7 @@ module _ (book : Definitions) (marks : Marks) (e : Event) (P : Contract → Type
       (premises f args i) (bodies f args)) c h k
 
 -- the residual of what is `Failure`, or hopeful in each part, is again one or the other
-pub IsFailureOrHopeful-after_at : (book : Definitions) (marks : Marks) → AreRight book marks → BodiesCountsFit book → (e : Event) →
+pub IsFailureOrHopeful-after_at : (book : Book) (marks : Marks) → AreRight book marks → BodiesCountsFit book → (e : Event) →
     (d : ℕ) (c : Contract) → CountsFit book c → IsFailureOrHopeful book c → IsFailureOrHopeful book (after_at d book marks e c)
 IsFailureOrHopeful-after_at book marks right fit e =
     or_failure_after_at book marks e (CountsFit book) (CountsFit-of_parts book) (IsHopefulThroughout book) (IsHopefulThroughout-kept book)
@@ -166,7 +166,7 @@ nothing_asked = record {
   seq_parts = λ a b h. (tt, tt);
 }
 
-pub built-after_at : (book : Definitions) (marks : Marks) (e : Event) (d : ℕ) (c : Contract) →
+pub built-after_at : (book : Book) (marks : Marks) (e : Event) (d : ℕ) (c : Contract) →
     FailureOr (IsBuilt book marks) c → FailureOr (IsBuilt book marks) (after_at d book marks e c)
 built-after_at book marks e d c h =
     or_failure_after_at book marks e (λ _. Unit {0}) nothing_asked (IsBuilt book marks) (IsBuilt-kept book marks)

@@ -3,7 +3,7 @@ use Rattle.std.proofs.Common.{◌≡◌, ℕ, ◌<◌, true, false, nat_eq, cond
 use borrow.Author.Tests.{eqb-true}
 use Rattle.poets_value.specs.declared.event.Event.{Event}
 use Rattle.poets_syntax.specs.Contract.{Contract, Plus, Par, Seq}
-use Rattle.poets_syntax.specs.Book.{Definitions}
+use Rattle.poets_syntax.specs.Plain.{Book}
 use Rattle.poets_syntax.specs.Marks.{Marks, nullable}
 use Rattle.poets_syntax.specs.Normal.{plus, par, seq}
 use Rattle.poets_syntax.specs.Residual.{after}
@@ -16,7 +16,7 @@ use Rattle.poets_cons.proofs.Standing.{contract_at-later, length-extends, stands
 use Rattle.poets_residue.specs.Notes.{AreNotes}
 use Rattle.poets_residue.proofs.Equations.{after-plus, after-par, after-seq}
 
-module _ (book : Definitions) (marks : Marks) (e : Event) where
+module _ (book : Book) (marks : Marks) (e : Event) where
   -- notes stay right
   pub notes_later : (old new : List Node) → Extends old new → (notes : ℕ → Option ℕ) → AreNotes book marks e old notes → AreNotes book marks e new notes
   notes_later old new x notes all k v h =

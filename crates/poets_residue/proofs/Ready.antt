@@ -7,7 +7,8 @@ use Rattle.poets_value.specs.declared.value.Name.{Name}
 use Rattle.poets_expr.specs.Expression.{Expression}
 use Rattle.poets_syntax.specs.Contract.{Contract, Success, Failure, Transmit, Plus, Par, Seq, App}
 use Rattle.poets_syntax.specs.Same.{same_contract}
-use Rattle.poets_syntax.specs.Book.{Definitions, Definition, template_in}
+use Rattle.poets_syntax.specs.Plain.{Book, Template}
+use Rattle.poets_syntax.specs.Book.{template_in}
 use Rattle.poets_syntax.specs.Applied.{CountsFit, BodiesCountsFit}
 use Rattle.poets_syntax.specs.Marks.{Marks, AreRight, nullable}
 use Rattle.poets_syntax.specs.Guarded.{IsGuarded}
@@ -86,7 +87,7 @@ distinct_both (c ∷ cs) ds h k apart = distinct_more c (cs ++ ds)
     ])
     (distinct_both cs ds (IsDistinct-tail same_contract c cs h) k (λ d m. apart d (among_later d c cs m)))
 
-module _ (book : Definitions) (marks : Marks) where
+module _ (book : Book) (marks : Marks) where
   ready_at-transmit : (d : ℕ) (b : _) (p : Expression) (c : Contract) → ready_at d book marks (Transmit b p c) ≡ Transmit b p c ∷ []
   ready_at-transmit zero b p c = refl
   ready_at-transmit (suc d) b p c = refl
@@ -236,7 +237,7 @@ module _ (book : Definitions) (marks : Marks) where
       pub app_ready_itself : IsAmong (App f args) (ready book marks (App f args))
       app_ready_itself = rw ready-app (among_here (App f args) (ready book marks (body_of book marks (template_in book.templates f) args)))
 
-      module _ (t : Definition) (q : template_in book.templates f ≡ Some t) where
+      module _ (t : Template) (q : template_in book.templates f ≡ Some t) where
         pub app_ready_body : ReadyIn (body_of book marks (Some t) args) (App f args)
         app_ready_body d m = rw (ready-app, q) (among_later d (App f args) (ready book marks (body_of book marks (Some t) args)) m)
 

@@ -16,7 +16,8 @@ use Rattle.poets_expr.specs.Fold.{is_closed, is_literal, is_folded, fold_closed,
 use Rattle.poets_syntax.specs.declared.term.Param.{Param}
 use Rattle.poets_syntax.specs.Contract.{Contract, Success, Failure, Transmit, Plus, Par, Seq, App}
 use Rattle.poets_syntax.specs.Arguments.{arguments}
-use Rattle.poets_syntax.specs.Book.{Definitions, Definition, template_in}
+use Rattle.poets_syntax.specs.Plain.{Book, Template}
+use Rattle.poets_syntax.specs.Book.{template_in}
 use Rattle.poets_syntax.specs.Marks.{Marks, nullable}
 use Rattle.poets_syntax.specs.Normal.{folded, params_in, app, normal}
 use Rattle.poets_syntax.specs.Replace.{replace}
@@ -118,13 +119,13 @@ module _ (declared : Declared) where
       omega (arith, sum_by-cons operated a args, here, rest)
 
 -- so an application of them asks what its body's arguments ask
-pub asked_of-literals : (book : Definitions) (f : Name) (args : List Expression) → AreLiterals book.declared args →
+pub asked_of-literals : (book : Book) (f : Name) (args : List Expression) → AreLiterals book.declared args →
     asked_of book (App f args) ≡ body_in (template_in book.templates f) arguments
 asked_of-literals book f args h = let none = operated-literals book.declared args h in omega (arith, none)
 
 -- ---- contracts
 
-module _ (book : Definitions) (reports : List Name) (marks : Marks) where
+module _ (book : Book) (reports : List Name) (marks : Marks) where
   same_arguments : (f g : Name) (xs ys : List Expression) → App f xs ≡ App g ys → xs ≡ ys
   same_arguments f g xs ys e = cc
 
@@ -135,7 +136,7 @@ module _ (book : Definitions) (reports : List Name) (marks : Marks) where
     | inr e ↦ (let none : Failure ≡ App f args = rw e at h in absurd cc)
   ]
 
-  params_known : (f : Name) (t : Definition) → template_in book.templates f ≡ Some t → params_in book f ≡ t.params
+  params_known : (f : Name) (t : Template) → template_in book.templates f ≡ Some t → params_in book f ≡ t.params
   params_known f t q = rw q refl
 
   AreLiterals-built : (f : Name) (args : List Expression) → IsTyped book reports [] (App f args) → app book marks f args ≡ App f args →

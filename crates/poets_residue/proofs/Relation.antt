@@ -2,7 +2,7 @@
 use Rattle.std.proofs.Common.{◌≡◌, refl, ap, ap₂, subst}
 use Rattle.poets_value.specs.declared.event.Event.{Event}
 use Rattle.poets_syntax.specs.Contract.{Contract}
-use Rattle.poets_syntax.specs.Book.{Definitions}
+use Rattle.poets_syntax.specs.Plain.{Book}
 use Rattle.poets_syntax.specs.Replace.{replace}
 use Rattle.poets_syntax.specs.Marks.{Marks, AreRight}
 use Rattle.poets_syntax.specs.Normal.{normal, plus, par, seq}
@@ -13,7 +13,7 @@ use Rattle.poets_norm.proofs.WellFormedness.{IsWellFormed-of_parts}
 use Rattle.poets_residue.proofs.Kept.{IsWellFormed-body, IsWellFormed-taken}
 use Rattle.poets_residue.proofs.Following.{Follows, Follows-success, Follows-failure, Follows-taken, Follows-refused, Follows-plus, Follows-par, Follows-over, Follows-seq, Follows-body}
 
-module _ (book : Definitions) (marks : Marks) (right : AreRight book marks) (formed : AreWellFormed book)
+module _ (book : Book) (marks : Marks) (right : AreRight book marks) (formed : AreWellFormed book)
     (e : Event) (declared : IsDeclaredEvent book.declared e) where
   pub After-follows : {c r : Contract} → After book marks e c r → IsWellFormed book.declared c → Follows book e c r
   After-follows After.Success h = Follows-success book e
@@ -28,7 +28,7 @@ module _ (book : Definitions) (marks : Marks) (right : AreRight book marks) (for
       Follows-body book marks right e f args t (formed f t q) h q l (After-follows a (IsWellFormed-body book marks t args (formed f t q) h))
 
 -- it is well-formed
-pub IsWellFormed-After : (book : Definitions) (marks : Marks) → AreWellFormed book → (e : Event) → IsDeclaredEvent book.declared e →
+pub IsWellFormed-After : (book : Book) (marks : Marks) → AreWellFormed book → (e : Event) → IsDeclaredEvent book.declared e →
     {c r : Contract} → After book marks e c r → IsWellFormed book.declared c → IsWellFormed book.declared r
 IsWellFormed-After book marks formed e declared After.Success h = tt
 IsWellFormed-After book marks formed e declared After.Failure h = tt
@@ -51,7 +51,7 @@ IsWellFormed-After book marks formed e declared (After.Body {f = f} {args = args
     IsWellFormed-After book marks formed e declared a (IsWellFormed-body book marks t args (formed f t q) h)
 
 -- there is one residual at most
-pub After-one : {book : Definitions} {marks : Marks} {e : Event} {c r r' : Contract} → After book marks e c r → After book marks e c r' → r ≡ r'
+pub After-one : {book : Book} {marks : Marks} {e : Event} {c r r' : Contract} → After book marks e c r → After book marks e c r' → r ≡ r'
 After-one After.Success After.Success = refl
 After-one After.Failure After.Failure = refl
 After-one (After.Taken q) (After.Taken k) = refl

@@ -8,7 +8,7 @@ use Rattle.std.proofs.lemmas.List.Sums.{sum_by-cons, sum_by-append}
 use borrow.Author.Tests.{eq-eqb}
 use Rattle.poets_syntax.specs.Contract.{Contract}
 use Rattle.poets_syntax.specs.Same.{same_contract}
-use Rattle.poets_syntax.specs.Book.{Definitions}
+use Rattle.poets_syntax.specs.Plain.{Book}
 use Rattle.poets_syntax.specs.Marks.{Marks}
 use Rattle.poets_syntax.proofs.Replacing.{truth}
 use Rattle.poets_cons.specs.declared.node.Node.{Node}
@@ -36,7 +36,7 @@ no_two : IsDistinct same_contract []
 unfolding IsDistinct
 no_two = tt
 
-module _ (book : Definitions) (marks : Marks) where
+module _ (book : Book) (marks : Marks) where
   module _ (c : Contract) (Before After : Contract → Type 0) (x : ℕ) {E : Type 0} where
     -- nothing is asked
     pub none_spent : (y : ℕ) → y ≤ x → (r : Result ℕ E) → IfOk r (λ _. (d : Contract) → Before d → After d) → IsSpent book marks c Before After x y r

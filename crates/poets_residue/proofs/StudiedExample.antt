@@ -8,7 +8,8 @@ use Rattle.poets_expr.specs.Expression.{Expression, Named}
 use Rattle.poets_syntax.specs.declared.term.Binders.{Binders}
 use Rattle.poets_syntax.specs.Applied.{CountsFit, BodiesCountsFit}
 use Rattle.poets_syntax.specs.Contract.{Success, Plus, App}
-use Rattle.poets_syntax.specs.Book.{Definitions, Definition, template_in}
+use Rattle.poets_syntax.specs.Plain.{Book, Template}
+use Rattle.poets_syntax.specs.Book.{template_in}
 use Rattle.poets_syntax.specs.Checked.{IsChecked}
 use Rattle.poets_syntax.specs.Guarded.{Exposes, UnguardedEdge, IsPath, IsGuarded}
 use Rattle.poets_syntax.specs.May.{May}
@@ -25,10 +26,10 @@ name n = record { id = n }
 abbrev binders : Binders
 binders = record { sender = name 2; receiver = name 3; what = name 4; day = name 5 }
 
-abbrev pub example : Definitions
+abbrev pub example : Book
 example = counting binders (name 0) (name 1)
 
-abbrev template : Definition
+abbrev template : Template
 template = record {
   name = name 0;
   params = record { name = name 1; ty = T.Int } ∷ [];
@@ -36,13 +37,13 @@ template = record {
 }
 
 -- what holds of the one template holds of each
-each_template : (P : Definition → Type 0) → P template → (f : Name) (t : Definition) → template_in example.templates f ≡ Some t → P t
+each_template : (P : Template → Type 0) → P template → (f : Name) (t : Template) → template_in example.templates f ≡ Some t → P t
 each_template P h f t q = elim (truth (same_name (name 0) f)) [
   | inl e ↦ subst P (same (rw e at q)) h
   | inr e ↦ (let none : _ = rw e at q in absurd cc)
 ]
   where
-    same : {t u : Definition} → Some t ≡ Some u → t ≡ u
+    same : {t u : Template} → Some t ≡ Some u → t ≡ u
     same e = cc
 
 nothing_exposed : (g : Name) → Exposes example template.body g → ⊥

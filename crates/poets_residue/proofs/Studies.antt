@@ -1,7 +1,7 @@
 -- A checked and guarded book with right marks is as the laws ask.
 use Rattle.std.proofs.Common.{List}
 use Rattle.poets_syntax.specs.declared.studied.Mark.{Mark}
-use Rattle.poets_syntax.specs.Book.{Definitions}
+use Rattle.poets_syntax.specs.Plain.{Book}
 use Rattle.poets_syntax.specs.Studied.{marks_in, IsStudiedBook}
 use Rattle.poets_syntax.specs.Typed.{scope_of}
 use Rattle.poets_syntax.proofs.Nullability.{CountsFit-fit}
@@ -9,7 +9,7 @@ use Rattle.poets_syntax.proofs.StudiedMarks.{AreRight-studied}
 use Rattle.poets_syntax.proofs.Typedness.{IsWellFormed-typed, BodiesFit-typed}
 use Rattle.poets_residue.specs.Unfolding.{IsStudied}
 
-pub IsStudied-book : (book : Definitions) (marks : List Mark) → IsStudiedBook book marks → IsStudied book (marks_in book.templates marks)
+pub IsStudied-book : (book : Book) (marks : List Mark) → IsStudiedBook book marks → IsStudied book (marks_in book.templates marks)
 IsStudied-book book marks h = record {
   right = AreRight-studied book marks h;
   formed = λ f t q. IsWellFormed-typed book h.checked.0 (scope_of t.params) t.body (h.checked.1.typed f t q).1;

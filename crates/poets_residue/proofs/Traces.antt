@@ -5,7 +5,7 @@ use Rattle.std.proofs.lemmas.List.Elements.{All-head, All-tail}
 use Rattle.std.proofs.lemmas.List.Sums.{fold-append}
 use Rattle.poets_value.specs.declared.event.Event.{Event}
 use Rattle.poets_syntax.specs.Contract.{Contract, Failure}
-use Rattle.poets_syntax.specs.Book.{Definitions}
+use Rattle.poets_syntax.specs.Plain.{Book}
 use Rattle.poets_syntax.specs.Perf.{Perf}
 use Rattle.poets_syntax.specs.May.{May}
 use Rattle.poets_syntax.specs.Marks.{Marks, Hopeful}
@@ -27,22 +27,22 @@ use Rattle.poets_residue.proofs.Following.{Follows}
 use Rattle.poets_residue.proofs.Unfoldings.{Follows-after_at}
 
 -- one event more
-pub residual_after-more : (book : Definitions) (marks : Marks) (o : Contract) (s : List Event) (e : Event) →
+pub residual_after-more : (book : Book) (marks : Marks) (o : Contract) (s : List Event) (e : Event) →
     residual_after book marks o (s ++ e ∷ []) ≡ after book marks e (residual_after book marks o s)
 residual_after-more book marks o s e = fold-append (λ c x. after book marks x c) (normal book marks o) s (e ∷ [])
 
 -- it is a normal form
-through_built : (book : Definitions) (marks : Marks) (s : List Event) (c : Contract) → FailureOr (IsBuilt book marks) c →
+through_built : (book : Book) (marks : Marks) (s : List Event) (c : Contract) → FailureOr (IsBuilt book marks) c →
     FailureOr (IsBuilt book marks) (fold (λ d e. after book marks e d) c s)
 through_built book marks [] c h = h
 through_built book marks (e ∷ s) c h = through_built book marks s (after book marks e c) (built-after_at book marks e (length book.templates) c h)
 
-pub trace_normal : (book : Definitions) (marks : Marks) (o : Contract) (s : List Event) →
+pub trace_normal : (book : Book) (marks : Marks) (o : Contract) (s : List Event) →
     normal book marks (residual_after book marks o s) ≡ residual_after book marks o s
 trace_normal book marks o s =
     normal_of_built book marks (residual_after book marks o s) (through_built book marks s (normal book marks o) (built-normal book marks o))
 
-module _ (book : Definitions) (marks : Marks) (study : IsStudied book marks) where
+module _ (book : Book) (marks : Marks) (study : IsStudied book marks) where
   -- a contract taken through the events of a trace
   abbrev through : Contract → List Event → Contract
   through c s = fold (λ d e. after book marks e d) c s

@@ -6,7 +6,8 @@ use Rattle.poets_value.specs.declared.event.Event.{Event}
 use Rattle.poets_expr.specs.Expression.{Expression}
 use Rattle.poets_syntax.specs.declared.term.Binders.{Binders}
 use Rattle.poets_syntax.specs.Contract.{Contract, Transmit, App}
-use Rattle.poets_syntax.specs.Book.{Definitions, template_in}
+use Rattle.poets_syntax.specs.Plain.{Book}
+use Rattle.poets_syntax.specs.Book.{template_in}
 use Rattle.poets_syntax.specs.Replace.{replace}
 use Rattle.poets_syntax.specs.Marks.{Marks}
 use Rattle.poets_syntax.specs.Normal.{normal}
@@ -18,7 +19,7 @@ use Rattle.poets_syntax.proofs.TypedGivens.{IsTyped-event, IsTyped-arguments}
 use Rattle.poets_norm.proofs.TypedNormals.{IsTyped-of_parts, IsTyped-normal}
 use Rattle.poets_residue.proofs.Kept.{kept_by_after_at, of_body}
 
-module _ (book : Definitions) (reports : List Name) (marks : Marks) where
+module _ (book : Book) (reports : List Name) (marks : Marks) where
   closed_normal : (c : Contract) → IsTyped book reports [] c → IsTyped book reports [] (normal book marks c)
   closed_normal = IsTyped-normal book reports marks [] (KeepsTypes-nil book.declared)
 

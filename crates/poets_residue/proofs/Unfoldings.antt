@@ -6,7 +6,8 @@ use Rattle.poets_expr.specs.Expression.{Expression}
 use Rattle.poets_expr.specs.Val.{val}
 use Rattle.poets_syntax.specs.Contract.{Contract}
 use Rattle.poets_syntax.specs.Contract as C
-use Rattle.poets_syntax.specs.Book.{Definitions, Definition, template_in, taken}
+use Rattle.poets_syntax.specs.Plain.{Book, Template}
+use Rattle.poets_syntax.specs.Book.{template_in, taken}
 use Rattle.poets_syntax.specs.Marks.{Marks, AreRight, Nullable, nullable}
 use Rattle.poets_syntax.specs.Normal.{plus, par, seq}
 use Rattle.poets_syntax.specs.WellFormed.{IsWellFormed, IsDeclaredEvent, AreWellFormed, HaveDeclaredLiterals}
@@ -19,26 +20,26 @@ use Rattle.poets_residue.proofs.Kept.{IsWellFormed-body, after_at-failure}
 use Rattle.poets_syntax.specs.Applied.{FitsTemplate}
 use Rattle.poets_residue.proofs.Following.{Follows, Follows-success, Follows-failure, Follows-taken, Follows-refused, Follows-plus, Follows-par, Follows-over, Follows-seq, Follows-body, Follows-none}
 
-pub found : (o : Option Definition) → (o ≡ None) ⊎ ((t : Definition) × o ≡ Some t)
+pub found : (o : Option Template) → (o ≡ None) ⊎ ((t : Template) × o ≡ Some t)
 found None = inl refl
 found (Some t) = inr (t, refl)
 
 -- what an application of a template is at a depth of unfolding
-abbrev UnfoldsAt : ℕ → Definitions → Marks → Name → List Expression → Type 0
+abbrev UnfoldsAt : ℕ → Book → Marks → Name → List Expression → Type 0
 UnfoldsAt zero book marks f args = template_in book.templates f ≡ None
 UnfoldsAt (suc d) book marks f args =
-    (t : Definition) → template_in book.templates f ≡ Some t →
+    (t : Template) → template_in book.templates f ≡ Some t →
     (length t.params ≡ length args) × UnfoldsWithin d book marks (body_of book marks (Some t) args)
 
-exposed : (d : ℕ) (book : Definitions) (marks : Marks) (c : Contract) → UnfoldsWithin d book marks c → EachExposed (UnfoldsAt d book marks) marks c
+exposed : (d : ℕ) (book : Book) (marks : Marks) (c : Contract) → UnfoldsWithin d book marks c → EachExposed (UnfoldsAt d book marks) marks c
 exposed zero book marks c h = h
 exposed (suc d) book marks c h = h
 
-UnfoldsAt-fits : (d : ℕ) (book : Definitions) (marks : Marks) (f : Name) (args : List Expression) → UnfoldsAt d book marks f args → FitsTemplate book f args
+UnfoldsAt-fits : (d : ℕ) (book : Book) (marks : Marks) (f : Name) (args : List Expression) → UnfoldsAt d book marks f args → FitsTemplate book f args
 UnfoldsAt-fits zero book marks f args h t q = absurd cc
 UnfoldsAt-fits (suc d) book marks f args h t q = (h t q).0
 
-module _ (book : Definitions) (marks : Marks) (right : AreRight book marks) where
+module _ (book : Book) (marks : Marks) (right : AreRight book marks) where
   -- the test of the marks is that of the empty trace
   pub nullable_yes : (Is : Name → List Expression → Type 0) → ((f : Name) (args : List Expression) → Is f args → FitsTemplate book f args) →
       (c : Contract) → EachExposed Is marks c → nullable marks c ≡ true → Nullable book c
@@ -47,7 +48,7 @@ module _ (book : Definitions) (marks : Marks) (right : AreRight book marks) wher
   pub nullable_no : (c : Contract) → nullable marks c ≡ false → Nullable book c → ⊥
   nullable_no c k p = let j : true ≡ false = sym (nullable_in book marks right p refl) ∙ k in cc
 
-module _ (book : Definitions) (marks : Marks) (right : AreRight book marks) (e : Event) (declared : IsDeclaredEvent book.declared e) where
+module _ (book : Book) (marks : Marks) (right : AreRight book marks) (e : Event) (declared : IsDeclaredEvent book.declared e) where
   Follows-after_by : (unfold_at : Name → List Expression → Contract) (Is : Name → List Expression → Type 0) →
       ((f : Name) (args : List Expression) → Is f args → FitsTemplate book f args) →
       ((f : Name) (args : List Expression) → Is f args → HaveDeclaredLiterals book.declared args → Follows book e (C.App f args) (unfold_at f args)) →
@@ -100,7 +101,7 @@ is_no true h = absurd (h refl)
 is_no false h = refl
 
 -- with enough unfoldings the function gives what the relation says
-module _ (book : Definitions) (marks : Marks) (right : AreRight book marks) (e : Event) where
+module _ (book : Book) (marks : Marks) (right : AreRight book marks) (e : Event) where
   Is-after_by : (d : ℕ) (unfold_at : Name → List Expression → Contract) →
       ((f : Name) (args : List Expression) (r : Contract) → UnfoldsAt d book marks f args → After book marks e (C.App f args) r → unfold_at f args ≡ r) →
       {c r : Contract} → After book marks e c r → EachExposed (UnfoldsAt d book marks) marks c → after_by unfold_at book marks e c ≡ r

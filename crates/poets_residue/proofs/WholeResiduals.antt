@@ -12,9 +12,10 @@ use Rattle.poets_expr.proofs.WholeResults.{IsWhole-val}
 use Rattle.poets_syntax.specs.declared.term.Binders.{Binders}
 use Rattle.poets_syntax.specs.declared.term.Param.{Param}
 use Rattle.poets_syntax.specs.Contract.{Contract}
-use Rattle.poets_syntax.specs.Book.{Definitions, Definition, template_in}
+use Rattle.poets_syntax.specs.Plain.{Book, Template}
+use Rattle.poets_syntax.specs.Book.{template_in}
 use Rattle.poets_syntax.specs.Replace.{replace}
-use Rattle.poets_syntax.specs.Whole.{IsWholeContract, AreWholeDefinitions}
+use Rattle.poets_syntax.specs.Whole.{IsWholeContract, IsWholeBook}
 use Rattle.poets_syntax.specs.Marks.{Marks}
 use Rattle.poets_syntax.specs.Normal.{normal}
 use Rattle.poets_syntax.specs.Residual.{event_givens, argument_givens, after, after_at, residual_after}
@@ -23,7 +24,7 @@ use Rattle.poets_syntax.proofs.WholeContracts.{IsWhole-replace}
 use Rattle.poets_norm.proofs.WholeNormals.{IsWhole-of_parts, IsWhole-normal}
 use Rattle.poets_residue.proofs.Kept.{of_body, kept_by_after_at}
 
-whole_body : (templates : List Definition) → All (λ t. IsWholeContract t.body) templates → (f : Name) (t : Definition) →
+whole_body : (templates : List Template) → All (λ t. IsWholeContract t.body) templates → (f : Name) (t : Template) →
     template_in templates f ≡ Some t → IsWholeContract t.body
 whole_body [] h f t q = absurd cc
 whole_body (u ∷ templates) h f t q = elim (truth (same_name u.name f)) [
@@ -46,7 +47,7 @@ AreWholeGivens-arguments declared (p ∷ params) (a ∷ args) h =
     (AreWholeGivens-arguments declared params args (All-tail IsWholeExpression a args h))
     (IsWhole-val declared [] a (All-nil (λ q. IsWholeOption q.1)) (All-head IsWholeExpression a args h))
 
-pub IsWhole-after_at : (book : Definitions) (marks : Marks) → AreWholeDefinitions book → (e : Event) → IsWholeEvent e →
+pub IsWhole-after_at : (book : Book) (marks : Marks) → IsWholeBook book → (e : Event) → IsWholeEvent e →
     (d : ℕ) (c : Contract) → IsWholeContract c → IsWholeContract (after_at d book marks e c)
 IsWhole-after_at book marks bodies e whole =
     kept_by_after_at book marks e IsWholeContract IsWhole-of_parts
@@ -56,13 +57,13 @@ IsWhole-after_at book marks bodies e whole =
     (IsWhole-replace (argument_givens book.declared t.params args) t.body
     (AreWholeGivens-arguments book.declared t.params args h) (whole_body book.templates bodies f t q))))
 
-whole_through : (book : Definitions) (marks : Marks) → AreWholeDefinitions book → (s : List Event) → IsWholeTrace s →
+whole_through : (book : Book) (marks : Marks) → IsWholeBook book → (s : List Event) → IsWholeTrace s →
     (c : Contract) → IsWholeContract c → IsWholeContract (fold (λ d e. after book marks e d) c s)
 whole_through book marks bodies [] h c k = k
 whole_through book marks bodies (e ∷ s) h c k =
     whole_through book marks bodies s (All-tail IsWholeEvent e s h) (after book marks e c)
     (IsWhole-after_at book marks bodies e (All-head IsWholeEvent e s h) (length book.templates) c k)
 
-pub trace_whole : (book : Definitions) (marks : Marks) → AreWholeDefinitions book → (o : Contract) → IsWholeContract o →
+pub trace_whole : (book : Book) (marks : Marks) → IsWholeBook book → (o : Contract) → IsWholeContract o →
     (s : List Event) → IsWholeTrace s → IsWholeContract (residual_after book marks o s)
 trace_whole book marks bodies o h s k = whole_through book marks bodies s k (normal book marks o) (IsWhole-normal book marks o h)

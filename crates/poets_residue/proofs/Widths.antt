@@ -6,7 +6,8 @@ use Rattle.poets_expr.specs.Expression.{Expression}
 use Rattle.poets_expr.specs.Size.{nodes_of_all}
 use Rattle.poets_syntax.specs.declared.term.Binders.{Binders}
 use Rattle.poets_syntax.specs.Contract.{Contract, Transmit, Plus, Par, Seq, App}
-use Rattle.poets_syntax.specs.Book.{Definitions, Definition, template_in}
+use Rattle.poets_syntax.specs.Plain.{Book, Template}
+use Rattle.poets_syntax.specs.Book.{template_in}
 use Rattle.poets_syntax.specs.Replace.{replace}
 use Rattle.poets_syntax.specs.Marks.{Marks, nullable}
 use Rattle.poets_syntax.specs.Applied.{CountsFit}
@@ -20,7 +21,7 @@ use Rattle.poets_norm.proofs.Sizes.{exposed, wide_by-exposed, exposed-normal, ex
 use Rattle.poets_residue.specs.Unfolding.{IsStudied}
 use Rattle.poets_residue.proofs.Kept.{CountsFit-body}
 
-module _ (book : Definitions) (marks : Marks) where
+module _ (book : Book) (marks : Marks) where
   wide_at-transmit : (d : ℕ) (b : Binders) (p : Expression) (c : Contract) → wide_at d book marks (Transmit b p c) ≡ size (Transmit b p c)
   wide_at-transmit zero b p c = refl
   wide_at-transmit (suc d) b p c = refl
@@ -70,7 +71,7 @@ module _ (book : Definitions) (marks : Marks) where
 
   module _ (study : IsStudied book marks) where
     -- an application of a template
-    pub width-app : (f : Name) (args : List Expression) → CountsFit book (App f args) → (t : Definition) → template_in book.templates f ≡ Some t →
+    pub width-app : (f : Name) (args : List Expression) → CountsFit book (App f args) → (t : Template) → template_in book.templates f ≡ Some t →
         width book marks (App f args) ≡ 1 + nodes_of_all args + width book marks t.body
     width-app f args h t q =
         width-unfolded book marks study.right study.guarded study.fit (App f args) h
@@ -85,7 +86,7 @@ module _ (book : Definitions) (marks : Marks) where
         width-unfolded book marks study.right study.guarded study.fit c h
         ∙ wide_by-exposed (λ f. body_in (template_in book.templates f) (width book marks)) marks c
 
-    module _ (f : Name) (args : List Expression) (t : Definition) (q : template_in book.templates f ≡ Some t) where
+    module _ (f : Name) (args : List Expression) (t : Template) (q : template_in book.templates f ≡ Some t) where
       -- the unfolded body
       abbrev body : Contract
       body = body_of book marks (Some t) args

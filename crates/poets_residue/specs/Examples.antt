@@ -8,7 +8,7 @@ use Rattle.poets_expr.specs.Expression.{Expression, AmountOf, Literal, Named, Un
 use Rattle.poets_syntax.specs.declared.term.Binders.{Binders}
 use Rattle.poets_syntax.specs.declared.studied.Mark.{Mark}
 use Rattle.poets_syntax.specs.Contract.{Contract, Success, Transmit, Plus, App}
-use Rattle.poets_syntax.specs.Book.{Definitions}
+use Rattle.poets_syntax.specs.Plain.{Book}
 
 -- transmit(a, b, r, t | amount(r) = n). c
 abbrev pub of_amount : Binders → Expression → Contract → Contract
@@ -19,7 +19,7 @@ abbrev pub one_more : Expression → Expression
 one_more n = Binary O.Add n (Literal (V.Int (pos 1)))
 
 -- template f(n : Int) = Success + (transmit(a, b, r, t | amount(r) = n). f(n + 1));;
-abbrev pub counting : Binders → (f n : Name) → Definitions
+abbrev pub counting : Binders → (f n : Name) → Book
 counting b f n = record {
   declared = λ _. None;
   templates = record {

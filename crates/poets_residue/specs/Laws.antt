@@ -6,8 +6,9 @@ use Rattle.poets_value.specs.declared.value.Name.{Name}
 use Rattle.poets_expr.specs.Expression.{Expression}
 use Rattle.poets_syntax.specs.declared.studied.Mark.{Mark}
 use Rattle.poets_syntax.specs.Contract.{Contract, Failure, App}
-use Rattle.poets_syntax.specs.Book.{Definitions, template_in}
-use Rattle.poets_syntax.specs.Whole.{IsWholeContract, AreWholeDefinitions}
+use Rattle.poets_syntax.specs.Plain.{Book}
+use Rattle.poets_syntax.specs.Book.{template_in}
+use Rattle.poets_syntax.specs.Whole.{IsWholeContract, IsWholeBook}
 use Rattle.poets_syntax.specs.Perf.{Perf}
 use Rattle.poets_syntax.specs.May.{May}
 use Rattle.poets_syntax.specs.Marks.{Marks, AreRight}
@@ -22,114 +23,114 @@ use Rattle.poets_residue.specs.Unfolding.{UnfoldsWithin, IsStudied}
 
 -- a book that was studied meets what these laws ask
 abbrev pub StudiedBooks : Type 0
-StudiedBooks = (book : Definitions) (marks : List Mark) → IsStudiedBook book marks → IsStudied book (marks_in book.templates marks)
+StudiedBooks = (book : Book) (marks : List Mark) → IsStudiedBook book marks → IsStudied book (marks_in book.templates marks)
 
 -- the residual is performed by what may follow the event
 abbrev pub ResidualFollows : Type 0
-ResidualFollows = (book : Definitions) (marks : Marks) (e : Event) (c r : Contract) (s : List Event) (n : ℕ) →
+ResidualFollows = (book : Book) (marks : Marks) (e : Event) (c r : Contract) (s : List Event) (n : ℕ) →
     AreRight book marks → AreWellFormed book → IsDeclaredEvent book.declared e → IsWellFormed book.declared c →
     After book marks e c r → May book [] r s n ↔ May book [] c (e ∷ s) n
 
 -- there is one residual at most
 abbrev pub ResidualOne : Type 0
-ResidualOne = (book : Definitions) (marks : Marks) (e : Event) (c r r' : Contract) → After book marks e c r → After book marks e c r' → r ≡ r'
+ResidualOne = (book : Book) (marks : Marks) (e : Event) (c r r' : Contract) → After book marks e c r → After book marks e c r' → r ≡ r'
 
 -- with enough unfoldings the function gives it
 abbrev pub ResidualIs : Type 0
-ResidualIs = (d : ℕ) (book : Definitions) (marks : Marks) (e : Event) (c r : Contract) →
+ResidualIs = (d : ℕ) (book : Book) (marks : Marks) (e : Event) (c r : Contract) →
     AreRight book marks → UnfoldsWithin d book marks c → After book marks e c r → after_at d book marks e c ≡ r
 
 -- and what it gives is performed by what may follow the event
 abbrev pub ResidualAt : Type 0
-ResidualAt = (d : ℕ) (book : Definitions) (marks : Marks) (e : Event) (c : Contract) (s : List Event) (n : ℕ) →
+ResidualAt = (d : ℕ) (book : Book) (marks : Marks) (e : Event) (c : Contract) (s : List Event) (n : ℕ) →
     AreRight book marks → AreWellFormed book → IsDeclaredEvent book.declared e → IsWellFormed book.declared c →
     UnfoldsWithin d book marks c → May book [] (after_at d book marks e c) s n ↔ May book [] c (e ∷ s) n
 
 -- in a guarded book an application leaves what its body leaves
 abbrev pub ResidualOfApplication : Type 0
-ResidualOfApplication = (book : Definitions) (marks : Marks) (e : Event) (f : Name) (args : List Expression) →
+ResidualOfApplication = (book : Book) (marks : Marks) (e : Event) (f : Name) (args : List Expression) →
     IsStudied book marks → CountsFit book (App f args) →
     after book marks e (App f args) ≡ after book marks e (body_of book marks (template_in book.templates f) args)
 
 -- it is well-formed
 abbrev pub ResidualWellFormed : Type 0
-ResidualWellFormed = (book : Definitions) (marks : Marks) (e : Event) (c r : Contract) →
+ResidualWellFormed = (book : Book) (marks : Marks) (e : Event) (c r : Contract) →
     AreWellFormed book → IsDeclaredEvent book.declared e → IsWellFormed book.declared c → After book marks e c r → IsWellFormed book.declared r
 
 -- of a well-formed contract the function gives a well-formed one, with any number of unfoldings
 abbrev pub ResidualAtWellFormed : Type 0
-ResidualAtWellFormed = (d : ℕ) (book : Definitions) (marks : Marks) (e : Event) (c : Contract) →
+ResidualAtWellFormed = (d : ℕ) (book : Book) (marks : Marks) (e : Event) (c : Contract) →
     AreWellFormed book → IsDeclaredEvent book.declared e → IsWellFormed book.declared c → IsWellFormed book.declared (after_at d book marks e c)
 
 -- the numbers of arguments in it fit
 abbrev pub ResidualAtCountsFit : Type 0
-ResidualAtCountsFit = (d : ℕ) (book : Definitions) (marks : Marks) (e : Event) (c : Contract) →
+ResidualAtCountsFit = (d : ℕ) (book : Book) (marks : Marks) (e : Event) (c : Contract) →
     BodiesCountsFit book → CountsFit book c → CountsFit book (after_at d book marks e c)
 
 -- of a normal form it is a normal form
 abbrev pub ResidualAtNormal : Type 0
-ResidualAtNormal = (d : ℕ) (book : Definitions) (marks : Marks) (e : Event) (c : Contract) →
+ResidualAtNormal = (d : ℕ) (book : Book) (marks : Marks) (e : Event) (c : Contract) →
     normal book marks c ≡ c → normal book marks (after_at d book marks e c) ≡ after_at d book marks e c
 
 -- of a whole contract by a whole event it is whole
 abbrev pub ResidualAtWhole : Type 0
-ResidualAtWhole = (d : ℕ) (book : Definitions) (marks : Marks) (e : Event) (c : Contract) →
-    AreWholeDefinitions book → IsWholeEvent e → IsWholeContract c → IsWholeContract (after_at d book marks e c)
+ResidualAtWhole = (d : ℕ) (book : Book) (marks : Marks) (e : Event) (c : Contract) →
+    IsWholeBook book → IsWholeEvent e → IsWholeContract c → IsWholeContract (after_at d book marks e c)
 
 -- after a trace the residual is performed by what may follow the trace
 abbrev pub TraceFollowed : Type 0
-TraceFollowed = (book : Definitions) (marks : Marks) (o : Contract) (s s' : List Event) (n : ℕ) →
+TraceFollowed = (book : Book) (marks : Marks) (o : Contract) (s s' : List Event) (n : ℕ) →
     IsStudied book marks → IsWellFormed book.declared o → CountsFit book o → All (IsDeclaredEvent book.declared) s →
     May book [] (residual_after book marks o s) s' n ↔ May book [] o (s ++ s') n
 
 -- so it is with what performs it outright
 abbrev pub TracePerformed : Type 0
-TracePerformed = (book : Definitions) (marks : Marks) (o : Contract) (s s' : List Event) →
+TracePerformed = (book : Book) (marks : Marks) (o : Contract) (s s' : List Event) →
     IsStudied book marks → IsWellFormed book.declared o → CountsFit book o → All (IsDeclaredEvent book.declared) s →
     Perf book [] (residual_after book marks o s) s' ↔ Perf book [] o (s ++ s')
 
 -- after a trace the residual is `Failure` exactly where no number of granted steps finishes
 abbrev pub TraceHopeless : Type 0
-TraceHopeless = (book : Definitions) (marks : Marks) (o : Contract) (s : List Event) →
+TraceHopeless = (book : Book) (marks : Marks) (o : Contract) (s : List Event) →
     IsStudied book marks → IsWellFormed book.declared o → CountsFit book o → All (IsDeclaredEvent book.declared) s →
     (residual_after book marks o s ≡ Failure) ↔ ¬ ((n : ℕ) × May book [] o s n)
 
 -- and where it is not `Failure`, some number of granted steps finishes
 abbrev pub TraceHopeful : Type 0
-TraceHopeful = (book : Definitions) (marks : Marks) (o : Contract) (s : List Event) →
+TraceHopeful = (book : Book) (marks : Marks) (o : Contract) (s : List Event) →
     IsStudied book marks → IsWellFormed book.declared o → CountsFit book o → All (IsDeclaredEvent book.declared) s →
     residual_after book marks o s ≢ Failure → (n : ℕ) × May book [] o s n
 
 -- after a trace the residual is well-formed, and the numbers of arguments in it fit
 abbrev pub TraceWellFormed : Type 0
-TraceWellFormed = (book : Definitions) (marks : Marks) (o : Contract) (s : List Event) →
+TraceWellFormed = (book : Book) (marks : Marks) (o : Contract) (s : List Event) →
     IsStudied book marks → IsWellFormed book.declared o → CountsFit book o → All (IsDeclaredEvent book.declared) s →
     IsWellFormed book.declared (residual_after book marks o s) × CountsFit book (residual_after book marks o s)
 
 -- after a trace the residual is a normal form
 abbrev pub TraceNormal : Type 0
-TraceNormal = (book : Definitions) (marks : Marks) (o : Contract) (s : List Event) →
+TraceNormal = (book : Book) (marks : Marks) (o : Contract) (s : List Event) →
     normal book marks (residual_after book marks o s) ≡ residual_after book marks o s
 
 -- the residual after a trace of whole events is whole
 abbrev pub TraceWhole : Type 0
-TraceWhole = (book : Definitions) (marks : Marks) (o : Contract) (s : List Event) →
-    AreWholeDefinitions book → IsWholeContract o → IsWholeTrace s → IsWholeContract (residual_after book marks o s)
+TraceWhole = (book : Book) (marks : Marks) (o : Contract) (s : List Event) →
+    IsWholeBook book → IsWholeContract o → IsWholeTrace s → IsWholeContract (residual_after book marks o s)
 
 -- in a guarded book as many unfoldings in a row as there are templates find all that is ready: more find the same
 abbrev pub EnoughUnfoldings : Type 0
-EnoughUnfoldings = (d : ℕ) (book : Definitions) (marks : Marks) (c : Contract) →
+EnoughUnfoldings = (d : ℕ) (book : Book) (marks : Marks) (c : Contract) →
     AreRight book marks → IsGuarded book → BodiesCountsFit book → CountsFit book c →
     length book.templates ≤ d → ready_at d book marks c ≡ ready book marks c
 
 -- what is ready in the unfolded bodies is ready in the contract, however deep it lies
 abbrev pub ReadyUnfolds : Type 0
-ReadyUnfolds = (book : Definitions) (marks : Marks) (c : Contract) →
+ReadyUnfolds = (book : Book) (marks : Marks) (c : Contract) →
     AreRight book marks → IsGuarded book → BodiesCountsFit book → CountsFit book c →
     ready book marks c ≡ ready_by (λ f args. ready book marks (body_of book marks (template_in book.templates f) args)) marks c
 
 -- what is ready in an application is itself, and what is ready in its body
 abbrev pub ReadyOfApplication : Type 0
-ReadyOfApplication = (book : Definitions) (marks : Marks) (f : Name) (args : List Expression) →
+ReadyOfApplication = (book : Book) (marks : Marks) (f : Name) (args : List Expression) →
     AreRight book marks → IsGuarded book → BodiesCountsFit book → CountsFit book (App f args) →
     ready book marks (App f args) ≡ App f args ∷ ready book marks (body_of book marks (template_in book.templates f) args)

@@ -2,7 +2,7 @@
 use Rattle.std.specs.Prelude.{◌≡◌, ◌+◌, ◌≤◌, ◌<◌, ℕ, List, length, Option, Some}
 use Rattle.poets_value.specs.declared.event.Event.{Event}
 use Rattle.poets_syntax.specs.Contract.{Contract}
-use Rattle.poets_syntax.specs.Book.{Definitions}
+use Rattle.poets_syntax.specs.Plain.{Book}
 use Rattle.poets_syntax.specs.Marks.{Marks}
 use Rattle.poets_syntax.specs.Residual.{after}
 use Rattle.poets_syntax.specs.Width.{size, width}
@@ -11,15 +11,15 @@ use Rattle.poets_cons.specs.declared.node.Node.{Node}
 use Rattle.poets_cons.specs.Table.{contract_at, Stands}
 
 -- each row that is noted has its residual at the row with the number noted
-abbrev pub AreNotes : Definitions → Marks → Event → List Node → (ℕ → Option ℕ) → Type 0
+abbrev pub AreNotes : Book → Marks → Event → List Node → (ℕ → Option ℕ) → Type 0
 AreNotes book marks e nodes notes =
     (k v : ℕ) → notes k ≡ Some v → (k < length nodes) × Stands nodes v (after book marks e (contract_at nodes k))
 
 -- the row with that number is the residual of the contract, and the notes are right
-pub record IsDerived (book : Definitions) (marks : Marks) (e : Event) (nodes : List Node) (memo : ℕ → Option ℕ) (c : Contract) (place : ℕ) : Type 0 where
+pub record IsDerived (book : Book) (marks : Marks) (e : Event) (nodes : List Node) (memo : ℕ → Option ℕ) (c : Contract) (place : ℕ) : Type 0 where
   pub notes : AreNotes book marks e nodes memo
   pub stands : Stands nodes place (after book marks e c)
 
 -- a residual of the contract asks at most what the contract itself may ask, and the widths of the bodies that it exposes
-abbrev pub AsksInWidth : Definitions → Marks → Contract → ℕ → ℕ → Type 0
+abbrev pub AsksInWidth : Book → Marks → Contract → ℕ → ℕ → Type 0
 AsksInWidth book marks c old new = new + size c ≤ old + questions c + width book marks c

@@ -6,7 +6,8 @@ use Rattle.poets_expr.specs.Expression.{Expression}
 use Rattle.poets_syntax.specs.Contract.{Contract, Success, Failure, Transmit, Plus, Par, Seq, App}
 use Rattle.poets_syntax.specs.Same.{same_contract}
 use Rattle.poets_syntax.specs.Arguments.{arguments}
-use Rattle.poets_syntax.specs.Book.{Definitions, template_in}
+use Rattle.poets_syntax.specs.Plain.{Book}
+use Rattle.poets_syntax.specs.Book.{template_in}
 use Rattle.poets_syntax.specs.Marks.{Marks, nullable}
 use Rattle.poets_syntax.specs.Residual.{body_of}
 use Rattle.poets_syntax.specs.Width.{body_in}
@@ -23,21 +24,21 @@ ready_by unfolded marks (Seq a b) = ready_by unfolded marks a ++ (if nullable ma
 ready_by unfolded marks (App f args) = App f args ∷ unfolded f args
 
 -- with at most so many unfoldings in a row
-abbrev pub ready_at : ℕ → Definitions → Marks → Contract → List Contract
+abbrev pub ready_at : ℕ → Book → Marks → Contract → List Contract
 ready_at zero book marks c = ready_by (λ _ _. []) marks c
 ready_at (suc d) book marks c = ready_by (λ f args. ready_at d book marks (body_of book marks (template_in book.templates f) args)) marks c
 
 -- in a guarded book no more unfoldings than templates stand in a row
-abbrev pub ready : Definitions → Marks → Contract → List Contract
+abbrev pub ready : Book → Marks → Contract → List Contract
 ready book marks c = ready_at (length book.templates) book marks c
 
 -- what one of them asks at most: a transmit its predicate and the arguments of its continuation, an application its own
 -- arguments that are neither literals nor names, and the arguments of its template's body
-abbrev pub asked_of : Definitions → Contract → ℕ
+abbrev pub asked_of : Book → Contract → ℕ
 asked_of book (Transmit b p c) = 1 + arguments c
 asked_of book (App f args) = sum_by operated args + body_in (template_in book.templates f) arguments
 asked_of book _ = 0
 
 -- what a residual of the contract asks at most: the sum over the different transmits and applications in its unguarded positions
-abbrev pub once : Definitions → Marks → Contract → ℕ
+abbrev pub once : Book → Marks → Contract → ℕ
 once book marks c = sum_by (asked_of book) (unique_keys same_contract (ready book marks c))

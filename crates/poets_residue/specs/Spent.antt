@@ -3,7 +3,7 @@ use Rattle.std.specs.Prelude.{◌≡◌, ◌+◌, ◌≤◌, ◌⊎◌, ℕ, tru
 use Rattle.std.specs.List.{IsDistinct, list_any}
 use Rattle.poets_syntax.specs.Contract.{Contract}
 use Rattle.poets_syntax.specs.Same.{same_contract}
-use Rattle.poets_syntax.specs.Book.{Definitions}
+use Rattle.poets_syntax.specs.Plain.{Book}
 use Rattle.poets_syntax.specs.Marks.{Marks}
 use Rattle.poets_cons.specs.declared.node.Node.{Node}
 use Rattle.poets_cons.specs.Table.{contract_at}
@@ -23,7 +23,7 @@ IsNotedBut c nodes memo d = (d ≡ c) ⊎ IsNoted nodes memo d
 
 -- different transmits and applications that stand ready in the contract and were not noted before the call pay for what it asks;
 -- where it has a result they are noted after it, beside those that were
-pub record IsSpent (book : Definitions) (marks : Marks) (c : Contract) (Before After : Contract → Type 0) (old new : ℕ) {E : Type 0} (r : Result ℕ E) : Type 0 where
+pub record IsSpent (book : Book) (marks : Marks) (c : Contract) (Before After : Contract → Type 0) (old new : ℕ) {E : Type 0} (r : Result ℕ E) : Type 0 where
   pub begun : List Contract
   pub different : IsDistinct same_contract begun
   pub standing : (d : Contract) → IsAmong d begun → IsAmong d (ready book marks c)

@@ -1,5 +1,5 @@
 -- What the laws of residuals ask of a book.
-use Rattle.poets_syntax.specs.Book.{Definitions}
+use Rattle.poets_syntax.specs.Plain.{Book}
 use Rattle.poets_syntax.specs.Marks.{Marks, AreRight}
 use Rattle.poets_syntax.specs.WellFormed.{AreWellFormed}
 use Rattle.poets_syntax.specs.Guarded.{IsGuarded}
@@ -7,7 +7,7 @@ pub use Rattle.poets_syntax.specs.Exposed.{UnfoldsWithin}
 pub use Rattle.poets_syntax.specs.Applied.{BodiesCountsFit}
 
 -- the marks are right, the bodies of the templates are well-formed and their applications fit, and the book is guarded
-pub record IsStudied (book : Definitions) (marks : Marks) : Type 0 where
+pub record IsStudied (book : Book) (marks : Marks) : Type 0 where
   pub right : AreRight book marks
   pub formed : AreWellFormed book
   pub fit : BodiesCountsFit book

@@ -3,8 +3,8 @@ ghost use Rattle.std.specs.Prelude.{◌≡◌, ◌+◌, ◌≤◌, IfOk, OnOk, S
 ghost use Rattle.poets_expr.specs.Env.{declared_of, itself};
 ghost use Rattle.poets_expr.specs.Expression.{expression_of};
 ghost use Rattle.poets_expr.specs.Val.{val};
-ghost use Rattle.poets_syntax.specs.Arguments.{arguments as arguments_lem};
-ghost use Rattle.poets_syntax.specs.Book.{definition_of, definitions_of};
+ghost use Rattle.poets_syntax.specs.Arguments as spec;
+ghost use Rattle.poets_syntax.specs.Book.{template_of, book_of};
 ghost use Rattle.poets_syntax.specs.Contract.{contract_of};
 ghost use Rattle.poets_syntax.specs.Residual.{argument_givens, body_of};
 ghost use Rattle.poets_syntax.specs.Studied.{marks_of};
@@ -83,11 +83,11 @@ pub(crate) fn unfold<L>(
     asks: &mut Asks<L>,
 ) -> Result<usize, Memory>
     ensures grows { Extends arena.old arena.new }
-    ensures body { IfOk result (λ p. Stands arena.new p (body_of (definitions_of studied.now.book) (marks_of studied.now) (Some (definition_of template.now)) (map expression_of args.now))) }
+    ensures body { IfOk result (λ p. Stands arena.new p (body_of (book_of studied.now.book) (marks_of studied.now) (Some (template_of template.now)) (map expression_of args.now))) }
     ensures rises { asks.old ≤ asks.new }
     ensures asks { asks.new ≤ asks.old + sum_by operated (map expression_of args.now) + questions (contract_of template.now.body) }
-    ensures arguments { asks.new ≤ asks.old + sum_by operated (map expression_of args.now) + arguments_lem (contract_of template.now.body) }
-    ensures questions { OnOk result (asks.new + questions (body_of (definitions_of studied.now.book) (marks_of studied.now) (Some (definition_of template.now)) (map expression_of args.now)) ≤ asks.old + sum_by operated (map expression_of args.now) + questions (contract_of template.now.body)) }
+    ensures arguments { asks.new ≤ asks.old + sum_by operated (map expression_of args.now) + spec.arguments (contract_of template.now.body) }
+    ensures questions { OnOk result (asks.new + questions (body_of (book_of studied.now.book) (marks_of studied.now) (Some (template_of template.now)) (map expression_of args.now)) ≤ asks.old + sum_by operated (map expression_of args.now) + questions (contract_of template.now.body)) }
 {
     let decls = &studied.book().decls;
     let pairs = arguments(alloc, decls, template.params.as_slice(), args, asks)?;

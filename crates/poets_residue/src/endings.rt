@@ -1,9 +1,9 @@
 //! Contracts that may end.
 ghost use Rattle.std.specs.Prelude.{◌≡◌, ◌↔◌, IsTrue, []};
 ghost use Rattle.poets_syntax.specs.Applied.{CountsFit};
-ghost use Rattle.poets_syntax.specs.Book.{definitions_of};
+ghost use Rattle.poets_syntax.specs.Book.{book_of};
 ghost use Rattle.poets_syntax.specs.Contract.{contract_of};
-ghost use Rattle.poets_syntax.specs.Marks.{nullable as nullable_lem};
+ghost use Rattle.poets_syntax.specs.Marks as marks;
 ghost use Rattle.poets_syntax.specs.Perf.{Perf};
 ghost use Rattle.poets_syntax.specs.Studied.{marks_of};
 
@@ -12,8 +12,8 @@ use poets_value::Name;
 
 /// Whether the empty trace performs the contract.
 pub fn may_end(studied: &Studied, term: &Term) -> bool
-    requires { CountsFit (definitions_of studied.now.book) (contract_of term.now) }
-    ensures { IsTrue result ↔ Perf (definitions_of studied.now.book) [] (contract_of term.now) [] }
+    requires { CountsFit (book_of studied.now.book) (contract_of term.now) }
+    ensures { IsTrue result ↔ Perf (book_of studied.now.book) [] (contract_of term.now) [] }
 {
     // The marks are right.
     let _book = studied.book();
@@ -31,7 +31,7 @@ pub(crate) fn is_marked(studied: &Studied, name: Name) -> bool
 
 // Whether the forms of the contract and the marks of its templates let it end.
 pub(crate) fn nullable(studied: &Studied, term: &Term) -> bool
-    ensures { result ≡ nullable_lem (marks_of studied.now) (contract_of term.now) }
+    ensures { result ≡ marks.nullable (marks_of studied.now) (contract_of term.now) }
 {
     match term {
         Term::Success => true,

@@ -1,12 +1,12 @@
 //! Residuals.
 ghost use Rattle.std.specs.Prelude.{◌≡◌, ◌+◌, ◌≤◌, IfOk};
 ghost use Rattle.poets_syntax.specs.Applied.{CountsFit};
-ghost use Rattle.poets_syntax.specs.Book.{definitions_of};
+ghost use Rattle.poets_syntax.specs.Book.{book_of};
 ghost use Rattle.poets_syntax.specs.Contract.{contract_of};
 ghost use Rattle.poets_syntax.specs.Residual.{after};
 ghost use Rattle.poets_syntax.specs.Studied.{marks_of};
 ghost use Rattle.poets_syntax.specs.Width.{width};
-ghost use Rattle.poets_residue.specs.Once.{once as once_lem};
+ghost use Rattle.poets_residue.specs.Once as spec;
 
 use crate::derivation::residual_rows;
 use poets_cons::{of_term, to_term};
@@ -25,11 +25,11 @@ pub fn residual<L>(
     event: &Event,
     asks: &mut Asks<L>,
 ) -> Result<Term, Memory>
-    requires { CountsFit (definitions_of studied.now.book) (contract_of term.now) }
-    ensures residual { IfOk result (λ r. contract_of r ≡ after (definitions_of studied.now.book) (marks_of studied.now) event.now (contract_of term.now)) }
+    requires { CountsFit (book_of studied.now.book) (contract_of term.now) }
+    ensures residual { IfOk result (λ r. contract_of r ≡ after (book_of studied.now.book) (marks_of studied.now) event.now (contract_of term.now)) }
     ensures rises { asks.old ≤ asks.new }
-    ensures asks { asks.new ≤ asks.old + width (definitions_of studied.now.book) (marks_of studied.now) (contract_of term.now) }
-    ensures once { asks.new ≤ asks.old + once_lem (definitions_of studied.now.book) (marks_of studied.now) (contract_of term.now) }
+    ensures asks { asks.new ≤ asks.old + width (book_of studied.now.book) (marks_of studied.now) (contract_of term.now) }
+    ensures once { asks.new ≤ asks.old + spec.once (book_of studied.now.book) (marks_of studied.now) (contract_of term.now) }
 {
     let rows = of_term(alloc, term)?;
     let left = residual_rows(alloc, studied, &rows, event, asks)?;

@@ -2,9 +2,9 @@
 ghost use Rattle.std.specs.Prelude.{◌≡◌, ◌∷◌, [], IfOk};
 ghost use Rattle.poets_expr.specs.Expression.{expression_of};
 ghost use Rattle.poets_syntax.specs.Applied.{CountsFit};
-ghost use Rattle.poets_syntax.specs.Book.{definition_of, definitions_of};
+ghost use Rattle.poets_syntax.specs.Book.{template_of, book_of};
 ghost use Rattle.poets_syntax.specs.Contract.{contract_of, App};
-ghost use Rattle.poets_residue.specs.Examples.{of_amount as of_amount_lem, one_more as one_more_lem, counting as counting_lem, marks as marks_lem};
+ghost use Rattle.poets_residue.specs.Examples as examples;
 
 use crate::{may_end, may_end_rows, residual, residual_rows, wide_rows};
 use poets_cons::{of_term, to_term};
@@ -38,7 +38,7 @@ const USD: Name = Name { id: 9 };
 
 // transmit(a, b, r, t | amount(r) = number). then
 fn of_amount(alloc: Global, number: Expr, then: Term) -> Result<Term, Memory>
-    ensures { IfOk result (λ c. contract_of c ≡ of_amount_lem BINDERS (expression_of number) (contract_of then)) }
+    ensures { IfOk result (λ c. contract_of c ≡ examples.of_amount BINDERS (expression_of number) (contract_of then)) }
 {
     let found = Expr::Amount(make::boxed(alloc, Expr::Name(R))?);
     let found = make::boxed(alloc, found)?;
@@ -48,7 +48,7 @@ fn of_amount(alloc: Global, number: Expr, then: Term) -> Result<Term, Memory>
 
 // number + 1
 fn one_more(alloc: Global, number: Expr) -> Result<Expr, Memory>
-    ensures { IfOk result (λ e. expression_of e ≡ one_more_lem (expression_of number)) }
+    ensures { IfOk result (λ e. expression_of e ≡ examples.one_more (expression_of number)) }
 {
     let number = make::boxed(alloc, number)?;
     Ok(Expr::Op(Op::Add, number, make::boxed(alloc, Expr::Int(1))?))
@@ -57,7 +57,7 @@ fn one_more(alloc: Global, number: Expr) -> Result<Expr, Memory>
 // f(number)
 fn counted(alloc: Global, number: Expr) -> Result<Term, Memory>
     ensures contract { IfOk result (λ c. contract_of c ≡ App F (expression_of number ∷ [])) }
-    ensures fits { IfOk result (λ c. CountsFit (counting_lem BINDERS F N) (contract_of c)) }
+    ensures fits { IfOk result (λ c. CountsFit (examples.counting BINDERS F N) (contract_of c)) }
 {
     let mut args = List::new(alloc);
     push(&mut args, number)?;
@@ -66,7 +66,7 @@ fn counted(alloc: Global, number: Expr) -> Result<Term, Memory>
 
 // template f(n : Int) = Success + (transmit(a, b, r, t | amount(r) = n). f(n + 1));;
 fn template(alloc: Global) -> Result<Template, Memory>
-    ensures { IfOk result (λ t. definition_of t ∷ [] ≡ (counting_lem BINDERS F N).templates) }
+    ensures { IfOk result (λ t. template_of t ∷ [] ≡ (examples.counting BINDERS F N).templates) }
 {
     let mut params = List::new(alloc);
     let number = Param {
@@ -85,7 +85,7 @@ fn template(alloc: Global) -> Result<Template, Memory>
 }
 
 fn book(alloc: Global) -> Result<Book, Memory>
-    ensures { IfOk result (λ b. definitions_of b ≡ counting_lem BINDERS F N) }
+    ensures { IfOk result (λ b. book_of b ≡ examples.counting BINDERS F N) }
 {
     let mut templates = List::new(alloc);
     push(&mut templates, template(alloc)?)?;
@@ -96,7 +96,7 @@ fn book(alloc: Global) -> Result<Book, Memory>
 }
 
 fn marks(alloc: Global) -> Result<List<Mark>, Memory>
-    ensures { IfOk result (λ r. r.items ≡ marks_lem) }
+    ensures { IfOk result (λ r. r.items ≡ examples.marks) }
 {
     let mut marks = List::new(alloc);
     let mark = Mark {
@@ -109,7 +109,7 @@ fn marks(alloc: Global) -> Result<List<Mark>, Memory>
 }
 
 fn studied(alloc: Global) -> Result<Studied, Memory>
-    ensures { IfOk result (λ s. definitions_of s.book ≡ counting_lem BINDERS F N) }
+    ensures { IfOk result (λ s. book_of s.book ≡ examples.counting BINDERS F N) }
 {
     let book = book(alloc)?;
     Studied::of(alloc, book, marks(alloc)?)
@@ -130,8 +130,8 @@ fn given(amount: i64) -> Event {
 
 // The residual by an event of that amount, and how much was asked.
 fn after(alloc: Global, term: &Term, amount: i64) -> Result<(Term, u64), Memory>
-    requires { CountsFit (counting_lem BINDERS F N) (contract_of term.now) }
-    ensures { IfOk result (λ r. CountsFit (counting_lem BINDERS F N) (contract_of r.0)) }
+    requires { CountsFit (examples.counting BINDERS F N) (contract_of term.now) }
+    ensures { IfOk result (λ r. CountsFit (examples.counting BINDERS F N) (contract_of r.0)) }
 {
     let studied = studied(alloc)?;
     let mut asks = Asks::new(());
@@ -141,21 +141,21 @@ fn after(alloc: Global, term: &Term, amount: i64) -> Result<(Term, u64), Memory>
 
 // Whether the contract may end.
 fn ends(alloc: Global, term: &Term) -> Result<bool, Memory>
-    requires { CountsFit (counting_lem BINDERS F N) (contract_of term.now) }
+    requires { CountsFit (examples.counting BINDERS F N) (contract_of term.now) }
 {
     Ok(may_end(&studied(alloc)?, term))
 }
 
 // transmit(a, b, r, t | amount(r) = 5). Success
 fn five(alloc: Global) -> Result<Term, Memory>
-    ensures { IfOk result (λ c. CountsFit (counting_lem BINDERS F N) (contract_of c)) }
+    ensures { IfOk result (λ c. CountsFit (examples.counting BINDERS F N) (contract_of c)) }
 {
     of_amount(alloc, Expr::Int(5), Term::Success)
 }
 
 // f(first) || f(second)
 fn beside(alloc: Global, first: i64, second: i64) -> Result<Term, Memory>
-    ensures { IfOk result (λ c. CountsFit (counting_lem BINDERS F N) (contract_of c)) }
+    ensures { IfOk result (λ c. CountsFit (examples.counting BINDERS F N) (contract_of c)) }
 {
     let first = counted(alloc, Expr::Int(first))?;
     build::par(alloc, first, counted(alloc, Expr::Int(second))?)
@@ -163,7 +163,7 @@ fn beside(alloc: Global, first: i64, second: i64) -> Result<Term, Memory>
 
 // f(number) ; (transmit(a, b, r, t | amount(r) = 5). Success)
 fn before_five(alloc: Global, number: i64) -> Result<Term, Memory>
-    ensures { IfOk result (λ c. CountsFit (counting_lem BINDERS F N) (contract_of c)) }
+    ensures { IfOk result (λ c. CountsFit (examples.counting BINDERS F N) (contract_of c)) }
 {
     let first = counted(alloc, Expr::Int(number))?;
     build::seq(alloc, first, five(alloc)?)
@@ -260,8 +260,8 @@ fn without_a_template_an_application_takes_nothing(rt: HostRuntime) -> Result<()
 
 // transmit(a, b, r, t | kind(r) = kind([1 kind])). then, where no name is declared
 fn of_kind(alloc: Global, kind: Name, then: Term) -> Result<Term, Memory>
-    requires { CountsFit (counting_lem BINDERS F N) (contract_of then) }
-    ensures { IfOk result (λ c. CountsFit (counting_lem BINDERS F N) (contract_of c)) }
+    requires { CountsFit (examples.counting BINDERS F N) (contract_of then) }
+    ensures { IfOk result (λ c. CountsFit (examples.counting BINDERS F N) (contract_of c)) }
 {
     let found = Expr::KindOf(make::boxed(alloc, Expr::Name(R))?);
     let found = make::boxed(alloc, found)?;
@@ -273,7 +273,7 @@ fn of_kind(alloc: Global, kind: Name, then: Term) -> Result<Term, Memory>
 
 // O. Success || O. U. Success
 fn both_want_oil(alloc: Global) -> Result<Term, Memory>
-    ensures { IfOk result (λ c. CountsFit (counting_lem BINDERS F N) (contract_of c)) }
+    ensures { IfOk result (λ c. CountsFit (examples.counting BINDERS F N) (contract_of c)) }
 {
     let first = of_kind(alloc, OIL, Term::Success)?;
     let then = of_kind(alloc, USD, Term::Success)?;
@@ -291,7 +291,7 @@ fn two_ways(alloc: Global) -> Result<Term, Memory> {
 
 // O. Success so many times side by side
 fn side_by_side(alloc: Global, count: u64) -> Result<Term, Memory>
-    ensures { IfOk result (λ c. CountsFit (counting_lem BINDERS F N) (contract_of c)) }
+    ensures { IfOk result (λ c. CountsFit (examples.counting BINDERS F N) (contract_of c)) }
 {
     let last = of_kind(alloc, OIL, Term::Success)?;
     if count <= 1 {
@@ -326,7 +326,7 @@ fn equal_parts_are_asked_once(rt: HostRuntime) -> Result<(), Memory> {
 
 // The number of rows of the residual by one unit of oil, and whether it may end.
 fn rows_after(alloc: Global, term: &Term) -> Result<(u64, bool), Memory>
-    requires { CountsFit (counting_lem BINDERS F N) (contract_of term.now) }
+    requires { CountsFit (examples.counting BINDERS F N) (contract_of term.now) }
 {
     let studied = studied(alloc)?;
     let rows = of_term(alloc, term)?;
@@ -346,7 +346,7 @@ fn rows_are_derived_to_rows(rt: HostRuntime) -> Result<(), Memory> {
 
 // Whether a contract may end, by its tree, which is the plain program, and by its rows.
 fn may_end_by_both(alloc: Global, term: &Term) -> Result<(bool, bool), Memory>
-    requires { CountsFit (counting_lem BINDERS F N) (contract_of term.now) }
+    requires { CountsFit (examples.counting BINDERS F N) (contract_of term.now) }
 {
     let studied = studied(alloc)?;
     let rows = of_term(alloc, term)?;
@@ -364,7 +364,7 @@ fn trees_and_rows_may_end_alike(rt: HostRuntime) -> Result<(), Memory> {
 
 // The width of the rows of a contract.
 fn width_of(alloc: Global, term: &Term) -> Result<u64, Memory>
-    requires { CountsFit (counting_lem BINDERS F N) (contract_of term.now) }
+    requires { CountsFit (examples.counting BINDERS F N) (contract_of term.now) }
 {
     let studied = studied(alloc)?;
     let rows = of_term(alloc, term)?;

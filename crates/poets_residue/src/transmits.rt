@@ -4,11 +4,12 @@ ghost use Rattle.poets_expr.specs.Env.{declared_of};
 ghost use Rattle.poets_expr.specs.Expression.{expression_of};
 ghost use Rattle.poets_expr.specs.Val.{val};
 ghost use Rattle.poets_syntax.specs.Arguments.{arguments};
-ghost use Rattle.poets_syntax.specs.Book.{definitions_of, taken};
+ghost use Rattle.poets_syntax.specs.Book.{book_of, taken};
 ghost use Rattle.poets_syntax.specs.Contract.{Transmit};
-ghost use Rattle.poets_syntax.specs.Normal.{normal as normal_lem};
+ghost use Rattle.poets_syntax.specs.Normal as normal;
 ghost use Rattle.poets_syntax.specs.Replace.{replace};
-ghost use Rattle.poets_syntax.specs.Residual.{event_givens as event_givens_lem, after, is_true};
+ghost use Rattle.poets_syntax.specs.Residual.{after, is_true};
+ghost use Rattle.poets_syntax.specs.Residual as spec;
 ghost use Rattle.poets_syntax.specs.Studied.{marks_of};
 ghost use Rattle.poets_norm.specs.Questions.{questions};
 ghost use Rattle.poets_cons.specs.Table.{contract_at, Stands, Extends};
@@ -23,7 +24,7 @@ use std::alloc::Global;
 
 // What the binders stand for once the event is taken, the newest last.
 fn event_givens(binders: &Binders, event: &Event) -> [(Name, Given); 4]
-    ensures { reverse result ≡ event_givens_lem binders.now event.now }
+    ensures { reverse result ≡ spec.event_givens binders.now event.now }
 {
     let sender = Given {
         value: Some(Value::Agent(event.sender)),
@@ -91,7 +92,7 @@ fn taken_on<L>(
 ) -> Result<usize, Memory>
     requires { then < length arena.old }
     ensures grows { Extends arena.old arena.new }
-    ensures residual { IfOk result (λ p. Stands arena.new p (normal_lem (definitions_of studied.now.book) (marks_of studied.now) (replace (event_givens_lem binders.now event.now) (contract_at arena.old then)))) }
+    ensures residual { IfOk result (λ p. Stands arena.new p (normal.normal (book_of studied.now.book) (marks_of studied.now) (replace (spec.event_givens binders.now event.now) (contract_at arena.old then)))) }
     ensures rises { asks.old ≤ asks.new }
     ensures asks { asks.new ≤ asks.old + questions (contract_at arena.old then) }
     ensures arguments { asks.new ≤ asks.old + arguments (contract_at arena.old then) }
@@ -114,7 +115,7 @@ pub(crate) fn transmit_at<L>(
 ) -> Result<usize, Memory>
     requires { then < length arena.old }
     ensures grows { Extends arena.old arena.new }
-    ensures residual { IfOk result (λ p. Stands arena.new p (after (definitions_of studied.now.book) (marks_of studied.now) event.now (Transmit binders.now (expression_of when.now) (contract_at arena.old then)))) }
+    ensures residual { IfOk result (λ p. Stands arena.new p (after (book_of studied.now.book) (marks_of studied.now) event.now (Transmit binders.now (expression_of when.now) (contract_at arena.old then)))) }
     ensures rises { asks.old ≤ asks.new }
     ensures asks { asks.new ≤ asks.old + questions (Transmit binders.now (expression_of when.now) (contract_at arena.old then)) }
     ensures once { asks.new ≤ asks.old + 1 + arguments (contract_at arena.old then) }

@@ -12,36 +12,38 @@ use Rattle.poets_grammar.specs.Tokens.{toks}
 use Rattle.poets_grammar.specs.TooDeep.{IsTooDeep}
 use Rattle.poets_expr.specs.Env.{same_name}
 use Rattle.poets_expr.proofs.SameTrees.{name_one}
-use Rattle.poets_syntax.specs.Book.{Definition, template_in}
+use Rattle.poets_syntax.specs.Plain.{Template}
+use Rattle.poets_syntax.specs.Book.{template_in}
 use Rattle.poets_syntax.specs.Guarded.{UnguardedEdge, IsGuarded}
 use Rattle.poets_guard.specs.FirstCycle.{LiesOnCycle, IsFirstCycle}
-use Rattle.poets_call.specs.Sentences.{Sentence}
-use Rattle.poets_call.specs.Declarations.{template_in_statement, book_of}
-use Rattle.poets_call.specs.TypedSentences.{NumberedFault, first_fault}
+use Rattle.poets_call.specs.Said.{Statement}
+use Rattle.poets_call.specs.Declarations.{template_in_statement, book_from}
+use Rattle.poets_call.specs.Plain.{TypeFault}
+use Rattle.poets_call.specs.TypedStatements.{first_fault}
 use Rattle.poets_session.specs.declared.form.Form.{Form}
 use Rattle.poets_session.specs.Pieces.{Piece, pieces_of}
 use Rattle.poets_session.specs.Places.{PlaceFault, place_fault}
-use Rattle.poets_session.specs.Sessions.{Text, IsStatement, AreValid, IsNoSession}
+use Rattle.poets_session.specs.Sessions.{Text, IsStatementPiece, AreValid, IsNoSession}
 use Rattle.poets_session.specs.Refusals.{Refusal, BadByte, LongNumber, LongName, TooDeep, NoSentence, Place, Mistyped, Unguarded, refusal_at_byte, IsUnread, IsStopped, IsTemplateAt, IsUnreadable, AreRefused, IsRefused}
 use Rattle.poets_session.specs.Checking.{declares}
 use Rattle.poets_session.proofs.Saying.{Standing, standing_first, standing_more, standing_end}
-use Rattle.poets_session.proofs.Cycling.{at_sentence, not_declared, first_declared}
+use Rattle.poets_session.proofs.Cycling.{at_statement, not_declared, first_declared}
 use Rattle.poets_session.proofs.Refusing.{read_as}
 use Rattle.poets_lex.proofs.EveryText.{every-text}
 
 -- ---- statements
 
-every_read : (p : Piece) (number : ℕ) → ((s : Sentence) → IsStatement p s → ⊥) → ((r : Refusal) → IsUnread p number r → ⊥) → ⊥
+every_read : (p : Piece) (number : ℕ) → ((s : Statement) → IsStatementPiece p s → ⊥) → ((r : Refusal) → IsUnread p number r → ⊥) → ⊥
 every_read p number silent none =
     let shallow : IsTooDeep p.tokens → ⊥ = λ deep. none (TooDeep number) (IsUnread.IsDeep deep) in
-    none (NoSentence number) (IsUnread.IsNoSentence shallow (λ ended s is. silent s (record { ended = ended; shallow = shallow; sentence = is })))
+    none (NoSentence number) (IsUnread.IsNoSentence shallow (λ ended s is. silent s (record { ended = ended; shallow = shallow; statement = is })))
 
 -- pieces that neither say statements nor stop
 record IsUnsaid (pieces : List Piece) : Type 0 where
-  not_said : (statements : List Sentence) → AllZip IsStatement pieces statements → ⊥
+  not_said : (statements : List Statement) → AllZip IsStatementPiece pieces statements → ⊥
   not_stopped : (r : Refusal) → IsStopped pieces r → ⊥
 
-unsaid_after : (pieces rest : List Piece) (found : List Sentence) → IsUnsaid pieces → Standing pieces rest found → ⊥
+unsaid_after : (pieces rest : List Piece) (found : List Statement) → IsUnsaid pieces → Standing pieces rest found → ⊥
 unsaid_after pieces [] found none h = none.not_said found (standing_end pieces [] found h refl)
 unsaid_after pieces (p ∷ rest) found none h =
     every_read p (suc (length h.front))
@@ -50,13 +52,13 @@ unsaid_after pieces (p ∷ rest) found none h =
 
 -- ---- cycles
 
-one_later : {statements : List Sentence} {number : ℕ} {f : Name} (s : Sentence) → IsTemplateAt statements number f → IsTemplateAt (s ∷ statements) (suc number) f
+one_later : {statements : List Statement} {number : ℕ} {f : Name} (s : Statement) → IsTemplateAt statements number f → IsTemplateAt (s ∷ statements) (suc number) f
 one_later s h = record { place = suc h.place; template = h.template; counted = ap suc h.counted; stands = h.stands; named = h.named }
 
-declared_at : (statements : List Sentence) (f : Name) (t : Definition) → template_in (flat_map template_in_statement statements) f ≡ Some t → (number : ℕ) × IsTemplateAt statements number f
+declared_at : (statements : List Statement) (f : Name) (t : Template) → template_in (flat_map template_in_statement statements) f ≡ Some t → (number : ℕ) × IsTemplateAt statements number f
 declared_at [] f t e = absurd cc
 declared_at (s ∷ statements) f t e =
-    ⊎_elim (λ here. (suc zero, at_sentence (s ∷ statements) zero f s refl here))
+    ⊎_elim (λ here. (suc zero, at_statement (s ∷ statements) zero f s refl here))
     (λ later.
     let at = declared_at statements f t (sym (not_declared f s (flat_map template_in_statement statements) later) ∙ e) in
     (suc at.0, one_later s at.1))
@@ -64,7 +66,7 @@ declared_at (s ∷ statements) f t e =
 
 -- the first template of which something holds
 first_with :
-    (P : Name → Type 0) (templates : List Definition) (f : Name) (t : Definition) → template_in templates f ≡ Some t → P f →
+    (P : Name → Type 0) (templates : List Template) (f : Name) (t : Template) → template_in templates f ≡ Some t → P f →
     ((earlier : List Name) (x : Name) (later : List Name) → map (λ t. t.name) templates ≡ earlier ++ x ∷ later → P x → All (λ y. ¬ (P y)) earlier → ⊥) → ⊥
 first_with P [] f t e h none = absurd cc
 first_with P (u ∷ templates) f t e h none =
@@ -77,30 +79,30 @@ first_with P (u ∷ templates) f t e h none =
     (cases_Bool (same_name u.name f))
 
 every_guarded :
-    (statements : List Sentence) → (IsGuarded (book_of statements) → ⊥) →
-    ((number : ℕ) (cycle : List Name) (found : IsFirstCycle (book_of statements) cycle) → IsTemplateAt statements number found.first → ⊥) → ⊥
+    (statements : List Statement) → (IsGuarded (book_from statements) → ⊥) →
+    ((number : ℕ) (cycle : List Name) (found : IsFirstCycle (book_from statements) cycle) → IsTemplateAt statements number found.first → ⊥) → ⊥
 every_guarded statements unguarded none = unguarded on_cycle
   where
-    on_cycle : IsGuarded (book_of statements)
+    on_cycle : IsGuarded (book_from statements)
     on_cycle [] cycle = cycle
     on_cycle (f ∷ others) cycle =
         let t = first_declared statements f others cycle in
-        first_with (LiesOnCycle (UnguardedEdge (book_of statements))) (book_of statements).templates f t.0 t.1 (others, cycle)
+        first_with (LiesOnCycle (UnguardedEdge (book_from statements))) (book_from statements).templates f t.0 t.1 (others, cycle)
         (λ earlier x later split lies free.
         let u = first_declared statements x lies.0 lies.1 in let at = declared_at statements x u.0 u.1 in
         none at.0 (x ∷ lies.0) (record { earlier = earlier; first = x; later = later; others = lies.0; split = split; begins = refl; is_cycle = lies.1; none = free }) at.1)
 
 -- ---- whole sessions
 
-every_checked : {form : Form} {statements : List Sentence} → (AreValid form statements → ⊥) → ((r : Refusal) → AreRefused form statements r → ⊥) →
-    (misplaced : Option PlaceFault) → place_fault form statements ≡ misplaced → (mistyped : NumberedFault) → first_fault statements ≡ mistyped → ⊥
+every_checked : {form : Form} {statements : List Statement} → (AreValid form statements → ⊥) → ((r : Refusal) → AreRefused form statements r → ⊥) →
+    (misplaced : Option PlaceFault) → place_fault form statements ≡ misplaced → (mistyped : TypeFault) → first_fault statements ≡ mistyped → ⊥
 every_checked invalid none (Some fault) e mistyped f = none (Place fault) (AreRefused.OutOfPlace e)
 every_checked invalid none None e (Some (number, fault)) f = none (Mistyped number fault) (AreRefused.NotTyped e f)
 every_checked {statements = statements} invalid none None e None f =
     every_guarded statements (λ guarded. invalid (record { placed = e; typed = f; guarded = guarded }))
     (λ number cycle found at. none (Unguarded number cycle) (AreRefused.NotGuarded e f found at))
 
-pub every_valid : (form : Form) (statements : List Sentence) → (AreValid form statements → ⊥) → ((r : Refusal) → AreRefused form statements r → ⊥) → ⊥
+pub every_valid : (form : Form) (statements : List Statement) → (AreValid form statements → ⊥) → ((r : Refusal) → AreRefused form statements r → ⊥) → ⊥
 every_valid form statements invalid none = every_checked invalid none (place_fault form statements) refl (first_fault statements) refl
 
 -- ---- texts

@@ -14,8 +14,8 @@ use Rattle.poets_expr.specs.Whole.{IsWholeExpression}
 use Rattle.poets_syntax.specs.declared.term.Binders.{Binders}
 use Rattle.poets_syntax.specs.declared.term.Param.{Param}
 use Rattle.poets_syntax.specs.Contract.{Contract}
-use Rattle.poets_call.specs.Calls.{Request}
-use Rattle.poets_call.specs.Sentences.{Sentence, Clerk, Command, Numbered}
+use Rattle.poets_call.specs.Said.{Statement, Clerk, Command, Numbered}
+use Rattle.poets_call.specs.Plain as plain
 use Rattle.poets_lex.specs.declared.token.Tok.{Tok}
 use Rattle.poets_lex.specs.declared.token.Tok.TheVariants as K
 use Rattle.poets_lex.specs.declared.token.Token.{Token}
@@ -29,11 +29,11 @@ use Rattle.poets_grammar.specs.Tokens.{toks}
 use Rattle.poets_grammar.specs.Lists.{ReadsList, ReadsBracketed, ReadsName, ReadsNames}
 use Rattle.poets_grammar.specs.Expressions.{Rule, ReadsExpression, ReadsArguments}
 use Rattle.poets_grammar.specs.ContractGrammar.{ContractRule, ReadsBinders, ReadsContract}
-use Rattle.poets_grammar.specs.Statements.{ReadsParameter, ReadsParameters, IsStep, IsCommand, IsSentence}
+use Rattle.poets_grammar.specs.Statements.{ReadsParameter, ReadsParameters, IsStep, IsCommand, IsStatement}
 use Rattle.poets_print.specs.Laws.{IsListed, CanWrite}
 use Rattle.poets_session.specs.Pieces.{Piece, is_end, with_token, pieces_of}
-use Rattle.poets_session.specs.Sessions.{Text, IsStatement, IsReadAs, commands_ahead, scripts_of, journal_of}
-use Rattle.poets_session.specs.Written.{IsWrittenExpression, IsWrittenContract, IsWrittenRequest, AreListedParameters, AreListedBinders, IsWritten}
+use Rattle.poets_session.specs.Sessions.{Text, IsStatementPiece, IsReadAs, commands_ahead, scripts_of, journal_of}
+use Rattle.poets_session.specs.Written.{IsWrittenExpression, IsWrittenContract, IsWrittenCommand, AreListedParameters, AreListedBinders, IsWritten}
 
 -- ---- tokens
 
@@ -172,17 +172,17 @@ contract_fits names (ReadsContract.Brackets r) h = let a = contract_fits names r
 
 -- ---- statements
 
-request_fits : (names : Table) {ts : List Tok} {request : Request} → IsCommand ts request → AllFit names ts → IsWrittenRequest names request
-request_fits names (IsCommand.Register c) h = let a = contract_fits names c h.1.1.1 in ((h.1.0, a.0.0), a.0.1)
-request_fits names (IsCommand.Transmit {n = n}) h =
+command_fits : (names : Table) {ts : List Tok} {command : plain.Command} → IsCommand ts command → AllFit names ts → IsWrittenCommand names command
+command_fits names (IsCommand.Register c) h = let a = contract_fits names c h.1.1.1 in ((h.1.0, a.0.0), a.0.1)
+command_fits names (IsCommand.Transmit {n = n}) h =
     ((h.1.0, h.1.1.0, h.1.1.1.0, search rules, h.1.1.1.1.1.0), (whole n h.1.1.1.1.0, h.1.1.1.1.1.1.0))
-request_fits names IsCommand.End h = (h.1.0, tt)
-request_fits names IsCommand.Show h = (h.1.0, tt)
-request_fits names (IsCommand.Tally r) h = let a = arguments_fit names r h.1.1 in ((h.1.0, a.0), a.1)
-request_fits names (IsCommand.Portfolio r over) h =
+command_fits names IsCommand.End h = (h.1.0, tt)
+command_fits names IsCommand.Show h = (h.1.0, tt)
+command_fits names (IsCommand.Tally r) h = let a = arguments_fit names r h.1.1 in ((h.1.0, a.0), a.1)
+command_fits names (IsCommand.Portfolio r over) h =
     let a = arguments_fit names r h.1.1 in ((h.1.0, a.0, (names_fit names over a.2.1).0, list_some over), a.1)
-request_fits names (IsCommand.Watch r) h = let a = arguments_fit names r h.1.1 in ((h.1.0, a.0), a.1)
-request_fits names IsCommand.Read h = (tt, h.1.0)
+command_fits names (IsCommand.Watch r) h = let a = arguments_fit names r h.1.1 in ((h.1.0, a.0), a.1)
+command_fits names IsCommand.Read h = (tt, h.1.0)
 
 parameter_fits : (names : Table) (ts rest : List Tok) (p : Param) → ReadsParameter ts p rest → AllFit names ts → IsListed names p.name × AllFit names rest
 parameter_fits names ts rest p (ReadsParameter.Typed e) h = (h.0, h.1.1.1)
@@ -195,20 +195,20 @@ step_fits : (names : Table) {ts : List Tok} {step : Expression} {key : Option Ex
 step_fits names (IsStep.WithoutKey r) h = ((expression_fits names r h).0, tt)
 step_fits names (IsStep.WithKey r s) h = let a = expression_fits names r h in (a.0, (expression_fits names s a.1.1).0)
 
-sentence_fits : (names : Table) {ts : List Tok} {s : Sentence} → IsSentence ts s → AllFit names ts → IsWritten names s
-sentence_fits names (IsSentence.Agents r) h = (names_fit names r h.1).0
-sentence_fits names (IsSentence.Kinds r) h = (names_fit names r h.1).0
-sentence_fits names (IsSentence.Template r c) h =
+statement_fits : (names : Table) {ts : List Tok} {s : Statement} → IsStatement ts s → AllFit names ts → IsWritten names s
+statement_fits names (IsStatement.Agents r) h = (names_fit names r h.1).0
+statement_fits names (IsStatement.Kinds r) h = (names_fit names r h.1).0
+statement_fits names (IsStatement.Template r c) h =
     let p = parameters_fit names r h.1.1 in
     record { name = h.1.0; params = p.0; body = (contract_fits names c p.1.1).0 }
-sentence_fits names (IsSentence.Report r e start binders step) h =
+statement_fits names (IsStatement.Report r e start binders step) h =
     let p = parameters_fit names r h.1.1 in let s = expression_fits names start p.1.1.1.1.1.1.1 in
     let b = binders_fit names binders s.1.1.1 in let k = step_fits names step b.1.1.1 in
     record { name = h.1.0; params = p.0; start = s.0; carry = p.1.1.1.1.1.0; binders = b.0; step = k.0; key = k.1 }
-sentence_fits names IsSentence.Clerk h = tt
-sentence_fits names IsSentence.Journal h = tt
-sentence_fits names (IsSentence.Command c) h = request_fits names c h
-sentence_fits names (IsSentence.Numbered c) h = request_fits names c h.1.1
+statement_fits names IsStatement.Clerk h = tt
+statement_fits names IsStatement.Journal h = tt
+statement_fits names (IsStatement.Command c) h = command_fits names c h
+statement_fits names (IsStatement.Numbered c) h = command_fits names c h.1.1
 
 -- ---- pieces
 
@@ -228,40 +228,40 @@ pieces_fit names (t ∷ ts) h = by_end (is_end t) (pieces_fit names ts h.1)
     by_end true k = (tt, k)
     by_end false k = with_token_fits names t (pieces_of ts) h.0 k
 
-statements_fit : (names : Table) (pieces : List Piece) (statements : List Sentence) → AllZip IsStatement pieces statements → EachFits names pieces → All (IsWritten names) statements
+statements_fit : (names : Table) (pieces : List Piece) (statements : List Statement) → AllZip IsStatementPiece pieces statements → EachFits names pieces → All (IsWritten names) statements
 statements_fit names [] [] said h = All-nil (IsWritten names)
 statements_fit names [] (s ∷ statements) said h = absurd said
 statements_fit names (p ∷ pieces) [] said h = absurd said
 statements_fit names (p ∷ pieces) (s ∷ statements) said h =
-    All-cons (IsWritten names) s statements (sentence_fits names said.0.sentence h.0) (statements_fit names pieces statements said.1 h.1)
+    All-cons (IsWritten names) s statements (statement_fits names said.0.statement h.0) (statements_fit names pieces statements said.1 h.1)
 
 -- ---- the commands of scripts and journals
 
-commands_written : (names : Table) (statements : List Sentence) → All (IsWritten names) statements → All (IsWrittenRequest names) (commands_ahead statements)
-commands_written names [] h = All-nil (IsWrittenRequest names)
-commands_written names (Clerk ∷ statements) h = All-nil (IsWrittenRequest names)
+commands_written : (names : Table) (statements : List Statement) → All (IsWritten names) statements → All (IsWrittenCommand names) (commands_ahead statements)
+commands_written names [] h = All-nil (IsWrittenCommand names)
+commands_written names (Clerk ∷ statements) h = All-nil (IsWrittenCommand names)
 commands_written names (Command r ∷ statements) h =
-    All-cons (IsWrittenRequest names) r (commands_ahead statements) (All-head (IsWritten names) (Command r) statements h)
+    All-cons (IsWrittenCommand names) r (commands_ahead statements) (All-head (IsWritten names) (Command r) statements h)
     (commands_written names statements (All-tail (IsWritten names) (Command r) statements h))
 commands_written names (s ∷ statements) h = commands_written names statements (All-tail (IsWritten names) s statements h)
 
-pub scripts_written : (names : Table) (statements : List Sentence) → All (IsWritten names) statements → All (All (IsWrittenRequest names)) (scripts_of statements)
-scripts_written names [] h = All-nil (All (IsWrittenRequest names))
+pub scripts_written : (names : Table) (statements : List Statement) → All (IsWritten names) statements → All (All (IsWrittenCommand names)) (scripts_of statements)
+scripts_written names [] h = All-nil (All (IsWrittenCommand names))
 scripts_written names (Clerk ∷ statements) h =
     let rest = All-tail (IsWritten names) Clerk statements h in
-    All-cons (All (IsWrittenRequest names)) (commands_ahead statements) (scripts_of statements) (commands_written names statements rest) (scripts_written names statements rest)
+    All-cons (All (IsWrittenCommand names)) (commands_ahead statements) (scripts_of statements) (commands_written names statements rest) (scripts_written names statements rest)
 scripts_written names (s ∷ statements) h = scripts_written names statements (All-tail (IsWritten names) s statements h)
 
-pub journal_written : (names : Table) (statements : List Sentence) → All (IsWritten names) statements → All (λ call. IsWrittenRequest names call.1) (journal_of statements)
-journal_written names [] h = All-nil (λ call. IsWrittenRequest names call.1)
+pub journal_written : (names : Table) (statements : List Statement) → All (IsWritten names) statements → All (λ call. IsWrittenCommand names call.1) (journal_of statements)
+journal_written names [] h = All-nil (λ call. IsWrittenCommand names call.1)
 journal_written names (Numbered clerk r ∷ statements) h =
-    All-cons (λ call. IsWrittenRequest names call.1) (clerk, r) (journal_of statements) (All-head (IsWritten names) (Numbered clerk r) statements h)
+    All-cons (λ call. IsWrittenCommand names call.1) (clerk, r) (journal_of statements) (All-head (IsWritten names) (Numbered clerk r) statements h)
     (journal_written names statements (All-tail (IsWritten names) (Numbered clerk r) statements h))
 journal_written names (s ∷ statements) h = journal_written names statements (All-tail (IsWritten names) s statements h)
 
 -- ---- texts
 
-pub read_written : (text : Text) (names : Table) (statements : List Sentence) → IsReadAs text names statements → All (IsWritten names) statements
+pub read_written : (text : Text) (names : Table) (statements : List Statement) → IsReadAs text names statements → All (IsWritten names) statements
 read_written text names statements read =
     let fit = stand_fit names text 0 read.tokens (standing read.lexed text [] refl refl) in
     statements_fit names (pieces_of (toks read.tokens)) statements read.said (pieces_fit names (toks read.tokens) fit)
@@ -287,5 +287,5 @@ reads_table (Reads.Next {before = before} {between = between} {bytes = bytes} (X
 no_texts : IsTable []
 no_texts text place e = absurd cc
 
-pub read_table : (text : Text) (names : Table) (statements : List Sentence) → IsReadAs text names statements → IsTable names
+pub read_table : (text : Text) (names : Table) (statements : List Statement) → IsReadAs text names statements → IsTable names
 read_table text names statements read = reads_table read.lexed no_texts

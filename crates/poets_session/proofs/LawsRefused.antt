@@ -7,8 +7,8 @@ use Rattle.poets_lex.specs.declared.fault.LexFault.TheVariants as L
 use Rattle.poets_lex.specs.Table.{Table}
 use Rattle.poets_lex.proofs.OneWay.{one-reading, no-reading-at-fault, one-first-fault}
 use Rattle.poets_grammar.specs.Tokens.{toks}
-use Rattle.poets_syntax.specs.TypeOf.{Fault}
-use Rattle.poets_call.specs.Sentences.{Sentence}
+use Rattle.poets_syntax.specs.Plain.{TypeCause}
+use Rattle.poets_call.specs.Said.{Statement}
 use Rattle.poets_session.specs.declared.form.Form.{Form}
 use Rattle.poets_session.specs.Pieces.{pieces_of}
 use Rattle.poets_session.specs.Sessions.{Text, AreValid, IsReadAs, IsSession}
@@ -20,28 +20,28 @@ use Rattle.poets_session.proofs.LawsCycles.{cycle_begins_once, template_at_once}
 
 -- ---- what is valid is not refused
 
-pub valid_unrefused : (form : Form) (statements : List Sentence) (r : Refusal) → AreRefused form statements r → AreValid form statements → ⊥
+pub valid_unrefused : (form : Form) (statements : List Statement) (r : Refusal) → AreRefused form statements r → AreValid form statements → ⊥
 valid_unrefused form statements r (AreRefused.OutOfPlace e) v = let clash = sym e ∙ v.placed in cc
 valid_unrefused form statements r (AreRefused.NotTyped e f) v = let clash = sym f ∙ v.typed in cc
 valid_unrefused form statements r (AreRefused.NotGuarded {cycle = cycle} e f found stands) v = v.guarded cycle found.is_cycle
 
-unreadable_unread : {text : Text} {names others : Table} {r : Refusal} {statements : List Sentence} → IsUnreadable text names r → IsReadAs text others statements → ⊥
+unreadable_unread : {text : Text} {names others : Table} {r : Refusal} {statements : List Statement} → IsUnreadable text names r → IsReadAs text others statements → ⊥
 unreadable_unread {text = text} {others = others} (IsUnreadable.AtByte fault first told) h = no-reading-at-fault [] text fault h.tokens others first h.lexed
 unreadable_unread {text = text} {names = names} {others = others} {r = r} {statements = statements} (IsUnreadable.AtStatement {tokens = tokens} lexed stopped) h =
     let same = one-reading [] text 0 tokens h.tokens names others lexed h.lexed in
     stopped_unsaid statements (subst (λ (ts : List Token). IsStopped (pieces_of (toks ts)) r) same.0 stopped) h.said
 
-pub session_unrefused : (text : Text) (form : Form) (names others : Table) (r : Refusal) (statements : List Sentence) → IsRefused text form names r → IsSession text form others statements → ⊥
+pub session_unrefused : (text : Text) (form : Form) (names others : Table) (r : Refusal) (statements : List Statement) → IsRefused text form names r → IsSession text form others statements → ⊥
 session_unrefused text form names others r statements (IsRefused.Unreadable u) s = unreadable_unread u s.read
 session_unrefused text form names others r statements (IsRefused.Invalid {statements = said} read refused) s =
     let same = read_once text names others said statements read s.read in
-    valid_unrefused form statements r (subst (λ (ss : List Sentence). AreRefused form ss r) same.1 refused) s.valid
+    valid_unrefused form statements r (subst (λ (ss : List Statement). AreRefused form ss r) same.1 refused) s.valid
 
 -- ---- one refusal of statements
 
-mistyped_once : (a b : ℕ × Fault) → Some a ≡ Some b → Mistyped a.0 a.1 ≡ Mistyped b.0 b.1
+mistyped_once : (a b : ℕ × TypeCause) → Some a ≡ Some b → Mistyped a.0 a.1 ≡ Mistyped b.0 b.1
 mistyped_once a b e =
-    let same : a ≡ b = cc in ap (λ (p : ℕ × Fault). Mistyped p.0 p.1) same
+    let same : a ≡ b = cc in ap (λ (p : ℕ × TypeCause). Mistyped p.0 p.1) same
 
 alike : {r s : Refusal} → r ≡ s → AreAlike r s
 alike {r = r} e = subst (AreAlike r) e AreAlike.Same
@@ -49,7 +49,7 @@ alike {r = r} e = subst (AreAlike r) e AreAlike.Same
 begin_alike : {m n : ℕ} {f g : Name} {c d fs gs : List Name} → m ≡ n → f ≡ g → c ≡ f ∷ fs → d ≡ g ∷ gs → AreAlike (Unguarded m c) (Unguarded n d)
 begin_alike e f p q = rw (p, q, e, f) AreAlike.Cycles
 
-pub statements_refused_once : (form : Form) (statements : List Sentence) (r s : Refusal) → AreRefused form statements r → AreRefused form statements s → AreAlike r s
+pub statements_refused_once : (form : Form) (statements : List Statement) (r s : Refusal) → AreRefused form statements r → AreRefused form statements s → AreAlike r s
 statements_refused_once form statements r s (AreRefused.OutOfPlace e) (AreRefused.OutOfPlace f) = let same = sym e ∙ f in alike cc
 statements_refused_once form statements r s (AreRefused.OutOfPlace e) (AreRefused.NotTyped f g) = absurd (let clash = sym e ∙ f in cc)
 statements_refused_once form statements r s (AreRefused.OutOfPlace e) (AreRefused.NotGuarded f g d u) = absurd (let clash = sym e ∙ f in cc)
@@ -108,7 +108,7 @@ refused_one (IsRefused.Unreadable u) (IsRefused.Invalid read refused) = absurd (
 refused_one (IsRefused.Invalid read refused) (IsRefused.Unreadable u) = absurd (unreadable_unread u read)
 refused_one {text = text} {form = form} {names = names} {others = others} {r = r} {s = s} (IsRefused.Invalid {statements = a} read refused) (IsRefused.Invalid {statements = b} also k) =
     let same = read_once text names others a b read also in
-    alike_one same.0 (statements_refused_once form a r s refused (subst (λ (ss : List Sentence). AreRefused form ss s) (sym same.1) k))
+    alike_one same.0 (statements_refused_once form a r s refused (subst (λ (ss : List Statement). AreRefused form ss s) (sym same.1) k))
 
 pub refused_once : (text : Text) (form : Form) (names others : Table) (r s : Refusal) → IsRefused text form names r → IsRefused text form others s →
     AreAlike r s × (refusal_text names r ≡ refusal_text others s)

@@ -6,40 +6,40 @@ use Rattle.poets_lex.specs.declared.token.Token.{Token}
 use Rattle.poets_lex.specs.Table.{Table}
 use Rattle.poets_lex.proofs.OneWay.{one-reading}
 use Rattle.poets_grammar.specs.Tokens.{toks}
-use Rattle.poets_grammar.specs.Statements.{IsSentence}
-use Rattle.poets_grammar.specs.StatementReading.{sentence}
+use Rattle.poets_grammar.specs.Statements.{IsStatement}
+use Rattle.poets_grammar.specs.StatementReading.{statement}
 use Rattle.poets_grammar.proofs.Steps.{one_answer}
-use Rattle.poets_grammar.proofs.Statements.{sentence_complete}
-use Rattle.poets_call.specs.Sentences.{Sentence}
+use Rattle.poets_grammar.proofs.Statements.{statement_complete}
+use Rattle.poets_call.specs.Said.{Statement}
 use Rattle.poets_session.specs.Pieces.{Piece, pieces_of}
-use Rattle.poets_session.specs.Sessions.{Text, IsStatement, IsReadAs}
+use Rattle.poets_session.specs.Sessions.{Text, IsStatementPiece, IsReadAs}
 use Rattle.poets_session.specs.Refusals.{Refusal, IsUnread, IsStopped}
 
-one_sentence : (ts : List Tok) (a b : Sentence) → IsSentence ts a → IsSentence ts b → a ≡ b
-one_sentence ts a b h k = one_answer (sentence ts) a b (sentence_complete h) (sentence_complete k)
+one_statement : (ts : List Tok) (a b : Statement) → IsStatement ts a → IsStatement ts b → a ≡ b
+one_statement ts a b h k = one_answer (statement ts) a b (statement_complete h) (statement_complete k)
 
-pub said_once : (pieces : List Piece) (a b : List Sentence) → AllZip IsStatement pieces a → AllZip IsStatement pieces b → a ≡ b
+pub said_once : (pieces : List Piece) (a b : List Statement) → AllZip IsStatementPiece pieces a → AllZip IsStatementPiece pieces b → a ≡ b
 said_once [] [] [] h k = refl
 said_once [] [] (t ∷ b) h k = absurd k
 said_once [] (s ∷ a) b h k = absurd h
 said_once (p ∷ pieces) [] b h k = absurd h
 said_once (p ∷ pieces) (s ∷ a) [] h k = absurd k
 said_once (p ∷ pieces) (s ∷ a) (t ∷ b) h k =
-    let first : s ≡ t = one_sentence p.tokens s t h.0.sentence k.0.sentence in
+    let first : s ≡ t = one_statement p.tokens s t h.0.statement k.0.statement in
     let rest : a ≡ b = said_once pieces a b h.1 k.1 in
     cc
 
 -- a text is read in one way
-pub read_once : (text : Text) (names others : Table) (a b : List Sentence) → IsReadAs text names a → IsReadAs text others b → (names ≡ others) × (a ≡ b)
+pub read_once : (text : Text) (names others : Table) (a b : List Statement) → IsReadAs text names a → IsReadAs text others b → (names ≡ others) × (a ≡ b)
 read_once text names others a b h k =
     let same = one-reading [] text 0 h.tokens k.tokens names others h.lexed k.lexed in
-    (same.1, said_once (pieces_of (toks k.tokens)) a b (subst (λ (ts : List Token). AllZip IsStatement (pieces_of (toks ts)) a) same.0 h.said) k.said)
+    (same.1, said_once (pieces_of (toks k.tokens)) a b (subst (λ (ts : List Token). AllZip IsStatementPiece (pieces_of (toks ts)) a) same.0 h.said) k.said)
 
 -- ---- the first statement that says nothing
 
-unread_unsaid : {p : Piece} {number : ℕ} {r : Refusal} (s : Sentence) → IsUnread p number r → IsStatement p s → ⊥
+unread_unsaid : {p : Piece} {number : ℕ} {r : Refusal} (s : Statement) → IsUnread p number r → IsStatementPiece p s → ⊥
 unread_unsaid s (IsUnread.IsDeep deep) h = h.shallow deep
-unread_unsaid s (IsUnread.IsNoSentence shallow none) h = none h.ended s h.sentence
+unread_unsaid s (IsUnread.IsNoSentence shallow none) h = none h.ended s h.statement
 
 unread_once : {p : Piece} {number : ℕ} {r s : Refusal} → IsUnread p number r → IsUnread p number s → r ≡ s
 unread_once (IsUnread.IsDeep deep) (IsUnread.IsDeep also) = refl
@@ -48,32 +48,32 @@ unread_once (IsUnread.IsNoSentence shallow none) (IsUnread.IsDeep deep) = absurd
 unread_once (IsUnread.IsNoSentence shallow none) (IsUnread.IsNoSentence also neither) = refl
 
 -- each of the pieces says something
-said_at : (front rest : List Piece) (p : Piece) (said : List Sentence) → AllZip IsStatement (front ++ p ∷ rest) said → (s : Sentence) × IsStatement p s
+said_at : (front rest : List Piece) (p : Piece) (said : List Statement) → AllZip IsStatementPiece (front ++ p ∷ rest) said → (s : Statement) × IsStatementPiece p s
 said_at [] rest p [] h = absurd h
 said_at [] rest p (s ∷ said) h = (s, h.0)
 said_at (q ∷ front) rest p [] h = absurd h
 said_at (q ∷ front) rest p (s ∷ said) h = said_at front rest p said h.1
 
-pub stopped_unsaid : {pieces : List Piece} {r : Refusal} (said : List Sentence) → IsStopped pieces r → AllZip IsStatement pieces said → ⊥
+pub stopped_unsaid : {pieces : List Piece} {r : Refusal} (said : List Statement) → IsStopped pieces r → AllZip IsStatementPiece pieces said → ⊥
 stopped_unsaid said h k =
-    let here = said_at h.front h.rest h.piece said (subst (λ (ps : List Piece). AllZip IsStatement ps said) h.cut k) in
+    let here = said_at h.front h.rest h.piece said (subst (λ (ps : List Piece). AllZip IsStatementPiece ps said) h.cut k) in
     unread_unsaid here.0 h.unread here.1
 
 IsSilent : Piece → Type 0
-IsSilent p = (s : Sentence) → IsStatement p s → ⊥
+IsSilent p = (s : Statement) → IsStatementPiece p s → ⊥
 
 -- one list is cut in two ways, each after pieces that say something and ahead of one that does not
 cut_once :
-    (front back : List Piece) (p q : Piece) (rest others : List Piece) (a b : List Sentence) → front ++ p ∷ rest ≡ back ++ q ∷ others →
-    AllZip IsStatement front a → AllZip IsStatement back b → IsSilent p → IsSilent q → (front ≡ back) × (p ≡ q)
+    (front back : List Piece) (p q : Piece) (rest others : List Piece) (a b : List Statement) → front ++ p ∷ rest ≡ back ++ q ∷ others →
+    AllZip IsStatementPiece front a → AllZip IsStatementPiece back b → IsSilent p → IsSilent q → (front ≡ back) × (p ≡ q)
 unfolding IsSilent
 cut_once [] [] p q rest others a b e h k m n = (refl, cc)
 cut_once [] (y ∷ back) p q rest others a [] e h k m n = absurd k
 cut_once [] (y ∷ back) p q rest others a (t ∷ b) e h k m n =
-    let same : y ≡ p = cc in absurd (m t (subst (λ z. IsStatement z t) same k.0))
+    let same : y ≡ p = cc in absurd (m t (subst (λ z. IsStatementPiece z t) same k.0))
 cut_once (x ∷ front) [] p q rest others [] b e h k m n = absurd h
 cut_once (x ∷ front) [] p q rest others (s ∷ a) b e h k m n =
-    let same : x ≡ q = cc in absurd (n s (subst (λ z. IsStatement z s) same h.0))
+    let same : x ≡ q = cc in absurd (n s (subst (λ z. IsStatementPiece z s) same h.0))
 cut_once (x ∷ front) (y ∷ back) p q rest others [] b e h k m n = absurd h
 cut_once (x ∷ front) (y ∷ back) p q rest others (s ∷ a) [] e h k m n = absurd k
 cut_once (x ∷ front) (y ∷ back) p q rest others (s ∷ a) (t ∷ b) e h k m n =

@@ -14,17 +14,18 @@ use Rattle.poets_expr.specs.declared.expr.Op.TheVariants as O
 use Rattle.poets_expr.specs.Env.{Declared}
 use Rattle.poets_expr.specs.Expression.{UnaryOp, Minus, Not, AmountOf, KindOf, Expression, Literal, Undefined, Named, Unary, Make, Binary, If}
 use Rattle.poets_syntax.specs.declared.term.Param.{Param}
-use Rattle.poets_syntax.specs.Book.{Definition, Definitions, template_in}
+use Rattle.poets_syntax.specs.Plain.{Book, Twice, WrongCount, WrongType}
+use Rattle.poets_syntax.specs.Book.{template_in}
 use Rattle.poets_syntax.specs.Contract.{Contract, Success, Failure, Transmit, Plus, Par, Seq, App}
-use Rattle.poets_syntax.specs.TypeOf.{Twice, WrongCount, WrongType, Verdict, Passes, Fails, ◌>>=◌, Scope, type_in, same_type, must_be, must_be_number_or_day, unary_type, sum_type, difference_type, equal_type, order_type, binary_type, make_type, if_type, name_type, resource_type, literal_type, type_of}
+use Rattle.poets_syntax.specs.TypeOf.{Verdict, Passes, Fails, ◌>>=◌, Scope, type_in, same_type, must_be, must_be_number_or_day, unary_type, sum_type, difference_type, equal_type, order_type, binary_type, make_type, if_type, name_type, resource_type, literal_type, type_of}
 use Rattle.poets_syntax.specs.Typed.{is_among, in_use, check_new, names_bound, types_bound, scope_of, check_type, check_args, check_arguments, check_application, check_contract}
-use Rattle.poets_report.specs.Query.{Query}
-use Rattle.poets_call.specs.Calls.{Request}
 use Rattle.poets_call.specs.Replies.{report_in}
-use Rattle.poets_call.specs.Sentences.{Sentence, Agents, Kinds, Template, Report, Clerk, Journal, Command, Numbered}
-use Rattle.poets_call.specs.Declarations.{names_declared, book_of, reports_of}
-use Rattle.poets_call.specs.TypedSentences.{NumberedFault, report_names, check_template, check_key, check_fold, check_report, check_declared, check_event, check_report_arguments, check_request, check_sentence, or_else, twice_from, mistyped_from, first_of, first_fault}
-use Rattle.poets_print.specs.Laws.{IsListed, CanWrite, CanWriteContract, CanWriteRequest}
+use Rattle.poets_call.specs.Said.{Statement, Agents, Kinds, Template, Report, Clerk, Journal, Command, Numbered}
+use Rattle.poets_call.specs.Declarations.{names_declared, book_from, reports_of}
+use Rattle.poets_call.specs.Plain.{TypeFault}
+use Rattle.poets_call.specs.TypedStatements.{report_names, check_template, check_key, check_fold, check_report, check_declared, check_event, check_report_arguments, check_command, check_statement, or_else, twice_from, mistyped_from, first_of, first_fault}
+use Rattle.poets_call.specs.Plain as plain
+use Rattle.poets_print.specs.Laws.{IsListed, CanWrite, CanWriteContract, CanWriteCommand}
 use Rattle.poets_session.specs.Written.{AreListedParameters, IsWrittenExpression, IsWrittenTemplate, IsWrittenReport, IsWritten, IsListedFault}
 
 -- where the check fails, the name of its fault stands in the table
@@ -153,12 +154,12 @@ new names used earlier (x ∷ xs) h =
     either names (used x || is_among earlier x) (Fails (Twice x)) (check_new used (x ∷ earlier) xs)
     (All-head (IsListed names) x xs h) (new names used (x ∷ earlier) xs (All-tail (IsListed names) x xs h))
 
-application : (names : Table) (declared : Declared) (scope : Scope) (f : Name) (o : Option Definition) (args : List Expression) → IsListed names f → All (CanWrite names) args →
+application : (names : Table) (declared : Declared) (scope : Scope) (f : Name) (o : Option plain.Template) (args : List Expression) → IsListed names f → All (CanWrite names) args →
     Tells names (check_application declared scope f o args)
 application names declared scope f None args h k = h
 application names declared scope f (Some t) args h k = arguments names declared scope f t.params args h k
 
-contract : (names : Table) (book : Definitions) (reports : List Name) (scope : Scope) (c : Contract) → CanWriteContract names c → Tells names (check_contract book reports scope c)
+contract : (names : Table) (book : Book) (reports : List Name) (scope : Scope) (c : Contract) → CanWriteContract names c → Tells names (check_contract book reports scope c)
 contract names book reports scope Success h = tt
 contract names book reports scope Failure h = tt
 contract names book reports scope (Transmit b p c) h =
@@ -180,7 +181,7 @@ contract names book reports scope (App f args) h = application names book.declar
 parameters : (names : Table) (params : List Param) → AreListedParameters names params → All (IsListed names) (map (λ p. p.name) params)
 parameters names params h = All-map (IsListed names) (λ (p : Param). p.name) params h
 
-template : (names : Table) (book : Definitions) (reports : List Name) (t : Definition) → IsWrittenTemplate names t → Tells names (check_template book reports t)
+template : (names : Table) (book : Book) (reports : List Name) (t : plain.Template) → IsWrittenTemplate names t → Tells names (check_template book reports t)
 template names book reports t h =
     after names (check_new (in_use book reports) [] (map (λ p. p.name) t.params)) (λ _. check_contract book reports (scope_of t.params) t.body)
     (new names (in_use book reports) [] (map (λ p. p.name) t.params) (parameters names t.params h.params))
@@ -190,7 +191,7 @@ key_of : (names : Table) (declared : Declared) (scope : Scope) (key : Option Exp
 key_of names declared scope None h = tt
 key_of names declared scope (Some e) h = after names (type_of declared scope e) (λ _. Passes tt) (typed names declared scope e h.0) (λ _. tt)
 
-fold : (names : Table) (book : Definitions) (reports : List Name) (scope : Scope) (q : Query) → IsWrittenReport names q → Tells names (check_fold book reports scope q)
+fold : (names : Table) (book : Book) (reports : List Name) (scope : Scope) (q : plain.Report) → IsWrittenReport names q → Tells names (check_fold book reports scope q)
 fold names book reports scope q h =
     let inner = types_bound q.binders ++ (q.carry, q.ty) ∷ scope in
     let keyed = check_key book.declared (types_bound q.binders ++ scope) q.key in
@@ -202,7 +203,7 @@ fold names book reports scope q h =
     (λ _. after names (check_type book.declared inner q.ty q.step) (λ _. keyed) (of_type names book.declared inner q.ty q.step h.step.0)
     (λ _. key_of names book.declared (types_bound q.binders ++ scope) q.key h.key)))
 
-report : (names : Table) (book : Definitions) (reports : List Name) (q : Query) → IsWrittenReport names q → Tells names (check_report book reports q)
+report : (names : Table) (book : Book) (reports : List Name) (q : plain.Report) → IsWrittenReport names q → Tells names (check_report book reports q)
 report names book reports q h =
     after names (check_new (in_use book reports) [] (map (λ p. p.name) q.params)) (λ _. check_fold book reports (scope_of q.params) q)
     (new names (in_use book reports) [] (map (λ p. p.name) q.params) (parameters names q.params h.params))
@@ -218,32 +219,32 @@ event names declared e sender receiver kind =
     (λ _. after names (check_declared declared T.Agent e.receiver) (λ _. third) (declaration names declared T.Agent e.receiver receiver)
     (λ _. declaration names declared T.Kind e.what.kind kind))
 
-question : (names : Table) (declared : Declared) (x : Name) (o : Option Query) (args : List Expression) → IsListed names x → All (CanWrite names) args →
+question : (names : Table) (declared : Declared) (x : Name) (o : Option plain.Report) (args : List Expression) → IsListed names x → All (CanWrite names) args →
     Tells names (check_report_arguments declared x o args)
 question names declared x None args h k = h
 question names declared x (Some q) args h k = arguments names declared [] x q.params args h k
 
-request : (names : Table) (book : Definitions) (reports : List Query) (r : Request) → CanWriteRequest names r → Tells names (check_request book reports r)
-request names book reports (Request.Register x c) h = contract names book (report_names reports) [] c h.1
-request names book reports (Request.Transmit x e) h = event names book.declared e h.1 h.2 h.4
-request names book reports (Request.End x) h = tt
-request names book reports (Request.Show x) h = tt
-request names book reports (Request.Tally x args) h = question names book.declared x (report_in reports x) args h.0 h.1
-request names book reports (Request.Portfolio x args over) h = question names book.declared x (report_in reports x) args h.0 h.1
-request names book reports (Request.Watch x args) h = question names book.declared x (report_in reports x) args h.0 h.1
-request names book reports (Request.Read n) h = tt
+command : (names : Table) (book : Book) (reports : List plain.Report) (r : plain.Command) → CanWriteCommand names r → Tells names (check_command book reports r)
+command names book reports (plain.Command.Register x c) h = contract names book (report_names reports) [] c h.1
+command names book reports (plain.Command.Transmit x e) h = event names book.declared e h.1 h.2 h.4
+command names book reports (plain.Command.End x) h = tt
+command names book reports (plain.Command.Show x) h = tt
+command names book reports (plain.Command.Tally x args) h = question names book.declared x (report_in reports x) args h.0 h.1
+command names book reports (plain.Command.Portfolio x args over) h = question names book.declared x (report_in reports x) args h.0 h.1
+command names book reports (plain.Command.Watch x args) h = question names book.declared x (report_in reports x) args h.0 h.1
+command names book reports (plain.Command.Read n) h = tt
 
-sentence : (names : Table) (book : Definitions) (reports : List Query) (s : Sentence) → IsWritten names s → Tells names (check_sentence book reports s)
-sentence names book reports (Agents xs) h = tt
-sentence names book reports (Kinds xs) h = tt
-sentence names book reports (Template t) h = template names book (report_names reports) t h
-sentence names book reports (Report q) h = report names book (report_names reports) q h
-sentence names book reports Clerk h = tt
-sentence names book reports Journal h = tt
-sentence names book reports (Command r) h = request names book reports r h.0
-sentence names book reports (Numbered clerk r) h = request names book reports r h.0
+statement : (names : Table) (book : Book) (reports : List plain.Report) (s : Statement) → IsWritten names s → Tells names (check_statement book reports s)
+statement names book reports (Agents xs) h = tt
+statement names book reports (Kinds xs) h = tt
+statement names book reports (Template t) h = template names book (report_names reports) t h
+statement names book reports (Report q) h = report names book (report_names reports) q h
+statement names book reports Clerk h = tt
+statement names book reports Journal h = tt
+statement names book reports (Command r) h = command names book reports r h.0
+statement names book reports (Numbered clerk r) h = command names book reports r h.0
 
-declares : (names : Table) (s : Sentence) → IsWritten names s → All (IsListed names) (names_declared s)
+declares : (names : Table) (s : Statement) → IsWritten names s → All (IsListed names) (names_declared s)
 declares names (Agents xs) h = h
 declares names (Kinds xs) h = h
 declares names (Template t) h = All-cons (IsListed names) t.name [] h.name (All-nil (IsListed names))
@@ -253,33 +254,33 @@ declares names s h = All-nil (IsListed names)
 -- ---- the first fault
 
 -- the name of the fault, if there is one, stands in the table
-abbrev pub IsTold : Table → NumberedFault → Type 0
+abbrev pub IsTold : Table → TypeFault → Type 0
 IsTold names found = IfSome found (λ p. IsListedFault names p.1)
 
-told_or_else : (names : Table) (check : Verdict (Unit {0})) (number : ℕ) (others : NumberedFault) → Tells names check → IsTold names others → IsTold names (or_else check number others)
+told_or_else : (names : Table) (check : Verdict (Unit {0})) (number : ℕ) (others : TypeFault) → Tells names check → IsTold names others → IsTold names (or_else check number others)
 told_or_else names (Passes a) number others h k = k
 told_or_else names (Fails fault) number others h k = h
 
-told_twice : (names : Table) (number : ℕ) (earlier : List Name) (statements : List Sentence) → All (IsWritten names) statements → IsTold names (twice_from number earlier statements)
+told_twice : (names : Table) (number : ℕ) (earlier : List Name) (statements : List Statement) → All (IsWritten names) statements → IsTold names (twice_from number earlier statements)
 told_twice names number earlier [] h = tt
 told_twice names number earlier (s ∷ statements) h =
     told_or_else names (check_new (is_among earlier) [] (names_declared s)) number (twice_from (number + 1) (names_declared s ++ earlier) statements)
     (new names (is_among earlier) [] (names_declared s) (declares names s (All-head (IsWritten names) s statements h)))
     (told_twice names (number + 1) (names_declared s ++ earlier) statements (All-tail (IsWritten names) s statements h))
 
-told_mistyped : (names : Table) (number : ℕ) (book : Definitions) (reports : List Query) (statements : List Sentence) → All (IsWritten names) statements →
+told_mistyped : (names : Table) (number : ℕ) (book : Book) (reports : List plain.Report) (statements : List Statement) → All (IsWritten names) statements →
     IsTold names (mistyped_from number book reports statements)
 told_mistyped names number book reports [] h = tt
 told_mistyped names number book reports (s ∷ statements) h =
-    told_or_else names (check_sentence book reports s) number (mistyped_from (number + 1) book reports statements)
-    (sentence names book reports s (All-head (IsWritten names) s statements h))
+    told_or_else names (check_statement book reports s) number (mistyped_from (number + 1) book reports statements)
+    (statement names book reports s (All-head (IsWritten names) s statements h))
     (told_mistyped names (number + 1) book reports statements (All-tail (IsWritten names) s statements h))
 
-told_first : (names : Table) (first later : NumberedFault) → IsTold names first → IsTold names later → IsTold names (first_of first later)
+told_first : (names : Table) (first later : TypeFault) → IsTold names first → IsTold names later → IsTold names (first_of first later)
 told_first names None later h k = k
 told_first names (Some fault) later h k = h
 
-pub fault_told : (names : Table) (statements : List Sentence) → All (IsWritten names) statements → IsTold names (first_fault statements)
+pub fault_told : (names : Table) (statements : List Statement) → All (IsWritten names) statements → IsTold names (first_fault statements)
 fault_told names statements h =
-    told_first names (twice_from 1 [] statements) (mistyped_from 1 (book_of statements) (reports_of statements) statements)
-    (told_twice names 1 [] statements h) (told_mistyped names 1 (book_of statements) (reports_of statements) statements h)
+    told_first names (twice_from 1 [] statements) (mistyped_from 1 (book_from statements) (reports_of statements) statements)
+    (told_twice names 1 [] statements h) (told_mistyped names 1 (book_from statements) (reports_of statements) statements h)

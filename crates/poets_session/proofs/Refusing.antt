@@ -6,9 +6,9 @@ use Rattle.poets_lex.specs.declared.fault.LexFault.TheVariants as L
 use Rattle.poets_lex.specs.Table.{Table}
 use Rattle.poets_lex.specs.Lexes.{Lexes, FirstFault}
 use Rattle.poets_grammar.specs.Tokens.{toks}
-use Rattle.poets_syntax.specs.TypeOf.{Fault}
-use Rattle.poets_call.specs.Sentences.{Sentence}
-use Rattle.poets_call.specs.TypedSentences.{first_fault}
+use Rattle.poets_syntax.specs.Plain.{TypeCause}
+use Rattle.poets_call.specs.Said.{Statement}
+use Rattle.poets_call.specs.TypedStatements.{first_fault}
 use Rattle.poets_session.specs.Pieces.{pieces_of}
 use Rattle.poets_session.specs.Places.{Misplaced, TooMany, place_fault}
 use Rattle.poets_session.specs.Counting.{fault_of}
@@ -40,31 +40,31 @@ pub stopped_unreadable : (text : Text) (names : Table) (tokens : List Token) (ca
     IsCauseOf (IsStopped (pieces_of (toks tokens))) cause → IsCauseOf (IsUnreadable text names) cause
 stopped_unreadable text names tokens cause lexed h = IsCauseOf-map (IsStopped (pieces_of (toks tokens))) (IsUnreadable text names) cause (λ r s. IsUnreadable.AtStatement lexed s) h
 
-pub read_as : (text : Text) (names : Table) (tokens : List Token) (statements : List Sentence) → Lexes [] text 0 tokens names → AreSaid (pieces_of (toks tokens)) statements → IsReadAs text names statements
+pub read_as : (text : Text) (names : Table) (tokens : List Token) (statements : List Statement) → Lexes [] text 0 tokens names → AreSaid (pieces_of (toks tokens)) statements → IsReadAs text names statements
 read_as text names tokens statements lexed said = record { tokens = tokens; lexed = lexed; said = said }
 
 -- ---- statements that are refused
 
-pub place_refused : (form : Form) (statements : List Sentence) (fault : PlaceFault) → place_fault form statements ≡ Some (fault_of fault) → IsCauseOf (AreRefused form statements) (place_cause fault)
+pub place_refused : (form : Form) (statements : List Statement) (fault : PlaceFault) → place_fault form statements ≡ Some (fault_of fault) → IsCauseOf (AreRefused form statements) (place_cause fault)
 place_refused form statements (P.Misplaced number) e = inr (Place (Misplaced number), refl, AreRefused.OutOfPlace e)
 place_refused form statements (P.TooMany number) e = inr (Place (TooMany number), refl, AreRefused.OutOfPlace e)
 
-mistyped : (form : Form) (statements : List Sentence) → place_fault form statements ≡ None →
-    (found : Option (ℕ × Fault)) → first_fault statements ≡ found → (r : Refusal) → IsTypeRefusal found r → AreRefused form statements r
+mistyped : (form : Form) (statements : List Statement) → place_fault form statements ≡ None →
+    (found : Option (ℕ × TypeCause)) → first_fault statements ≡ found → (r : Refusal) → IsTypeRefusal found r → AreRefused form statements r
 mistyped form statements placed None e r h = absurd cc
 mistyped form statements placed (Some (number, fault)) e r h =
     let same : Mistyped number fault ≡ r = cc in subst (AreRefused form statements) same (AreRefused.NotTyped placed e)
 
-pub type_refused : (form : Form) (statements : List Sentence) (cause : SessionCause) → place_fault form statements ≡ None →
+pub type_refused : (form : Form) (statements : List Statement) (cause : SessionCause) → place_fault form statements ≡ None →
     IsCauseOf (IsTypeRefusal (first_fault statements)) cause → IsCauseOf (AreRefused form statements) cause
 type_refused form statements cause placed h =
     IsCauseOf-map (IsTypeRefusal (first_fault statements)) (AreRefused form statements) cause (mistyped form statements placed (first_fault statements) refl) h
 
-unguarded : (form : Form) (statements : List Sentence) → place_fault form statements ≡ None → first_fault statements ≡ None →
+unguarded : (form : Form) (statements : List Statement) → place_fault form statements ≡ None → first_fault statements ≡ None →
     (r : Refusal) → IsGuardRefusal statements r → AreRefused form statements r
 unguarded form statements placed typed r h = subst (AreRefused form statements) (sym h.told) (AreRefused.NotGuarded placed typed h.found h.declared)
 
-pub guard_refused : (form : Form) (statements : List Sentence) (cause : SessionCause) → place_fault form statements ≡ None → first_fault statements ≡ None →
+pub guard_refused : (form : Form) (statements : List Statement) (cause : SessionCause) → place_fault form statements ≡ None → first_fault statements ≡ None →
     IsCauseOf (IsGuardRefusal statements) cause → IsCauseOf (AreRefused form statements) cause
 guard_refused form statements cause placed typed h = IsCauseOf-map (IsGuardRefusal statements) (AreRefused form statements) cause (unguarded form statements placed typed) h
 
@@ -73,13 +73,13 @@ guard_refused form statements cause placed typed h = IsCauseOf-map (IsGuardRefus
 pub unreadable_refused : (text : Text) (form : Form) (names : Table) (cause : SessionCause) → IsCauseOf (IsUnreadable text names) cause → IsCauseOf (IsRefused text form names) cause
 unreadable_refused text form names cause h = IsCauseOf-map (IsUnreadable text names) (IsRefused text form names) cause (λ r u. IsRefused.Unreadable u) h
 
-pub invalid_refused : (text : Text) (form : Form) (names : Table) (statements : List Sentence) (cause : SessionCause) → IsReadAs text names statements →
+pub invalid_refused : (text : Text) (form : Form) (names : Table) (statements : List Statement) (cause : SessionCause) → IsReadAs text names statements →
     IsCauseOf (AreRefused form statements) cause → IsCauseOf (IsRefused text form names) cause
 invalid_refused text form names statements cause read h = IsCauseOf-map (AreRefused form statements) (IsRefused text form names) cause (λ r v. IsRefused.Invalid read v) h
 
 -- the first fault of what a text says is the text's
 pub fault_refused :
-    (text : Text) (form : Form) (names : Table) (statements : List Sentence) (result : Result Session SessionFault) → IsReadAs text names statements →
+    (text : Text) (form : Form) (names : Table) (statements : List Statement) (result : Result Session SessionFault) → IsReadAs text names statements →
     IfErr result (IsFirstFaultOf form statements) → IfErr result (λ fault. fault.names ≡ names) → IfErr result (IsFirstFault text form)
 fault_refused text form names statements (Ok session) read h told = h
 fault_refused text form names statements (Err fault) read h told =

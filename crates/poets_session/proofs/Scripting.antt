@@ -9,92 +9,95 @@ use Rattle.std.proofs.lemmas.List.Elements.{All-nil, All-cons}
 use Rattle.std.proofs.lemmas.Bool.Decides.{nat_tests}
 use Rattle.poets_value.specs.Listed.{Listed}
 use Rattle.poets_call.specs.declared.call.Command.{Command as CodeCommand}
-use Rattle.poets_call.specs.Calls.{Request, request_of}
-use Rattle.poets_call.specs.Sentences.{Sentence, Clerk, Command, Numbered, sentence_of, sentences_of}
+use Rattle.poets_call.specs.Plain as plain
+use Rattle.poets_call.specs.Calls.{command_of}
+use Rattle.poets_call.specs.Said.{Clerk, Command, Numbered}
+use Rattle.poets_call.specs.Statements.{statement_of, statements_of}
 use Rattle.poets_call.specs.declared.statement.Statement.{Statement}
 use Rattle.poets_call.specs.declared.statement.Statement.TheVariants as S
+use Rattle.poets_call.specs.Said as said
 use Rattle.poets_session.specs.declared.form.Form.{Form}
 use Rattle.poets_session.specs.Places.{PlaceFault, is_misplaced, is_too_many, place_fault, place_fault_after}
 use Rattle.poets_session.specs.Scripts.{HasShortNumber}
-use Rattle.poets_session.specs.Sessions.{commands_ahead, scripts_of, requests_of, numbered_call}
+use Rattle.poets_session.specs.Sessions.{commands_ahead, scripts_of, commands_in, numbered_call}
 
 -- the lists, with a request at the end of the last
-abbrev pub onto_last : Request → List (List Request) → List (List Request)
+abbrev pub onto_last : plain.Command → List (List plain.Command) → List (List plain.Command)
 onto_last r [] = []
 onto_last r (script ∷ []) = (script ++ r ∷ []) ∷ []
 onto_last r (script ∷ next ∷ scripts) = script ∷ onto_last r (next ∷ scripts)
 
-pub onto_last-append : (r : Request) (scripts : List (List Request)) (script : List Request) → onto_last r (scripts ++ script ∷ []) ≡ scripts ++ (script ++ r ∷ []) ∷ []
+pub onto_last-append : (r : plain.Command) (scripts : List (List plain.Command)) (script : List plain.Command) → onto_last r (scripts ++ script ∷ []) ≡ scripts ++ (script ++ r ∷ []) ∷ []
 onto_last-append r [] script = refl
 onto_last-append r (s ∷ []) script = refl
 onto_last-append r (s ∷ t ∷ scripts) script = ap (λ l. s ∷ l) (onto_last-append r (t ∷ scripts) script)
 
 -- the lists, with what one more statement adds to them
-abbrev pub lists_with : Sentence → List (List Request) → List (List Request)
+abbrev pub lists_with : said.Statement → List (List plain.Command) → List (List plain.Command)
 lists_with Clerk lists = lists ++ [] ∷ []
 lists_with (Command r) lists = onto_last r lists
 lists_with s lists = lists
 
-lists_with-first : (s : Sentence) (q : Request) (list : List Request) (lists : List (List Request)) → onto_first q (lists_with s (list ∷ lists)) ≡ lists_with s ((q ∷ list) ∷ lists)
+lists_with-first : (s : said.Statement) (q : plain.Command) (list : List plain.Command) (lists : List (List plain.Command)) → onto_first q (lists_with s (list ∷ lists)) ≡ lists_with s ((q ∷ list) ∷ lists)
 lists_with-first (Command r) q list [] = refl
 lists_with-first (Command r) q list (next ∷ lists) = refl
 lists_with-first s q list lists = refl
 
-lists_with-next : (s : Sentence) (first list : List Request) (lists : List (List Request)) → first ∷ lists_with s (list ∷ lists) ≡ lists_with s (first ∷ list ∷ lists)
+lists_with-next : (s : said.Statement) (first list : List plain.Command) (lists : List (List plain.Command)) → first ∷ lists_with s (list ∷ lists) ≡ lists_with s (first ∷ list ∷ lists)
 lists_with-next Clerk first list lists = refl
 lists_with-next s first list lists = refl
 
-drop-lists_with : (s : Sentence) (list : List Request) (lists : List (List Request)) → drop 1 (lists_with s (list ∷ lists)) ≡ lists_with s lists
+drop-lists_with : (s : said.Statement) (list : List plain.Command) (lists : List (List plain.Command)) → drop 1 (lists_with s (list ∷ lists)) ≡ lists_with s lists
 drop-lists_with (Command r) list [] = refl
 drop-lists_with (Command r) list (next ∷ lists) = refl
 drop-lists_with s list lists = refl
 
 -- the commands ahead of the first `clerk`, and the scripts
-abbrev lists_of : List Sentence → List (List Request)
+abbrev lists_of : List said.Statement → List (List plain.Command)
 lists_of statements = commands_ahead statements ∷ scripts_of statements
 
-lists_of-push : (before : List Sentence) (s : Sentence) → lists_of (before ++ s ∷ []) ≡ lists_with s (lists_of before)
+lists_of-push : (before : List said.Statement) (s : said.Statement) → lists_of (before ++ s ∷ []) ≡ lists_with s (lists_of before)
 lists_of-push [] Clerk = refl
 lists_of-push [] s = refl
 lists_of-push (Clerk ∷ before) s = ap (λ l. [] ∷ l) (lists_of-push before s) ∙ lists_with-next s [] (commands_ahead before) (scripts_of before)
 lists_of-push (Command q ∷ before) s = ap (onto_first q) (lists_of-push before s) ∙ lists_with-first s q (commands_ahead before) (scripts_of before)
 lists_of-push (t ∷ before) s = lists_of-push before s
 
-pub scripts_of-push : (before : List Sentence) (s : Sentence) → scripts_of (before ++ s ∷ []) ≡ lists_with s (scripts_of before)
+pub scripts_of-push : (before : List said.Statement) (s : said.Statement) → scripts_of (before ++ s ∷ []) ≡ lists_with s (scripts_of before)
 scripts_of-push before s = ap (drop 1) (lists_of-push before s) ∙ drop-lists_with s (commands_ahead before) (scripts_of before)
 
 -- ---- the lists of the code
 
-pub script_more : (before : List Sentence) (c : Arc CodeCommand Global) (old new front : List (Listed (Arc CodeCommand Global))) (script longer : Listed (Arc CodeCommand Global)) →
-    requests_of old ≡ scripts_of before → old ≡ front ++ script ∷ [] → longer.items ≡ script.items ++ c ∷ [] → new ≡ front ++ longer ∷ [] →
-    requests_of new ≡ scripts_of (before ++ Command (request_of (arc_value c)) ∷ [])
+pub script_more : (before : List said.Statement) (c : Arc CodeCommand Global) (old new front : List (Listed (Arc CodeCommand Global))) (script longer : Listed (Arc CodeCommand Global)) →
+    commands_in old ≡ scripts_of before → old ≡ front ++ script ∷ [] → longer.items ≡ script.items ++ c ∷ [] → new ≡ front ++ longer ∷ [] →
+    commands_in new ≡ scripts_of (before ++ Command (command_of (arc_value c)) ∷ [])
 script_more before c old new front script longer e some more pushed = simp (scripts_of-push, sym e, some, pushed, map-append, more, onto_last-append)
 
-pub no_script : (before : List Sentence) (r : Request) (old new : Listed (Listed (Arc CodeCommand Global))) → requests_of old.items ≡ scripts_of before → (old.items ≡ []) × (new ≡ old) → requests_of new.items ≡ scripts_of (before ++ Command r ∷ [])
+pub no_script : (before : List said.Statement) (r : plain.Command) (old new : Listed (Listed (Arc CodeCommand Global))) → commands_in old.items ≡ scripts_of before → (old.items ≡ []) × (new ≡ old) → commands_in new.items ≡ scripts_of (before ++ Command r ∷ [])
 no_script before r old new e none = simp (scripts_of-push, sym e, none.1, none.0)
 
-pub script_new : (before : List Sentence) (old new : List (Listed (Arc CodeCommand Global))) (script : Listed (Arc CodeCommand Global)) →
-    requests_of old ≡ scripts_of before → script.items ≡ [] → new ≡ old ++ script ∷ [] → requests_of new ≡ scripts_of (before ++ Clerk ∷ [])
+pub script_new : (before : List said.Statement) (old new : List (Listed (Arc CodeCommand Global))) (script : Listed (Arc CodeCommand Global)) →
+    commands_in old ≡ scripts_of before → script.items ≡ [] → new ≡ old ++ script ∷ [] → commands_in new ≡ scripts_of (before ++ Clerk ∷ [])
 script_new before old new script e empty pushed = simp (scripts_of-push, sym e, pushed, map-append, empty)
 
-pub scripts_kept : (before : List Sentence) (s : Statement) → s ≢ S.Clerk → ((c : CodeCommand) → s ≢ S.Command c) → scripts_of (before ++ sentence_of s ∷ []) ≡ scripts_of before
+pub scripts_kept : (before : List said.Statement) (s : Statement) → s ≢ S.Clerk → ((c : CodeCommand) → s ≢ S.Command c) → scripts_of (before ++ statement_of s ∷ []) ≡ scripts_of before
 scripts_kept before S.Clerk clerk command = absurd (clerk refl)
 scripts_kept before (S.Command c) clerk command = absurd (command c refl)
-scripts_kept before s clerk command = scripts_of-push before (sentence_of s)
+scripts_kept before s clerk command = scripts_of-push before (statement_of s)
 
-pub no_call : (s : Statement) → ((n : ℕ) (c : CodeCommand) → s ≢ S.Numbered n c) → numbered_call (sentence_of s) ≡ []
+pub no_call : (s : Statement) → ((n : ℕ) (c : CodeCommand) → s ≢ S.Numbered n c) → numbered_call (statement_of s) ≡ []
 no_call (S.Numbered n c) numbered = absurd (numbered n c refl)
 no_call s numbered = refl
 
 -- ---- the numbers of the clerks
 
 -- the statement at a place has a short number
-pub number_at : (l : List Statement) (i : ℕ) (s : Statement) → (i < length l) × (s ≡ get_or l i s) → All HasShortNumber (sentences_of l) → HasShortNumber (sentence_of s)
+pub number_at : (l : List Statement) (i : ℕ) (s : Statement) → (i < length l) × (s ≡ get_or l i s) → All HasShortNumber (statements_of l) → HasShortNumber (statement_of s)
 number_at l i s h all =
-    let inside : i < length (sentences_of l) = rw length-map h.0 in
-    subst HasShortNumber (get_or-map sentence_of l i s (sentence_of s) h.0 ∙ ap sentence_of (sym h.1)) (all i (sentence_of s) inside)
+    let inside : i < length (statements_of l) = rw length-map h.0 in
+    subst HasShortNumber (get_or-map statement_of l i s (statement_of s) h.0 ∙ ap statement_of (sym h.1)) (all i (statement_of s) inside)
 
-number_fits : (before : List Sentence) (s : Sentence) → is_too_many before s ≡ false → HasShortNumber s
+number_fits : (before : List said.Statement) (s : said.Statement) → is_too_many before s ≡ false → HasShortNumber s
 number_fits before (Numbered clerk r) e = grind (arith, nat_tests)
 number_fits before s e = tt
 
@@ -103,12 +106,12 @@ no_fault true b m t rest e = absurd cc
 no_fault false true m t rest e = absurd cc
 no_fault false false m t rest e = (refl, e)
 
-numbers_fit_after : (form : Form) (before statements : List Sentence) → place_fault_after form before statements ≡ None → All HasShortNumber statements
+numbers_fit_after : (form : Form) (before statements : List said.Statement) → place_fault_after form before statements ≡ None → All HasShortNumber statements
 numbers_fit_after form before [] e = All-nil HasShortNumber
 numbers_fit_after form before (s ∷ statements) e =
     let h = no_fault (is_misplaced form before s) (is_too_many before s) _ _ _ e in
     All-cons HasShortNumber s statements (number_fits before s h.0) (numbers_fit_after form (before ++ s ∷ []) statements h.1)
 
 -- statements that stand in their places have short numbers
-pub numbers_fit : (form : Form) (statements : List Sentence) → place_fault form statements ≡ None → All HasShortNumber statements
+pub numbers_fit : (form : Form) (statements : List said.Statement) → place_fault form statements ≡ None → All HasShortNumber statements
 numbers_fit form statements e = numbers_fit_after form [] statements e

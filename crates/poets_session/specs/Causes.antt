@@ -9,7 +9,7 @@ use Rattle.poets_types.specs.declared.cause.TypeFault.{TypeFault}
 use Rattle.poets_types.specs.declared.cause.TypeCause.TheVariants as T
 use Rattle.poets_types.specs.Faults.{fault_of}
 use Rattle.poets_guard.specs.declared.guard.GuardFault.TheVariants as G
-use Rattle.poets_call.specs.Sentences.{Sentence}
+use Rattle.poets_call.specs.Said.{Statement}
 use Rattle.poets_session.specs.Places.{Misplaced, TooMany}
 use Rattle.poets_session.specs.declared.counting.PlaceFault.{PlaceFault}
 use Rattle.poets_session.specs.declared.counting.PlaceFault.TheVariants as P
@@ -58,7 +58,7 @@ abbrev pub IsCauseOf : (Refusal → Type 0) → SessionCause → Type 0
 IsCauseOf Is cause = (cause ≡ C.Memory) ⊎ ((r : Refusal) × (refusal_of cause ≡ Some r) × Is r)
 
 -- the fault is the first of the statements, or want of memory
-abbrev pub IsFirstFaultOf : Form → List Sentence → SessionFault → Type 0
+abbrev pub IsFirstFaultOf : Form → List Statement → SessionFault → Type 0
 IsFirstFaultOf form statements fault = IsCauseOf (AreRefused form statements) fault.what
 
 -- the fault is the first of the text, or want of memory

@@ -2,30 +2,30 @@
 use Rattle.std.specs.Prelude.{◌≡◌, ℕ, List, ◌∷◌, All}
 use Rattle.poets_value.specs.declared.value.Name.{Name}
 use Rattle.poets_lex.specs.Table.{Table, IsTable}
-use Rattle.poets_call.specs.Sentences.{Sentence}
+use Rattle.poets_call.specs.Said.{Statement}
 use Rattle.poets_session.specs.Sessions.{Text, AreValid, IsReadAs, IsSession, IsNoSession, scripts_of, journal_of}
 use Rattle.poets_session.specs.Refusals.{Refusal, Unguarded, AreRefused, IsRefused}
 use Rattle.poets_session.specs.Causes.{IsFirstFaultOf, IsFirstFault}
 use Rattle.poets_session.specs.Texts.{refusal_text}
-use Rattle.poets_session.specs.Written.{IsWrittenRequest, IsWritten, HasListedNames}
+use Rattle.poets_session.specs.Written.{IsWrittenCommand, IsWritten, HasListedNames}
 use Rattle.poets_session.specs.declared.form.Form.{Form}
 use Rattle.poets_session.specs.declared.fault.SessionFault.{SessionFault}
 
 -- a text is one session of a form at most
 abbrev pub OneSession : Type 0
 OneSession =
-    (text : Text) (form : Form) (names others : Table) (a b : List Sentence)
+    (text : Text) (form : Form) (names others : Table) (a b : List Statement)
     → IsSession text form names a → IsSession text form others b → (names ≡ others) × (a ≡ b)
 
 -- a text that is refused is no session
 abbrev pub NoSessionRefused : Type 0
 NoSessionRefused =
-    (text : Text) (form : Form) (names others : Table) (r : Refusal) (statements : List Sentence)
+    (text : Text) (form : Form) (names others : Table) (r : Refusal) (statements : List Statement)
     → IsRefused text form names r → ¬ (IsSession text form others statements)
 
 -- statements that are refused are no valid session
 abbrev pub NoValidRefused : Type 0
-NoValidRefused = (form : Form) (statements : List Sentence) (r : Refusal) → AreRefused form statements r → ¬ (AreValid form statements)
+NoValidRefused = (form : Form) (statements : List Statement) (r : Refusal) → AreRefused form statements r → ¬ (AreValid form statements)
 
 -- the same refusal, or cycles that begin with one template
 pub data AreAlike : Refusal → Refusal → Type 0 where
@@ -41,7 +41,7 @@ OneRefusal =
 -- so are statements
 abbrev pub OneRefusalOfStatements : Type 0
 OneRefusalOfStatements =
-    (form : Form) (statements : List Sentence) (r s : Refusal) → AreRefused form statements r → AreRefused form statements s → AreAlike r s
+    (form : Form) (statements : List Statement) (r s : Refusal) → AreRefused form statements r → AreRefused form statements s → AreAlike r s
 
 -- a text is refused by one line at most
 abbrev pub OneLine : Type 0
@@ -56,20 +56,20 @@ EveryTextIsRead = (text : Text) (form : Form) → IsNoSession text form → ¬ (
 -- nor can it of statements that are no valid session
 abbrev pub AllStatementsAreJudged : Type 0
 AllStatementsAreJudged =
-    (form : Form) (statements : List Sentence) → ¬ (AreValid form statements) → ¬ ((r : Refusal) → ¬ (AreRefused form statements r))
+    (form : Form) (statements : List Statement) → ¬ (AreValid form statements) → ¬ ((r : Refusal) → ¬ (AreRefused form statements r))
 
 -- the names of a text make a table, and what the text says is written with them
 abbrev pub SessionsAreWritten : Type 0
 SessionsAreWritten =
-    (text : Text) (names : Table) (statements : List Sentence)
+    (text : Text) (names : Table) (statements : List Statement)
     → IsReadAs text names statements → IsTable names × All (IsWritten names) statements
 
 -- statements that are written with names have commands that are: each can be printed, and reads back
 abbrev pub CommandsAreWritten : Type 0
 CommandsAreWritten =
-    (names : Table) (statements : List Sentence)
+    (names : Table) (statements : List Statement)
     → All (IsWritten names) statements
-    → All (All (IsWrittenRequest names)) (scripts_of statements) × All (λ call. IsWrittenRequest names call.1) (journal_of statements)
+    → All (All (IsWrittenCommand names)) (scripts_of statements) × All (λ call. IsWrittenCommand names call.1) (journal_of statements)
 
 -- the names in a text's first fault stand in its table
 abbrev pub FaultsOfTextsAreListed : Type 0
@@ -78,5 +78,5 @@ FaultsOfTextsAreListed = (text : Text) (form : Form) (fault : SessionFault) → 
 -- so do those in the first fault of statements that are written with its names
 abbrev pub FaultsOfStatementsAreListed : Type 0
 FaultsOfStatementsAreListed =
-    (form : Form) (statements : List Sentence) (fault : SessionFault)
+    (form : Form) (statements : List Statement) (fault : SessionFault)
     → All (IsWritten fault.names) statements → IsFirstFaultOf form statements fault → HasListedNames fault

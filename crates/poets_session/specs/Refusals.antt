@@ -7,18 +7,18 @@ use Rattle.poets_lex.specs.declared.fault.LexFault.{LexFault}
 use Rattle.poets_lex.specs.declared.fault.LexFault.TheVariants as L
 use Rattle.poets_lex.specs.Table.{Table}
 use Rattle.poets_lex.specs.Lexes.{Lexes, FirstFault}
-use Rattle.poets_syntax.specs.Book.{Definition}
-use Rattle.poets_syntax.specs.TypeOf.{Fault}
+use Rattle.poets_syntax.specs.Plain.{TypeCause}
+use Rattle.poets_syntax.specs.Plain as plain
 use Rattle.poets_guard.specs.FirstCycle.{IsFirstCycle}
 use Rattle.poets_grammar.specs.Tokens.{toks}
-use Rattle.poets_grammar.specs.Statements.{IsSentence}
+use Rattle.poets_grammar.specs.Statements.{IsStatement}
 use Rattle.poets_grammar.specs.TooDeep.{IsTooDeep}
-use Rattle.poets_call.specs.Sentences.{Sentence, Template}
-use Rattle.poets_call.specs.Declarations.{book_of}
-use Rattle.poets_call.specs.TypedSentences.{first_fault}
+use Rattle.poets_call.specs.Said.{Statement, Template}
+use Rattle.poets_call.specs.Declarations.{book_from}
+use Rattle.poets_call.specs.TypedStatements.{first_fault}
 use Rattle.poets_session.specs.Pieces.{Piece, pieces_of}
 use Rattle.poets_session.specs.Places.{PlaceFault, place_fault}
-use Rattle.poets_session.specs.Sessions.{Text, IsStatement, IsReadAs}
+use Rattle.poets_session.specs.Sessions.{Text, IsStatementPiece, IsReadAs}
 use Rattle.poets_session.specs.declared.form.Form.{Form}
 
 -- why a text is no session; bytes count from 0 and statements from 1
@@ -29,7 +29,7 @@ pub data Refusal : Type 0 where
   TooDeep : (statement : ℕ) → Refusal
   NoSentence : (statement : ℕ) → Refusal
   Place : PlaceFault → Refusal
-  Mistyped : (statement : ℕ) → Fault → Refusal
+  Mistyped : (statement : ℕ) → TypeCause → Refusal
   -- the cycle of unguarded edges, which begins with the template of the statement
   Unguarded : (statement : ℕ) → (cycle : List Name) → Refusal
 
@@ -43,22 +43,22 @@ refusal_at_byte L.Memory = None
 -- the statement with the number is too deep, or no sentence; one that is not ended is none
 pub data IsUnread (piece : Piece) (number : ℕ) : Refusal → Type 0 where
   IsDeep : IsTooDeep piece.tokens → IsUnread piece number (TooDeep number)
-  IsNoSentence : ¬ (IsTooDeep piece.tokens) → (IsTrue piece.ended → (s : Sentence) → ¬ (IsSentence piece.tokens s)) → IsUnread piece number (NoSentence number)
+  IsNoSentence : ¬ (IsTooDeep piece.tokens) → (IsTrue piece.ended → (s : Statement) → ¬ (IsStatement piece.tokens s)) → IsUnread piece number (NoSentence number)
 
 -- all statements up to this one say something, and this one does not
 pub record IsStopped (pieces : List Piece) (r : Refusal) : Type 0 where
   pub front : List Piece
-  pub said : List Sentence
+  pub said : List Statement
   pub piece : Piece
   pub rest : List Piece
   pub cut : pieces ≡ front ++ piece ∷ rest
-  pub says : AllZip IsStatement front said
+  pub says : AllZip IsStatementPiece front said
   pub unread : IsUnread piece (suc (length front)) r
 
 -- the statement with the number declares the template
-pub record IsTemplateAt (statements : List Sentence) (number : ℕ) (f : Name) : Type 0 where
+pub record IsTemplateAt (statements : List Statement) (number : ℕ) (f : Name) : Type 0 where
   pub place : ℕ
-  pub template : Definition
+  pub template : plain.Template
   pub counted : number ≡ suc place
   pub stands : slice_get statements place ≡ Some (Template template)
   pub named : template.name ≡ f
@@ -71,20 +71,20 @@ pub data IsUnreadable (text : Text) (names : Table) : Refusal → Type 0 where
   AtStatement : {tokens : List Token} {r : Refusal} → Lexes [] text 0 tokens names → IsStopped (pieces_of (toks tokens)) r → IsUnreadable text names r
 
 -- why statements are no valid session of the form: phase by phase, and in each phase the least statement
-pub data AreRefused (form : Form) (statements : List Sentence) : Refusal → Type 0 where
+pub data AreRefused (form : Form) (statements : List Statement) : Refusal → Type 0 where
   -- one that may not stand in its place, or is one too many
   OutOfPlace : {fault : PlaceFault} → place_fault form statements ≡ Some fault → AreRefused form statements (Place fault)
   -- one that is not typed
   NotTyped :
-      {number : ℕ} {fault : Fault} → place_fault form statements ≡ None → first_fault statements ≡ Some (number, fault) →
+      {number : ℕ} {fault : TypeCause} → place_fault form statements ≡ None → first_fault statements ≡ Some (number, fault) →
       AreRefused form statements (Mistyped number fault)
   -- a book with a cycle of unguarded edges: one that begins with the first template that lies on any
   NotGuarded :
       {number : ℕ} {cycle : List Name} → place_fault form statements ≡ None → first_fault statements ≡ None →
-      (found : IsFirstCycle (book_of statements) cycle) → IsTemplateAt statements number found.first →
+      (found : IsFirstCycle (book_from statements) cycle) → IsTemplateAt statements number found.first →
       AreRefused form statements (Unguarded number cycle)
 
 -- why a text is no session of the form: it says no statements, or those that it says are refused
 pub data IsRefused (text : Text) (form : Form) (names : Table) : Refusal → Type 0 where
   Unreadable : {r : Refusal} → IsUnreadable text names r → IsRefused text form names r
-  Invalid : {statements : List Sentence} {r : Refusal} → IsReadAs text names statements → AreRefused form statements r → IsRefused text form names r
+  Invalid : {statements : List Statement} {r : Refusal} → IsReadAs text names statements → AreRefused form statements r → IsRefused text form names r

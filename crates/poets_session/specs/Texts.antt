@@ -3,7 +3,7 @@ use Rattle.std.specs.Prelude.{ℕ, List, [], ◌∷◌, ◌++◌, codes}
 use Rattle.std.specs.Fmt.{decimal}
 use Rattle.poets_value.specs.declared.value.Name.{Name}
 use Rattle.poets_lex.specs.Table.{Table}
-use Rattle.poets_syntax.specs.TypeOf.{Fault, Twice, Unknown, WrongCount, WrongType}
+use Rattle.poets_syntax.specs.Plain.{TypeCause, Twice, Unknown, WrongCount, WrongType}
 use Rattle.poets_print.specs.Texts.{name_text, type_text}
 use Rattle.poets_session.specs.Places.{Misplaced, TooMany}
 use Rattle.poets_session.specs.Refusals.{Refusal, BadByte, LongNumber, LongName, TooDeep, NoSentence, Place, Mistyped, Unguarded}
@@ -17,7 +17,7 @@ abbrev pub in_statement : ℕ → List ℕ → List ℕ
 in_statement number what = codes "refused in statement " ++ decimal number ++ codes ": " ++ what ++ 10 ∷ []
 
 -- what is wrong with the types of a statement, as `Twice ann`
-abbrev pub fault_text : Table → Fault → List ℕ
+abbrev pub fault_text : Table → TypeCause → List ℕ
 fault_text names (Twice x) = codes "Twice " ++ name_text names x
 fault_text names (Unknown x) = codes "Unknown " ++ name_text names x
 fault_text names (WrongCount x wanted found) =

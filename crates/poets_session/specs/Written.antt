@@ -6,14 +6,12 @@ use Rattle.poets_syntax.specs.declared.term.Binders.{Binders}
 use Rattle.poets_syntax.specs.declared.term.Param.{Param}
 use Rattle.poets_syntax.specs.Contract.{Contract}
 use Rattle.poets_syntax.specs.Whole.{IsWholeContract}
-use Rattle.poets_syntax.specs.Book.{Definition}
-use Rattle.poets_syntax.specs.TypeOf.{Fault, Twice, Unknown, WrongCount, WrongType}
-use Rattle.poets_report.specs.Query.{Query}
-use Rattle.poets_call.specs.Calls.{Request}
-use Rattle.poets_call.specs.Sentences.{Sentence, Agents, Kinds, Template, Report, Clerk, Journal, Command, Numbered}
+use Rattle.poets_syntax.specs.Plain.{TypeCause, Twice, Unknown, WrongCount, WrongType}
+use Rattle.poets_call.specs.Said.{Statement, Agents, Kinds, Template, Report, Clerk, Journal, Command, Numbered}
 use Rattle.poets_lex.specs.Table.{Table}
-use Rattle.poets_call.specs.Taken.{IsWholeRequest}
-use Rattle.poets_print.specs.Laws.{IsListed, CanWrite, CanWriteContract, CanWriteRequest}
+use Rattle.poets_call.specs.Taken.{IsWholeCommand}
+use Rattle.poets_call.specs.Plain as plain
+use Rattle.poets_print.specs.Laws.{IsListed, CanWrite, CanWriteContract, CanWriteCommand}
 use Rattle.poets_session.specs.Refusals.{Refusal, Mistyped, Unguarded}
 use Rattle.poets_session.specs.Causes.{refusal_of}
 use Rattle.poets_session.specs.declared.fault.SessionFault.{SessionFault}
@@ -24,8 +22,8 @@ IsWrittenExpression names e = CanWrite names e × IsWholeExpression e
 abbrev pub IsWrittenContract : Table → Contract → Type 0
 IsWrittenContract names c = CanWriteContract names c × IsWholeContract c
 
-abbrev pub IsWrittenRequest : Table → Request → Type 0
-IsWrittenRequest names request = CanWriteRequest names request × IsWholeRequest request
+abbrev pub IsWrittenCommand : Table → plain.Command → Type 0
+IsWrittenCommand names command = CanWriteCommand names command × IsWholeCommand command
 
 abbrev pub AreListedParameters : Table → List Param → Type 0
 AreListedParameters names params = All (λ p. IsListed names p.name) params
@@ -33,12 +31,12 @@ AreListedParameters names params = All (λ p. IsListed names p.name) params
 abbrev pub AreListedBinders : Table → Binders → Type 0
 AreListedBinders names b = All (IsListed names) (b.sender ∷ b.receiver ∷ b.what ∷ b.day ∷ [])
 
-pub record IsWrittenTemplate (names : Table) (t : Definition) : Type 0 where
+pub record IsWrittenTemplate (names : Table) (t : plain.Template) : Type 0 where
   pub name : IsListed names t.name
   pub params : AreListedParameters names t.params
   pub body : IsWrittenContract names t.body
 
-pub record IsWrittenReport (names : Table) (q : Query) : Type 0 where
+pub record IsWrittenReport (names : Table) (q : plain.Report) : Type 0 where
   pub name : IsListed names q.name
   pub params : AreListedParameters names q.params
   pub start : IsWrittenExpression names q.start
@@ -48,18 +46,18 @@ pub record IsWrittenReport (names : Table) (q : Query) : Type 0 where
   pub key : IfSome q.key (IsWrittenExpression names)
 
 -- each name of the statement stands in the table, and its numbers and days are those of the language
-abbrev pub IsWritten : Table → Sentence → Type 0
+abbrev pub IsWritten : Table → Statement → Type 0
 IsWritten names (Agents xs) = All (IsListed names) xs
 IsWritten names (Kinds xs) = All (IsListed names) xs
 IsWritten names (Template t) = IsWrittenTemplate names t
 IsWritten names (Report q) = IsWrittenReport names q
 IsWritten names Clerk = Unit {0}
 IsWritten names Journal = Unit {0}
-IsWritten names (Command request) = IsWrittenRequest names request
-IsWritten names (Numbered clerk request) = IsWrittenRequest names request
+IsWritten names (Command command) = IsWrittenCommand names command
+IsWritten names (Numbered clerk command) = IsWrittenCommand names command
 
 -- the name that the fault tells, if it tells one, stands in the table
-abbrev pub IsListedFault : Table → Fault → Type 0
+abbrev pub IsListedFault : Table → TypeCause → Type 0
 IsListedFault names (Twice x) = IsListed names x
 IsListedFault names (Unknown x) = IsListed names x
 IsListedFault names (WrongCount x wanted found) = IsListed names x

@@ -1,13 +1,14 @@
 //! Types and guardedness of the statements of a session.
 ghost use Rattle.std.specs.Prelude.{◌≡◌, false, All, None, IfSome, IfNone, IfOk, IfErr, map};
-ghost use Rattle.poets_syntax.specs.Book.{definitions_of};
+ghost use Rattle.poets_syntax.specs.Book.{book_of};
 ghost use Rattle.poets_syntax.specs.Checked.{IsChecked};
 ghost use Rattle.poets_syntax.specs.Guarded.{IsGuarded};
-ghost use Rattle.poets_report.specs.Query.{query_of};
-ghost use Rattle.poets_call.specs.Sentences.{sentence_of, sentences_of};
-ghost use Rattle.poets_call.specs.Declarations.{book_of, reports_of};
-ghost use Rattle.poets_call.specs.TypedSentences.{first_fault};
-ghost use Rattle.poets_session.specs.Checking.{IsTypeRefusal, IsGuardRefusal, declares as declares_lem};
+ghost use Rattle.poets_report.specs.Reports.{report_of};
+ghost use Rattle.poets_call.specs.Statements.{statement_of, statements_of};
+ghost use Rattle.poets_call.specs.Declarations.{book_from, reports_of};
+ghost use Rattle.poets_call.specs.TypedStatements.{first_fault};
+ghost use Rattle.poets_session.specs.Checking.{IsTypeRefusal, IsGuardRefusal};
+ghost use Rattle.poets_session.specs.Checking as checking;
 ghost use Rattle.poets_session.specs.Refusals.{IsTemplateAt};
 ghost use Rattle.poets_session.specs.Causes.{IsCauseOf, type_cause};
 
@@ -31,11 +32,11 @@ fn cause_of(fault: TypeFault) -> SessionCause
 
 /// Checks the types of all statements.
 pub(crate) fn check_types(alloc: Global, statements: &[Statement]) -> Result<Checked, SessionCause>
-    ensures passes { IfOk result (λ _. first_fault (sentences_of statements.now) ≡ None) }
-    ensures book { IfOk result (λ c. definitions_of c.book ≡ book_of (sentences_of statements.now)) }
-    ensures reports { IfOk result (λ c. map query_of c.reports.items ≡ reports_of (sentences_of statements.now)) }
-    ensures checked { IfOk result (λ c. IsChecked (definitions_of c.book)) }
-    ensures fault { IfErr result (IsCauseOf (IsTypeRefusal (first_fault (sentences_of statements.now)))) }
+    ensures passes { IfOk result (λ _. first_fault (statements_of statements.now) ≡ None) }
+    ensures book { IfOk result (λ c. book_of c.book ≡ book_from (statements_of statements.now)) }
+    ensures reports { IfOk result (λ c. map report_of c.reports.items ≡ reports_of (statements_of statements.now)) }
+    ensures checked { IfOk result (λ c. IsChecked (book_of c.book)) }
+    ensures fault { IfErr result (IsCauseOf (IsTypeRefusal (first_fault (statements_of statements.now)))) }
 {
     match check_book(alloc, statements) {
         Ok(checked) => Ok(checked),
@@ -45,7 +46,7 @@ pub(crate) fn check_types(alloc: Global, statements: &[Statement]) -> Result<Che
 
 // Whether the statement declares the template.
 fn declares(statement: &Statement, name: Name) -> bool
-    ensures { result ≡ declares_lem name (sentence_of statement.now) }
+    ensures { result ≡ checking.declares name (statement_of statement.now) }
 {
     match statement {
         Statement::Template(template) => template.name == name,
@@ -55,8 +56,8 @@ fn declares(statement: &Statement, name: Name) -> bool
 
 // The number of the statement that declares the template, if there is one.
 fn number_of(statements: &[Statement], name: Name) -> Option<u64>
-    ensures found { IfSome result (λ n. IsTemplateAt (sentences_of statements.now) n name) }
-    ensures none { IfNone result (All (λ s. declares_lem name (sentence_of s) ≡ false) statements.now) }
+    ensures found { IfSome result (λ n. IsTemplateAt (statements_of statements.now) n name) }
+    ensures none { IfNone result (All (λ s. checking.declares name (statement_of s) ≡ false) statements.now) }
 {
     for (place, statement) in statements.iter().enumerate() {
         if declares(statement, name) {
@@ -72,11 +73,11 @@ pub(crate) fn study_book(
     book: Book,
     statements: &[Statement],
 ) -> Result<Studied, SessionCause>
-    requires checked { IsChecked (definitions_of book) }
-    requires book { definitions_of book ≡ book_of (sentences_of statements.now) }
+    requires checked { IsChecked (book_of book) }
+    requires book { book_of book ≡ book_from (statements_of statements.now) }
     ensures book { IfOk result (λ s. s.book ≡ book) }
-    ensures guarded { IfOk result (λ _. IsGuarded (book_of (sentences_of statements.now))) }
-    ensures unguarded { IfErr result (IsCauseOf (IsGuardRefusal (sentences_of statements.now))) }
+    ensures guarded { IfOk result (λ _. IsGuarded (book_from (statements_of statements.now))) }
+    ensures unguarded { IfErr result (IsCauseOf (IsGuardRefusal (statements_of statements.now))) }
 {
     let cycle = match study(alloc, book) {
         Ok(studied) => return Ok(studied),

@@ -1,7 +1,9 @@
 //! Whether each statement may stand in its place, and whether there are too many.
 ghost use Rattle.std.specs.Prelude.{◌≡◌, ◌≤◌, ◌++◌, ◌∷◌, [], List, true, false, None, Some, IfErr, OnOk, IfSome, IfNone, option_map};
-ghost use Rattle.poets_call.specs.Sentences.{Sentence, sentence_of, sentences_of};
-ghost use Rattle.poets_session.specs.Places.{place_fault, next_part as next_part_lem, lacks_journal as lacks_journal_lem, is_too_many};
+ghost use Rattle.poets_call.specs.Statements.{statement_of, statements_of};
+ghost use Rattle.poets_call.specs.Said as said;
+ghost use Rattle.poets_session.specs.Places.{place_fault, is_too_many};
+ghost use Rattle.poets_session.specs.Places as places;
 ghost use Rattle.poets_session.specs.Counting.{part_of, fault_of, AreCounted};
 
 use crate::Form;
@@ -41,7 +43,7 @@ pub(crate) struct Counts {
 
 // The part in which the statement stands after one of the part, if it may stand there.
 fn next_part(form: Form, part: Part, statement: &Statement) -> Option<Part>
-    ensures { option_map part_of result ≡ next_part_lem form (part_of part) (sentence_of statement.now) }
+    ensures { option_map part_of result ≡ places.next_part form (part_of part) (statement_of statement.now) }
 {
     match statement {
         Statement::Agents(_) | Statement::Kinds(_) | Statement::Template(_) | Statement::Report(_)
@@ -61,9 +63,9 @@ impl Counts {
     fn with(self, statement: &Statement) -> Option<Counts>
         requires { (self.clerks ≤ MOST_CLERKS) × (self.templates ≤ MOST_TEMPLATES) × (self.reports ≤ MOST_REPORTS) × (self.commands ≤ MOST_COMMANDS) }
         ensures bound { IfSome result (λ c. (c.clerks ≤ MOST_CLERKS) × (c.templates ≤ MOST_TEMPLATES) × (c.reports ≤ MOST_REPORTS) × (c.commands ≤ MOST_COMMANDS)) }
-        ensures counted { (before : List Sentence) → AreCounted before self → IfSome result (AreCounted (before ++ sentence_of statement.now ∷ [])) }
-        ensures few { (before : List Sentence) → AreCounted before self → IfSome result (λ _. is_too_many before (sentence_of statement.now) ≡ false) }
-        ensures many { (before : List Sentence) → AreCounted before self → IfNone result (is_too_many before (sentence_of statement.now) ≡ true) }
+        ensures counted { (before : List said.Statement) → AreCounted before self → IfSome result (AreCounted (before ++ statement_of statement.now ∷ [])) }
+        ensures few { (before : List said.Statement) → AreCounted before self → IfSome result (λ _. is_too_many before (statement_of statement.now) ≡ false) }
+        ensures many { (before : List said.Statement) → AreCounted before self → IfNone result (is_too_many before (statement_of statement.now) ≡ true) }
     {
         let mut counts = self;
         match statement {
@@ -84,15 +86,15 @@ impl Counts {
 
 // Whether a session of the form that ends in the part has no `journal`.
 fn lacks_journal(form: Form, part: Part) -> bool
-    ensures { result ≡ lacks_journal_lem form (Some (part_of part)) }
+    ensures { result ≡ places.lacks_journal form (Some (part_of part)) }
 {
     form == Form::Journal && part == Part::Book
 }
 
 /// Checks that each statement stands in its place, and is not one too many.
 pub(crate) fn check_places(form: Form, statements: &[Statement]) -> Result<(), PlaceFault>
-    ensures placed { OnOk result (place_fault form (sentences_of statements.now) ≡ None) }
-    ensures out { IfErr result (λ fault. place_fault form (sentences_of statements.now) ≡ Some (fault_of fault)) }
+    ensures placed { OnOk result (place_fault form (statements_of statements.now) ≡ None) }
+    ensures out { IfErr result (λ fault. place_fault form (statements_of statements.now) ≡ Some (fault_of fault)) }
 {
     let mut part = Part::Book;
     let mut counts = Counts {

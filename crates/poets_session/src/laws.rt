@@ -1,7 +1,5 @@
 //! The laws of sessions.
-ghost use Rattle.poets_session.specs.Laws.{OneSession, NoSessionRefused, NoValidRefused, OneRefusal, OneRefusalOfStatements, OneLine};
-ghost use Rattle.poets_session.specs.Laws.{EveryTextIsRead, AllStatementsAreJudged, SessionsAreWritten, CommandsAreWritten};
-ghost use Rattle.poets_session.specs.Laws.{FaultsOfTextsAreListed, FaultsOfStatementsAreListed};
+ghost use Rattle.poets_session.specs.Laws.{OneSession, NoSessionRefused, NoValidRefused, OneRefusal, OneRefusalOfStatements, OneLine, EveryTextIsRead, AllStatementsAreJudged, SessionsAreWritten, CommandsAreWritten, FaultsOfTextsAreListed, FaultsOfStatementsAreListed};
 
 /// A text is one session of a form at most.
 pub fn one_session()

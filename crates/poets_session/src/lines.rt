@@ -1,7 +1,8 @@
 //! The lines of texts that are no sessions.
 ghost use Rattle.std.specs.Prelude.{◌≡◌, Some, IfOk, option_map, string_bytes};
 ghost use Rattle.poets_types.specs.Faults.{fault_of};
-ghost use Rattle.poets_session.specs.Texts.{at_byte as at_byte_lem, in_statement as in_statement_lem, fault_text as fault_text_lem, first_text as first_text_lem, refusal_text};
+ghost use Rattle.poets_session.specs.Texts.{refusal_text};
+ghost use Rattle.poets_session.specs.Texts as texts;
 ghost use Rattle.poets_session.specs.Refusals.{Unguarded};
 ghost use Rattle.poets_session.specs.Causes.{refusal_of};
 ghost use Rattle.poets_session.specs.declared.fault.SessionCause.TheVariants as C;
@@ -17,21 +18,21 @@ use std::alloc::Global;
 
 // The line that names a byte.
 fn at_byte(alloc: Global, at: u32, what: &str) -> Result<String, Memory>
-    ensures { IfOk result (λ text. string_bytes text ≡ at_byte_lem at what.now) }
+    ensures { IfOk result (λ text. string_bytes text ≡ texts.at_byte at what.now) }
 {
     Ok(format!(in alloc; "refused at byte {at}: {what}\n")?)
 }
 
 // The line that names a statement.
 fn in_statement(alloc: Global, number: u64, what: &str) -> Result<String, Memory>
-    ensures { IfOk result (λ text. string_bytes text ≡ in_statement_lem number what.now) }
+    ensures { IfOk result (λ text. string_bytes text ≡ texts.in_statement number what.now) }
 {
     Ok(format!(in alloc; "refused in statement {number}: {what}\n")?)
 }
 
 // What is wrong with the types of a statement.
 fn type_fault_text(alloc: Global, names: &Names, cause: TypeCause) -> Result<String, Memory>
-    ensures { IfOk result (λ text. option_map (fault_text_lem names.now) (fault_of cause) ≡ Some (string_bytes text)) }
+    ensures { IfOk result (λ text. option_map (texts.fault_text names.now) (fault_of cause) ≡ Some (string_bytes text)) }
 {
     match cause {
         TypeCause::Twice { name } => {
@@ -69,7 +70,7 @@ fn type_line(alloc: Global, names: &Names, fault: TypeFault) -> Result<String, M
 
 // The text of the first name, and nothing where there is none.
 fn first_text<'a>(names: &'a Names, cycle: &[Name]) -> &'a str
-    ensures { result.now ≡ first_text_lem names.now cycle.now }
+    ensures { result.now ≡ texts.first_text names.now cycle.now }
 {
     match cycle {
         [] => "",

@@ -1,6 +1,8 @@
 //! Reading a text as a session.
-ghost use Rattle.std.specs.Prelude.{◌≡◌, ◌≤◌, length, [], List as AnttList, IfOk, IfErr};
-ghost use Rattle.poets_call.specs.Sentences.{Sentence, sentences_of};
+ghost use Rattle.std.specs.Prelude.{◌≡◌, ◌≤◌, length, [], IfOk, IfErr};
+ghost use Rattle.std.specs.Prelude as prelude;
+ghost use Rattle.poets_call.specs.Statements.{statements_of};
+ghost use Rattle.poets_call.specs.Said as said;
 ghost use Rattle.poets_session.specs.Sessions.{IsReadAs, IsSession, Holds};
 ghost use Rattle.poets_session.specs.Refusals.{IsUnreadable};
 ghost use Rattle.poets_session.specs.Causes.{IsFirstFault, IsCauseOf};
@@ -14,14 +16,14 @@ use poets_value::List;
 use std::alloc::Global;
 
 // The statements of a text. Its names go into the table, which has none.
-fn statements_of(
+fn read_statements(
     alloc: Global,
     text: &[u8],
     names: &mut Names,
 ) -> Result<List<Statement>, SessionCause>
     requires short { length text.now ≤ 16_777_216 }
     requires empty { names.old ≡ [] }
-    ensures read { IfOk result (λ found. IsReadAs text.now names.new (sentences_of found.items)) }
+    ensures read { IfOk result (λ found. IsReadAs text.now names.new (statements_of found.items)) }
     ensures unreadable { IfErr result (IsCauseOf (IsUnreadable text.now names.new)) }
 {
     let tokens = tokens(alloc, text, names)?;
@@ -34,11 +36,11 @@ fn statements_of(
 /// The rules are those of `docs/LANGUAGE.md`. A text has at most 16,777,216 bytes.
 pub fn read(alloc: Global, text: &[u8], form: Form) -> Result<Session, SessionFault>
     requires { length text.now ≤ 16_777_216 }
-    ensures session { IfOk result (λ s. (statements : AnttList Sentence) × IsSession text.now form s.names statements × Holds statements s) }
+    ensures session { IfOk result (λ s. (statements : prelude.List said.Statement) × IsSession text.now form s.names statements × Holds statements s) }
     ensures refused { IfErr result (IsFirstFault text.now form) }
 {
     let mut names = Names::new(alloc);
-    match statements_of(alloc, text, &mut names) {
+    match read_statements(alloc, text, &mut names) {
         Ok(statements) => session_of(alloc, names, statements, form),
         Err(what) => Err(SessionFault { names, what }),
     }

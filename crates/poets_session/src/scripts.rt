@@ -1,10 +1,14 @@
 //! The commands of a session: the scripts of its clerks, and the calls of its journal.
-ghost use Rattle.std.specs.Prelude.{◌≡◌, ◌++◌, ◌∷◌, [], List as AnttList, IfOk, All};
+ghost use Rattle.std.specs.Prelude.{◌≡◌, ◌++◌, ◌∷◌, [], IfOk, All};
+ghost use Rattle.std.specs.Prelude as prelude;
 ghost use Rattle.std.specs.Arc.{arc_value};
-ghost use Rattle.poets_call.specs.Calls.{request_of};
-ghost use Rattle.poets_call.specs.Sentences.{Sentence, Command as CommandSentence, sentence_of, sentences_of};
+ghost use Rattle.poets_call.specs.Calls.{command_of};
+ghost use Rattle.poets_call.specs.Said.{Command as CommandStatement};
+ghost use Rattle.poets_call.specs.Statements.{statement_of, statements_of};
+ghost use Rattle.poets_call.specs.Said as said;
 ghost use Rattle.poets_session.specs.Scripts.{HasShortNumber};
-ghost use Rattle.poets_session.specs.Sessions.{scripts_of, requests_of, journal_of, numbered_call, calls_in as calls_in_lem};
+ghost use Rattle.poets_session.specs.Sessions.{scripts_of, commands_in, journal_of, numbered_call};
+ghost use Rattle.poets_session.specs.Sessions as sessions;
 
 use poets_call::{Command, Statement};
 use poets_value::{List, Memory, push};
@@ -22,7 +26,7 @@ impl Calls {
     // Adds a command to the last script; ahead of the first script it is nobody's.
     #[tactic(auto, using(crate::proofs::Scripting::script_more, crate::proofs::Scripting::no_script))]
     fn add_command(&mut self, command: Arc<Command>) -> Result<(), Memory>
-        ensures scripts { (before : AnttList Sentence) → requests_of self.old.scripts.items ≡ scripts_of before → IfOk result (λ _. requests_of self.new.scripts.items ≡ scripts_of (before ++ CommandSentence (request_of (arc_value command)) ∷ [])) }
+        ensures scripts { (before : prelude.List said.Statement) → commands_in self.old.scripts.items ≡ scripts_of before → IfOk result (λ _. commands_in self.new.scripts.items ≡ scripts_of (before ++ CommandStatement (command_of (arc_value command)) ∷ [])) }
         ensures journal { self.new.journal ≡ self.old.journal }
     {
         let Some(mut script) = self.scripts.pop() else {
@@ -35,9 +39,9 @@ impl Calls {
     // Adds what the statement says.
     #[tactic(auto, using(crate::proofs::Scripting::script_new, crate::proofs::Scripting::scripts_kept))]
     fn add(&mut self, alloc: Global, statement: Statement) -> Result<(), Memory>
-        requires { HasShortNumber (sentence_of statement) }
-        ensures scripts { (before : AnttList Sentence) → requests_of self.old.scripts.items ≡ scripts_of before → IfOk result (λ _. requests_of self.new.scripts.items ≡ scripts_of (before ++ sentence_of statement ∷ [])) }
-        ensures journal { IfOk result (λ _. calls_in_lem self.new.journal.items ≡ calls_in_lem self.old.journal.items ++ numbered_call (sentence_of statement)) }
+        requires { HasShortNumber (statement_of statement) }
+        ensures scripts { (before : prelude.List said.Statement) → commands_in self.old.scripts.items ≡ scripts_of before → IfOk result (λ _. commands_in self.new.scripts.items ≡ scripts_of (before ++ statement_of statement ∷ [])) }
+        ensures journal { IfOk result (λ _. sessions.calls_in self.new.journal.items ≡ sessions.calls_in self.old.journal.items ++ numbered_call (statement_of statement)) }
     {
         match statement {
             Statement::Clerk => push(&mut self.scripts, List::new(alloc)),
@@ -52,9 +56,9 @@ impl Calls {
 
 /// The scripts and the journal of the statements.
 pub(crate) fn calls_in(alloc: Global, statements: List<Statement>) -> Result<Calls, Memory>
-    requires clerks { All HasShortNumber (sentences_of statements.items) }
-    ensures scripts { IfOk result (λ c. requests_of c.scripts.items ≡ scripts_of (sentences_of statements.items)) }
-    ensures journal { IfOk result (λ c. calls_in_lem c.journal.items ≡ journal_of (sentences_of statements.items)) }
+    requires clerks { All HasShortNumber (statements_of statements.items) }
+    ensures scripts { IfOk result (λ c. commands_in c.scripts.items ≡ scripts_of (statements_of statements.items)) }
+    ensures journal { IfOk result (λ c. sessions.calls_in c.journal.items ≡ journal_of (statements_of statements.items)) }
 {
     let mut calls = Calls {
         scripts: List::new(alloc),

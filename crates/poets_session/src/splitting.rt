@@ -1,9 +1,10 @@
 //! The statements of a text.
 ghost use Rattle.std.specs.Prelude.{◌≡◌, ℕ, ◌≢◌, ◌∷◌, [], true, false, ◌+◌, ◌<◌, length, take, drop, IfSome, IfNone, IfOk, IfErr};
 ghost use Rattle.poets_grammar.specs.Tokens.{toks, AreNatural};
-ghost use Rattle.poets_call.specs.Sentences.{sentence_of, sentences_of};
-ghost use Rattle.poets_session.specs.Pieces.{pieces_of, is_end as is_end_lem};
-ghost use Rattle.poets_session.specs.Sessions.{IsStatement};
+ghost use Rattle.poets_call.specs.Statements.{statement_of, statements_of};
+ghost use Rattle.poets_session.specs.Pieces.{pieces_of};
+ghost use Rattle.poets_session.specs.Pieces as pieces;
+ghost use Rattle.poets_session.specs.Sessions.{IsStatementPiece};
 ghost use Rattle.poets_session.specs.Refusals.{IsUnread, IsStopped};
 ghost use Rattle.poets_session.specs.Causes.{IsCauseOf, syntax_cause};
 ghost use Rattle.poets_session.specs.declared.fault.SessionCause.{SessionCause};
@@ -18,7 +19,7 @@ use std::alloc::Global;
 
 // Whether the token ends a statement.
 fn is_end(token: &Token) -> bool
-    ensures { result ≡ is_end_lem token.now.what }
+    ensures { result ≡ pieces.is_end token.now.what }
 {
     match token.what {
         Tok::Sign(Sign::DoubleSemicolon) => true,
@@ -84,7 +85,7 @@ fn read_statement(
     ended: bool,
 ) -> Result<Statement, SessionCause>
     requires { AreNatural tokens.now }
-    ensures said { IfOk result (λ s. IsStatement (piece (toks tokens.now) ended) (sentence_of s)) }
+    ensures said { IfOk result (λ s. IsStatementPiece (piece (toks tokens.now) ended) (statement_of s)) }
     ensures unread { IfErr result (IsCauseOf (IsUnread (piece (toks tokens.now) ended) number)) }
 {
     if !ended {
@@ -102,7 +103,7 @@ fn read_statement(
 /// The statements of a text.
 pub(crate) fn statements(alloc: Global, tokens: &[Token]) -> Result<List<Statement>, SessionCause>
     requires { AreNatural tokens.now }
-    ensures said { IfOk result (λ found. AreSaid (pieces_of (toks tokens.now)) (sentences_of found.items)) }
+    ensures said { IfOk result (λ found. AreSaid (pieces_of (toks tokens.now)) (statements_of found.items)) }
     ensures stopped { IfErr result (IsCauseOf (IsStopped (pieces_of (toks tokens.now)))) }
 {
     let mut found = List::new(alloc);

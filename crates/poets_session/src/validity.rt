@@ -1,6 +1,6 @@
 //! Statements as a session.
 ghost use Rattle.std.specs.Prelude.{◌≡◌, IfOk, OnOk, IfErr};
-ghost use Rattle.poets_call.specs.Sentences.{sentences_of};
+ghost use Rattle.poets_call.specs.Statements.{statements_of};
 ghost use Rattle.poets_session.specs.Sessions.{AreValid, Holds};
 ghost use Rattle.poets_session.specs.Refusals.{AreRefused};
 ghost use Rattle.poets_session.specs.Causes.{IsCauseOf, IsFirstFaultOf};
@@ -25,9 +25,9 @@ pub(crate) struct Parts {
 
 // What the statements say as a session of the form.
 fn parts_of(alloc: Global, statements: List<Statement>, form: Form) -> Result<Parts, SessionCause>
-    ensures valid { OnOk result (AreValid form (sentences_of statements.items)) }
-    ensures parts { IfOk result (HoldParts (sentences_of statements.items)) }
-    ensures refused { IfErr result (IsCauseOf (AreRefused form (sentences_of statements.items))) }
+    ensures valid { OnOk result (AreValid form (statements_of statements.items)) }
+    ensures parts { IfOk result (HoldParts (statements_of statements.items)) }
+    ensures refused { IfErr result (IsCauseOf (AreRefused form (statements_of statements.items))) }
 {
     check_places(form, statements.as_slice())?;
     let Checked { book, reports } = check_types(alloc, statements.as_slice())?;
@@ -48,10 +48,10 @@ pub fn session_of(
     statements: List<Statement>,
     form: Form,
 ) -> Result<Session, SessionFault>
-    ensures valid { OnOk result (AreValid form (sentences_of statements.items)) }
-    ensures holds { IfOk result (Holds (sentences_of statements.items)) }
+    ensures valid { OnOk result (AreValid form (statements_of statements.items)) }
+    ensures holds { IfOk result (Holds (statements_of statements.items)) }
     ensures names { IfOk result (λ session. session.names ≡ names) }
-    ensures refused { IfErr result (IsFirstFaultOf form (sentences_of statements.items)) }
+    ensures refused { IfErr result (IsFirstFaultOf form (statements_of statements.items)) }
     ensures told { IfErr result (λ fault. fault.names ≡ names) }
 {
     match parts_of(alloc, statements, form) {

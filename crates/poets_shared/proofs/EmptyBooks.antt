@@ -10,7 +10,7 @@ use Rattle.poets_value.specs.declared.value.Ty.{Ty}
 use Rattle.poets_value.specs.declared.value.Ty.TheVariants as T
 use Rattle.poets_value.specs.Names.{name_cmp}
 use Rattle.poets_expr.specs.Env.{Declared, declared_of, same_name}
-use Rattle.poets_syntax.specs.Book.{definition_of}
+use Rattle.poets_syntax.specs.Book.{template_of}
 use Rattle.poets_syntax.specs.declared.term.Template.{Template}
 use Rattle.poets_syntax.specs.Checked.{IsChecked}
 use Rattle.poets_syntax.specs.Typed.{IsTypedBook}
@@ -39,7 +39,7 @@ empty_checked declared nothing = (
 
 -- a book without declared names and templates is checked
 pub none_checked : (names : BTreeMap Name Ty) (templates : List Template) → names.entries ≡ [] → templates ≡ []
-    → IsChecked (record { declared = declared_of names; templates = map definition_of templates })
+    → IsChecked (record { declared = declared_of names; templates = map template_of templates })
 none_checked names templates empty none =
-    subst (λ ts. IsChecked (record { declared = declared_of names; templates = map definition_of ts })) (sym none)
+    subst (λ ts. IsChecked (record { declared = declared_of names; templates = map template_of ts })) (sym none)
     (empty_checked (declared_of names) (λ x. ap (lookup (λ y. is_eq (name_cmp x y))) empty))

@@ -1,7 +1,7 @@
 //! Clerks at a turnstile over an engine.
 ghost use Rattle.std.specs.Prelude.{◌≡◌, ◌<◌, ◌≤◌, [], length, All, IfOk};
 ghost use Rattle.std.specs.Arc.{arc_value};
-ghost use Rattle.poets_call.specs.Calls.{request_of};
+ghost use Rattle.poets_call.specs.Calls.{command_of};
 ghost use Rattle.poets_turn.specs.Clerks.{AreNumbered, IsClerkOf, clerk_count, number};
 ghost use Rattle.poets_shared.specs.Sharing.{IsScriptTakenByAll, IsTakenByAll, rules_of};
 
@@ -59,7 +59,7 @@ fn closed(turn: Turn<Engine>, clerks: List<Clerk<Engine>>) -> Engine
 
 // A command that registers `Success` under a name.
 fn registration(alloc: Global, id: u32) -> Result<Arc<Command>, Memory>
-    ensures { IfOk result (λ c. IsTakenByAll (request_of (arc_value c))) }
+    ensures { IfOk result (λ c. IsTakenByAll (command_of (arc_value c))) }
 {
     let term = Arc::new(alloc, Term::Success)?;
     let name = Name { id };
@@ -76,7 +76,7 @@ fn make<R: Threads + Wait + Sync>(
     call: &Arc<Command>,
 ) -> Result<(u64, Reply), Memory>
     requires of { IsClerkOf rules_of turn.now clerk.old }
-    requires taken { IsTakenByAll (request_of (arc_value call.now)) }
+    requires taken { IsTakenByAll (command_of (arc_value call.now)) }
     ensures of { IsClerkOf rules_of turn.now clerk.new }
     ensures number { number clerk.new ≡ number clerk.old }
 {

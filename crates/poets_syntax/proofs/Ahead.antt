@@ -5,7 +5,8 @@ use Rattle.poets_expr.specs.Env.{same_name}
 use Rattle.poets_expr.specs.Expression.{Expression}
 use Rattle.poets_expr.proofs.SameTrees.{name_one}
 use Rattle.poets_syntax.specs.Contract.{Contract}
-use Rattle.poets_syntax.specs.Book.{Definitions, Definition, template_in}
+use Rattle.poets_syntax.specs.Plain.{Book, Template}
+use Rattle.poets_syntax.specs.Book.{template_in}
 use Rattle.poets_syntax.specs.Marks.{Marks, AreRight}
 use Rattle.poets_syntax.specs.Applied.{FitsTemplate, CountsFit}
 use Rattle.poets_syntax.specs.Exposed.{EachExposed}
@@ -47,10 +48,10 @@ fewer (y ∷ names) x h = elim (truth (same_name x y)) [
 same_name_turned : (x y : Name) → same_name x y ≡ true → same_name y x ≡ true
 same_name_turned x y e = rw (name_one x y e) (rw (name_one x y e) at e)
 
-abbrev pub names_of : List Definition → List Name
+abbrev pub names_of : List Template → List Name
 names_of templates = map (λ t. t.name) templates
 
-pub among_names : (templates : List Definition) (x : Name) (t : Definition) → template_in templates x ≡ Some t → is_among (names_of templates) x ≡ true
+pub among_names : (templates : List Template) (x : Name) (t : Template) → template_in templates x ≡ Some t → is_among (names_of templates) x ≡ true
 among_names [] x t h = absurd cc
 among_names (u ∷ templates) x t h = elim (truth (same_name u.name x)) [
   | inl e ↦ rw (same_name_turned u.name x e) refl
@@ -61,21 +62,21 @@ among_names (u ∷ templates) x t h = elim (truth (same_name u.name x)) [
     or_second true b k = refl
     or_second false b k = k
 
-pub length-names_of : (templates : List Definition) → length (names_of templates) ≡ length templates
+pub length-names_of : (templates : List Template) → length (names_of templates) ≡ length templates
 length-names_of [] = refl
 length-names_of (t ∷ templates) = ap suc (length-names_of templates)
 
-module _ (book : Definitions) (guarded : IsGuarded book) where
+module _ (book : Book) (guarded : IsGuarded book) where
   -- each template is yet to come, or some path leads from it to the name
   abbrev pub IsAhead : List Name → Name → Type 0
-  IsAhead coming g = (x : Name) (t : Definition) → template_in book.templates x ≡ Some t → (is_among coming x ≡ true) ⊎ Reaches (UnguardedEdge book) x g
+  IsAhead coming g = (x : Name) (t : Template) → template_in book.templates x ≡ Some t → (is_among coming x ≡ true) ⊎ Reaches (UnguardedEdge book) x g
 
   -- a template from which a path would lead to itself is yet to come
-  pub to_come : (coming : List Name) (g : Name) (t : Definition) → template_in book.templates g ≡ Some t → IsAhead coming g → is_among coming g ≡ true
+  pub to_come : (coming : List Name) (g : Name) (t : Template) → template_in book.templates g ≡ Some t → IsAhead coming g → is_among coming g ≡ true
   to_come coming g t i h = elim (h g t i) [ inl k ↦ k | inr k ↦ absurd (guarded (g ∷ k.0) k.1) ]
 
   -- what stands ahead of a body's exposed names
-  pub ahead_of_body : (coming : List Name) (g : Name) (t : Definition) → template_in book.templates g ≡ Some t → IsAhead coming g →
+  pub ahead_of_body : (coming : List Name) (g : Name) (t : Template) → template_in book.templates g ≡ Some t → IsAhead coming g →
       (h : Name) → Exposes book t.body h → IsAhead (less coming g) h
   ahead_of_body coming g t i k h x y u j = elim (k y u j) [
     | inl l ↦ elim (truth (same_name g y)) [
@@ -90,7 +91,7 @@ module _ (book : Definitions) (guarded : IsGuarded book) where
   Comes coming f args = IsAhead coming f × FitsTemplate book f args
 
   -- a template that is unfolded leaves fewer to come
-  pub fewer_to_come : (coming : List Name) (f : Name) (t : Definition) → template_in book.templates f ≡ Some t → IsAhead coming f → length (less coming f) + 1 ≤ length coming
+  pub fewer_to_come : (coming : List Name) (f : Name) (t : Template) → template_in book.templates f ≡ Some t → IsAhead coming f → length (less coming f) + 1 ≤ length coming
   fewer_to_come coming f t i k = fewer coming f (to_come coming f t i k)
 
   module _ (marks : Marks) (right : AreRight book marks) where
@@ -102,7 +103,7 @@ module _ (book : Definitions) (guarded : IsGuarded book) where
         (EachExposed-fits book marks c h)
 
     -- in the body of one that comes, all but that one
-    pub body_comes : (coming : List Name) (f : Name) (t : Definition) → template_in book.templates f ≡ Some t → IsAhead coming f → CountsFit book t.body →
+    pub body_comes : (coming : List Name) (f : Name) (t : Template) → template_in book.templates f ≡ Some t → IsAhead coming f → CountsFit book t.body →
         EachExposed (Comes (less coming f)) marks t.body
     body_comes coming f t i k h =
         EachExposed-both (λ g _. IsAhead (less coming f) g) (FitsTemplate book) marks t.body

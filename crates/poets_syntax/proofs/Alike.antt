@@ -7,7 +7,8 @@ use Rattle.poets_expr.specs.Env.{Declared, Env}
 use Rattle.poets_expr.specs.Val.{val}
 use Rattle.poets_syntax.specs.declared.term.Binders.{Binders}
 use Rattle.poets_syntax.specs.Contract.{Contract}
-use Rattle.poets_syntax.specs.Book.{Definitions, BinderValues, values_of, undefined_values, bound, parameter_env}
+use Rattle.poets_syntax.specs.Plain.{Book}
+use Rattle.poets_syntax.specs.Book.{BinderValues, values_of, undefined_values, bound, parameter_env}
 use Rattle.poets_syntax.specs.May.{May}
 
 -- the first contract under the first environment says what the second says under the second
@@ -42,7 +43,7 @@ Alike-sym (Alike.Par h k) = Alike.Par (Alike-sym h) (Alike-sym k)
 Alike-sym (Alike.Seq h k) = Alike.Seq (Alike-sym h) (Alike-sym k)
 Alike-sym (Alike.App l h) = Alike.App (sym l) (sym h)
 
-pub Alike-May : {book : Definitions} {e₁ e₂ : Env} {c₁ c₂ : Contract} {s : List Event} {n : ℕ} →
+pub Alike-May : {book : Book} {e₁ e₂ : Env} {c₁ c₂ : Contract} {s : List Event} {n : ℕ} →
     Alike book.declared e₁ c₁ e₂ c₂ → May book e₁ c₁ s n → May book e₂ c₂ s n
 Alike-May Alike.Success May.Done = May.Done
 Alike-May Alike.Failure m = elim m [ ]

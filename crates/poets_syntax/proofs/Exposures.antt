@@ -8,7 +8,7 @@ use Rattle.poets_expr.proofs.SameTrees.{both_true}
 use Rattle.poets_syntax.specs.declared.term.Binders.{Binders}
 use Rattle.poets_syntax.specs.declared.term.Param.{Param}
 use Rattle.poets_syntax.specs.Contract.{Contract, Success, Failure, Transmit, Plus, Par, Seq, App}
-use Rattle.poets_syntax.specs.Book.{Definitions, Definition}
+use Rattle.poets_syntax.specs.Plain.{Book, Template}
 use Rattle.poets_syntax.specs.Marks.{Marks, nullable}
 use Rattle.poets_syntax.specs.Exposed.{EachExposed}
 use Rattle.poets_syntax.specs.Replace.{replace}
@@ -65,7 +65,7 @@ module _ (marks : Marks) where
   nullable_send b p c e = cc
 
   -- a contract is nullable where its normal form is
-  nullable_normal : (book : Definitions) (c : Contract) → nullable marks (normal book marks c) ≡ true → nullable marks c ≡ true
+  nullable_normal : (book : Book) (c : Contract) → nullable marks (normal book marks c) ≡ true → nullable marks c ≡ true
   nullable_normal book Success e = e
   nullable_normal book Failure e = e
   nullable_normal book (Transmit b p c) e = absurd (nullable_send b p (normal book marks c) e)
@@ -115,7 +115,7 @@ module _ (marks : Marks) where
     exposed_send b p Failure = tt
     exposed_send b p _ = tt
 
-    EachExposed-normal : (book : Definitions) (c : Contract) → EachExposed Is marks c → EachExposed Is marks (normal book marks c)
+    EachExposed-normal : (book : Book) (c : Contract) → EachExposed Is marks c → EachExposed Is marks (normal book marks c)
     EachExposed-normal book Success h = tt
     EachExposed-normal book Failure h = tt
     EachExposed-normal book (Transmit b p c) h = exposed_send b p (normal book marks c)
@@ -131,9 +131,9 @@ module _ (marks : Marks) where
     ]
 
 -- an unfolded body exposes what the body as written does
-pub EachExposed-body : (book : Definitions) (marks : Marks) (Is : Name → List Expression → Type 0) →
+pub EachExposed-body : (book : Book) (marks : Marks) (Is : Name → List Expression → Type 0) →
     ((f : Name) (args args' : List Expression) → length args ≡ length args' → Is f args → Is f args') →
-    (t : Definition) (args : List Expression) → EachExposed Is marks t.body → EachExposed Is marks (body_of book marks (Some t) args)
+    (t : Template) (args : List Expression) → EachExposed Is marks t.body → EachExposed Is marks (body_of book marks (Some t) args)
 EachExposed-body book marks Is same t args h =
     EachExposed-normal marks Is same book (replace (argument_givens book.declared t.params args) t.body)
     (EachExposed-replace marks Is same (argument_givens book.declared t.params args) t.body h)

@@ -14,8 +14,9 @@ use Rattle.poets_value.specs.declared.value.Name.{Name}
 use Rattle.poets_expr.specs.Env.{same_name}
 use Rattle.poets_syntax.specs.declared.term.Template.{Template}
 use Rattle.poets_syntax.specs.declared.studied.Mark.{Mark}
-use Rattle.poets_syntax.specs.Book.{Definition, definition_of, template_in}
+use Rattle.poets_syntax.specs.Book.{template_of, template_in}
 use Rattle.poets_syntax.specs.Studied.{has_mark}
+use Rattle.poets_syntax.specs.Plain as plain
 use Rattle.poets_syntax.proofs.Replacing.{truth}
 
 pub same_name_laws : IsEquivalence same_name
@@ -36,10 +37,10 @@ distinct_front e [] ys h = tt
 distinct_front e (x ∷ xs) ys h = (all_front (λ y. e x y ≡ false) xs ys h.0, distinct_front e xs ys h.1)
 
 pub IsDistinct-names : (templates : List Template) (others : List Name) →
-    IsDistinct same_name (map (λ t. t.name) (map definition_of templates) ++ others) → IsDistinct same_name (names_of templates)
+    IsDistinct same_name (map (λ t. t.name) (map template_of templates) ++ others) → IsDistinct same_name (names_of templates)
 IsDistinct-names templates others h =
-    subst (IsDistinct same_name) (map-map (λ t. t.name) definition_of templates)
-    (distinct_front same_name (map (λ t. t.name) (map definition_of templates)) others h)
+    subst (IsDistinct same_name) (map-map (λ t. t.name) template_of templates)
+    (distinct_front same_name (map (λ t. t.name) (map template_of templates)) others h)
 
 -- ---- names that are entered one after the other
 
@@ -61,8 +62,8 @@ entered_all templates n l h = ap (λ ts. insert_all same_name [] (names_of ts)) 
 module _ (f : Name) where
   -- there is no template of that name
   pub record IsNowhere (ts : List Template) (ms : List Mark) : Type 0 where
-    pub template : template_in (map definition_of ts) f ≡ None
-    pub mark : (is : Mark → Bool) → has_mark is (map definition_of ts) ms f ≡ false
+    pub template : template_in (map template_of ts) f ≡ None
+    pub mark : (is : Mark → Bool) → has_mark is (map template_of ts) ms f ≡ false
 
   no_name : (t : Template) (rest : Bool) → (same_name f t.name || rest) ≡ false → (same_name t.name f ≡ false) × (rest ≡ false)
   no_name t rest h = elim (truth (same_name f t.name)) [
@@ -82,23 +83,23 @@ module _ (f : Name) where
       record { template = rw p.0 rest.template; mark = λ is. rw p.0 (rest.mark is) }
 
   -- the template of that name and its mark
-  pub record IsFound (R : Definition → Mark → Type 0) (ts : List Template) (ms : List Mark) (t : Template) (m : Mark) : Type 0 where
-    pub template : template_in (map definition_of ts) f ≡ Some (definition_of t)
-    pub mark : (is : Mark → Bool) → has_mark is (map definition_of ts) ms f ≡ is m
-    pub right : R (definition_of t) m
+  pub record IsFound (R : plain.Template → Mark → Type 0) (ts : List Template) (ms : List Mark) (t : Template) (m : Mark) : Type 0 where
+    pub template : template_in (map template_of ts) f ≡ Some (template_of t)
+    pub mark : (is : Mark → Bool) → has_mark is (map template_of ts) ms f ≡ is m
+    pub right : R (template_of t) m
 
   -- they stand at the first place where the name stands
-  IsFound-at : (R : Definition → Mark → Type 0) (ts : List Template) (ms : List Mark) (k : ℕ) (t : Template) (d : Name) (e : Mark) →
-      AllZip R (map definition_of ts) ms → k < length ts → t ≡ get_or ts k t → same_name f (get_or (names_of ts) k d) ≡ true →
+  IsFound-at : (R : plain.Template → Mark → Type 0) (ts : List Template) (ms : List Mark) (k : ℕ) (t : Template) (d : Name) (e : Mark) →
+      AllZip R (map template_of ts) ms → k < length ts → t ≡ get_or ts k t → same_name f (get_or (names_of ts) k d) ≡ true →
       ((j : ℕ) → j < k → same_name f (get_or (names_of ts) j d) ≡ false) → IsFound R ts ms t (get_or ms k e)
   IsFound-at R [] ms k t d e zipped l s here before = absurd (omega (arith, l))
   IsFound-at R (u ∷ ts) [] k t d e zipped l s here before = absurd zipped
   IsFound-at R (u ∷ ts) (m ∷ ms) zero t d e zipped l s here before =
       let named : same_name u.name f ≡ true = same_name_laws.symm u.name f ∙ here in
       record {
-        template = rw named (ap (λ v. Some (definition_of v)) (sym s));
+        template = rw named (ap (λ v. Some (template_of v)) (sym s));
         mark = λ is. rw named refl;
-        right = subst (λ v. R (definition_of v) m) (sym s) zipped.0;
+        right = subst (λ v. R (template_of v) m) (sym s) zipped.0;
       }
   IsFound-at R (u ∷ ts) (m ∷ ms) (suc k) t d e zipped l s here before =
       let other : same_name u.name f ≡ false = same_name_laws.symm u.name f ∙ before 0 (omega arith) in
@@ -106,15 +107,15 @@ module _ (f : Name) where
       record { template = rw other rest.template; mark = λ is. rw other (rest.mark is); right = rest.right }
 
   -- which is the name's place in the index
-  module _ (R : Definition → Mark → Type 0) (keys : List Name) (ts : List Template) (ms : List Mark) (k : ℕ) (indexed : keys ≡ names_of ts)
-      (zipped : AllZip R (map definition_of ts) ms) (place : position (same_name f) keys ≡ Some k) where
+  module _ (R : plain.Template → Mark → Type 0) (keys : List Name) (ts : List Template) (ms : List Mark) (k : ℕ) (indexed : keys ≡ names_of ts)
+      (zipped : AllZip R (map template_of ts) ms) (place : position (same_name f) keys ≡ Some k) where
     among : (d : Name) → (k < length ts) × (same_name f (get_or (names_of ts) k d) ≡ true) × ((j : ℕ) → j < k → same_name f (get_or (names_of ts) j d) ≡ false)
     among d =
         let p = position-Some (same_name f) (names_of ts) k d (ap (position (same_name f)) (sym indexed) ∙ place) in
         (subst (λ n. k < n) (length-map ts (λ t. t.name)) p.0, p.1, p.2)
 
     pub marks_reach : k < length ms
-    marks_reach = let p = among (record { id = 0 }) in omega (arith, p.0, AllZip-long R (map definition_of ts) ms zipped, length-map ts definition_of)
+    marks_reach = let p = among (record { id = 0 }) in omega (arith, p.0, AllZip-long R (map template_of ts) ms zipped, length-map ts template_of)
 
     pub IsFound-place : (t : Template) (e : Mark) → t ≡ get_or ts k t → IsFound R ts ms t (get_or ms k e)
     IsFound-place t e s = let p = among t.name in IsFound-at R ts ms k t t.name e zipped p.0 s p.1 p.2

@@ -3,13 +3,13 @@ use Rattle.std.proofs.Common.{◌≡◌, ℕ, ◌+◌, List, [], ◌∷◌, ◌+
 use Rattle.poets_value.specs.declared.event.Event.{Event}
 use Rattle.poets_expr.specs.Env.{Env}
 use Rattle.poets_syntax.specs.Contract.{Contract, Transmit, Seq}
-use Rattle.poets_syntax.specs.Book.{Definitions}
+use Rattle.poets_syntax.specs.Plain.{Book}
 use Rattle.poets_syntax.specs.Perf.{Perf}
 use Rattle.poets_syntax.specs.May.{May}
 use Rattle.poets_syntax.specs.Between.{Between}
 use Rattle.poets_syntax.proofs.Lists.{parts_of_nil, Between-nil, Between-length, two_cuts, Between-cut}
 
-pub May-Perf : {book : Definitions} {env : Env} {c : Contract} {s : List Event} {n : ℕ} → May book env c s n → n ≡ 0 → Perf book env c s
+pub May-Perf : {book : Book} {env : Env} {c : Contract} {s : List Event} {n : ℕ} → May book env c s n → n ≡ 0 → Perf book env c s
 May-Perf May.Done e = Perf.Done
 May-Perf (May.Taken h m) e = Perf.Taken h (May-Perf m e)
 May-Perf (May.Granted m) e = absurd (omega arith)
@@ -20,7 +20,7 @@ May-Perf (May.Then q m₁ m₂) e = Perf.Then q (May-Perf m₁ refl) (May-Perf m
 May-Perf (May.ThenGranted q m₁ m₂) e = Perf.Then (sym (append-nil _)) (May-Perf m₁ (omega arith)) (May-Perf m₂ (omega arith))
 May-Perf (May.Body t l m) e = Perf.Body t l (May-Perf m e)
 
-pub Perf-May : {book : Definitions} {env : Env} {c : Contract} {s : List Event} → Perf book env c s → May book env c s 0
+pub Perf-May : {book : Book} {env : Env} {c : Contract} {s : List Event} → Perf book env c s → May book env c s 0
 Perf-May Perf.Done = May.Done
 Perf-May (Perf.Taken h m) = May.Taken h (Perf-May m)
 Perf-May (Perf.Left m) = May.Left (Perf-May m)
@@ -29,10 +29,10 @@ Perf-May (Perf.Beside b m₁ m₂) = May.Beside b refl (Perf-May m₁) (Perf-May
 Perf-May (Perf.Then q m₁ m₂) = May.Then q (Perf-May m₁) (Perf-May m₂)
 Perf-May (Perf.Body t l m) = May.Body t l (Perf-May m)
 
-recounted : {book : Definitions} {env : Env} {c : Contract} {s : List Event} {m n : ℕ} → m ≡ n → May book env c s m → May book env c s n
+recounted : {book : Book} {env : Env} {c : Contract} {s : List Event} {m n : ℕ} → m ≡ n → May book env c s m → May book env c s n
 recounted {book} {env} {c} {s} e m = subst (λ k. May book env c s k) e m
 
-pub May-anywhere : {book : Definitions} {env : Env} {c : Contract} {s : List Event} {n : ℕ} → May book env c s n → s ≡ [] → (env' : Env) → May book env' c [] n
+pub May-anywhere : {book : Book} {env : Env} {c : Contract} {s : List Event} {n : ℕ} → May book env c s n → s ≡ [] → (env' : Env) → May book env' c [] n
 May-anywhere May.Done e env' = May.Done
 May-anywhere (May.Taken h m) e env' = absurd cc
 May-anywhere (May.Granted m) e env' = May.Granted (May-anywhere m refl _)
@@ -47,7 +47,7 @@ May-anywhere (May.Then {s₁ = s₁} {s₂ = s₂} q m₁ m₂) e env' =
 May-anywhere (May.ThenGranted q m₁ m₂) e env' = May.ThenGranted q (May-anywhere m₁ e env') (May-anywhere m₂ refl env')
 May-anywhere (May.Body t l m) e env' = May.Body t l (May-anywhere m e _)
 
-pub May-granted : {book : Definitions} {env : Env} {c : Contract} {s : List Event} {n : ℕ} → May book env c s n → May book env c [] (length s + n)
+pub May-granted : {book : Book} {env : Env} {c : Contract} {s : List Event} {n : ℕ} → May book env c s n → May book env c [] (length s + n)
 May-granted May.Done = recounted (omega arith) May.Done
 May-granted (May.Taken h m) = recounted (omega arith) (May.Granted (May-anywhere (May-granted m) refl _))
 May-granted (May.Granted m) = recounted (omega arith) (May.Granted m)
@@ -60,11 +60,11 @@ May-granted (May.ThenGranted q m₁ m₂) = May.ThenGranted (omega arith) (May-g
 May-granted (May.Body t l m) = May.Body t l (May-granted m)
 
 -- the whole of a performing trace may be granted
-none_taken : {book : Definitions} {env : Env} {c : Contract} {s : List Event} → Perf book env c s → May book env c [] (length s)
+none_taken : {book : Book} {env : Env} {c : Contract} {s : List Event} → Perf book env c s → May book env c [] (length s)
 none_taken p = recounted (omega arith) (May-granted (Perf-May p))
 
 -- the cut of a trace falls into the first part, or into the second
-rest_of_then : {book : Definitions} {env : Env} {c₁ c₂ : Contract} {s₁ s₂ s rest : List Event} →
+rest_of_then : {book : Book} {env : Env} {c₁ c₂ : Contract} {s₁ s₂ s rest : List Event} →
     Perf book env c₁ s₁ → Perf book env c₂ s₂ →
     ((m : List Event) → s₁ ≡ s ++ m → May book env c₁ s (length m)) →
     ((m : List Event) → s₂ ≡ m ++ rest → May book env c₂ m (length rest)) →
@@ -74,7 +74,7 @@ rest_of_then {s₂ = s₂} p₁ p₂ first second (inl t) =
     May.ThenGranted (ap length t.2 ∙ length-append t.0 s₂) (first t.0 t.1) (none_taken p₂)
 rest_of_then p₁ p₂ first second (inr t) = May.Then t.1 (Perf-May p₁) (second t.0 t.2)
 
-pub Perf-rest : {book : Definitions} {env : Env} {c : Contract} {u : List Event} → Perf book env c u → (s rest : List Event) → u ≡ s ++ rest → May book env c s (length rest)
+pub Perf-rest : {book : Book} {env : Env} {c : Contract} {u : List Event} → Perf book env c u → (s rest : List Event) → u ≡ s ++ rest → May book env c s (length rest)
 Perf-rest p [] rest e = recounted (ap length e) (none_taken p)
 Perf-rest Perf.Done (x ∷ s) rest e = absurd cc
 Perf-rest {book} {env} (Perf.Taken {b = b} {p = q} {c = c} {e = y} h p) (x ∷ s) rest e =

@@ -3,7 +3,7 @@ use Rattle.std.proofs.Common.{List, [], ◌∷◌}
 use Rattle.poets_value.specs.declared.value.Name.{Name}
 use Rattle.poets_expr.specs.Expression.{Expression}
 use Rattle.poets_syntax.specs.Contract.{Contract}
-use Rattle.poets_syntax.specs.Book.{Definitions}
+use Rattle.poets_syntax.specs.Plain.{Book}
 use Rattle.poets_syntax.specs.Marks.{Marks, AreRight}
 use Rattle.poets_syntax.specs.Applied.{CountsFit}
 use Rattle.poets_syntax.specs.Exposed.{EachExposed}
@@ -20,7 +20,7 @@ module _ (Edge : Name → Name → Type 0) where
   further f g h [] k e = (g ∷ [], (k, e))
   further f g h (x ∷ names) k e = let l = further x g h names k.1 e in (x ∷ l.0, (k.0, l.1))
 
-module _ (book : Definitions) (marks : Marks) (right : AreRight book marks) where
+module _ (book : Book) (marks : Marks) (right : AreRight book marks) where
   -- what holds of each exposed name holds of the exposed applications
   pub EachExposed-by : (P : Name → Type 0) (c : Contract) → CountsFit book c → ((g : Name) → Exposes book c g → P g) →
       EachExposed (λ g _. P g) marks c

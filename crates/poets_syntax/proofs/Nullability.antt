@@ -9,7 +9,8 @@ use Rattle.poets_expr.specs.Expression.{Expression}
 use Rattle.poets_expr.specs.Val.{val}
 use Rattle.poets_expr.proofs.SameTrees.{both_true}
 use Rattle.poets_syntax.specs.Contract.{Contract}
-use Rattle.poets_syntax.specs.Book.{Definitions, Definition, parameter_env}
+use Rattle.poets_syntax.specs.Plain.{Book, Template}
+use Rattle.poets_syntax.specs.Book.{parameter_env}
 use Rattle.poets_syntax.specs.Between.{Between}
 use Rattle.poets_syntax.specs.Perf.{Perf}
 use Rattle.poets_syntax.specs.Marks.{Marks, AreRight, nullable}
@@ -34,7 +35,7 @@ either_true true b e = inl refl
 either_true false b e = inr e
 
 -- the empty trace performs it in every environment, or in none
-pub Perf-anywhere : {book : Definitions} {env : Env} {c : Contract} → (env' : Env) → Perf book env c [] → Perf book env' c []
+pub Perf-anywhere : {book : Book} {env : Env} {c : Contract} → (env' : Env) → Perf book env c [] → Perf book env' c []
 Perf-anywhere env' p = May-Perf (May-anywhere (Perf-May p) refl env') refl
 
 -- a weaker fact of each exposed application
@@ -49,7 +50,7 @@ EachExposed-weaker Is Is' marks h (Contract.Seq c d) e = (EachExposed-weaker Is 
 EachExposed-weaker Is Is' marks h (Contract.App f args) e = h f args e
 
 -- what fits is exposed fitting
-pub EachExposed-fits : (book : Definitions) (marks : Marks) (c : Contract) → CountsFit book c → EachExposed (FitsTemplate book) marks c
+pub EachExposed-fits : (book : Book) (marks : Marks) (c : Contract) → CountsFit book c → EachExposed (FitsTemplate book) marks c
 EachExposed-fits book marks Contract.Success h = tt
 EachExposed-fits book marks Contract.Failure h = tt
 EachExposed-fits book marks (Contract.Transmit b p c) h = tt
@@ -58,10 +59,10 @@ EachExposed-fits book marks (Contract.Par c d) h = (EachExposed-fits book marks 
 EachExposed-fits book marks (Contract.Seq c d) h = (EachExposed-fits book marks c h.0, λ _. EachExposed-fits book marks d h.1)
 EachExposed-fits book marks (Contract.App f args) h = h
 
-one_template : {o : Option Definition} {t u : Definition} → o ≡ Some t → o ≡ Some u → t ≡ u
+one_template : {o : Option Template} {t u : Template} → o ≡ Some t → o ≡ Some u → t ≡ u
 one_template i j = cc
 
-pub CountsFit-fit : (book : Definitions) (c : Contract) → ApplicationsFit book c → CountsFit book c
+pub CountsFit-fit : (book : Book) (c : Contract) → ApplicationsFit book c → CountsFit book c
 CountsFit-fit book Contract.Success h = tt
 CountsFit-fit book Contract.Failure h = tt
 CountsFit-fit book (Contract.Transmit b p c) h = CountsFit-fit book c h
@@ -70,7 +71,7 @@ CountsFit-fit book (Contract.Par c d) h = (CountsFit-fit book c h.0, CountsFit-f
 CountsFit-fit book (Contract.Seq c d) h = (CountsFit-fit book c h.0, CountsFit-fit book d h.1)
 CountsFit-fit book (Contract.App f args) h = λ t i. subst (λ u. length u.params ≡ length args) (one_template h.1 i) h.2
 
-module _ (book : Definitions) (marks : Marks) (right : AreRight book marks) where
+module _ (book : Book) (marks : Marks) (right : AreRight book marks) where
   -- what the empty trace performs is nullable by the marks
   pub nullable_in : {env : Env} {c : Contract} {s : List Event} → Perf book env c s → s ≡ [] → nullable marks c ≡ true
   nullable_in Perf.Done e = refl

@@ -4,7 +4,7 @@ use Rattle.poets_value.specs.declared.event.Event.{Event}
 use Rattle.poets_expr.specs.Env.{Env}
 use Rattle.poets_expr.specs.Subst.{Givens}
 use Rattle.poets_syntax.specs.Contract.{Contract}
-use Rattle.poets_syntax.specs.Book.{Definitions}
+use Rattle.poets_syntax.specs.Plain.{Book}
 use Rattle.poets_syntax.specs.Replace.{without, replace}
 use Rattle.poets_syntax.specs.Between.{Between}
 use Rattle.poets_syntax.specs.Perf.{Perf}
@@ -23,7 +23,7 @@ SameShape-sym (SameShape.Par h k) = SameShape.Par (SameShape-sym h) (SameShape-s
 SameShape-sym (SameShape.Seq h k) = SameShape.Seq (SameShape-sym h) (SameShape-sym k)
 SameShape-sym (SameShape.App l) = SameShape.App (sym l)
 
-pub May-shape : {book : Definitions} {env : Env} {c c' : Contract} {s : List Event} {n : ℕ} →
+pub May-shape : {book : Book} {env : Env} {c c' : Contract} {s : List Event} {n : ℕ} →
     SameShape c c' → May book env c s n → s ≡ [] → (env' : Env) → May book env' c' [] n
 May-shape SameShape.Success May.Done e env' = May.Done
 May-shape SameShape.Failure m e env' = elim m [ ]
@@ -41,7 +41,7 @@ May-shape (SameShape.Seq h k) (May.ThenGranted q m₁ m₂) e env' =
     May.ThenGranted q (May-shape h m₁ e env') (May-shape k m₂ refl env')
 May-shape (SameShape.App l) (May.Body t r m) e env' = May.Body t (r ∙ l) (May-anywhere m e _)
 
-pub Perf-shape : {book : Definitions} {env : Env} {c c' : Contract} → SameShape c c' → (env' : Env) → Perf book env c [] → Perf book env' c' []
+pub Perf-shape : {book : Book} {env : Env} {c c' : Contract} → SameShape c c' → (env' : Env) → Perf book env c [] → Perf book env' c' []
 Perf-shape h env' p = May-Perf (May-shape h (Perf-May p) refl env') refl
 
 -- replacing names keeps the shape

@@ -5,16 +5,17 @@ use Rattle.poets_value.specs.declared.value.Name.{Name}
 use Rattle.poets_expr.specs.Env.{same_name}
 use Rattle.poets_syntax.specs.declared.studied.Mark.{Mark}
 use Rattle.poets_syntax.specs.Contract.{Contract}
-use Rattle.poets_syntax.specs.Book.{Definitions, Definition, template_in}
+use Rattle.poets_syntax.specs.Plain.{Book, Template}
+use Rattle.poets_syntax.specs.Book.{template_in}
 use Rattle.poets_syntax.specs.Marks.{AreRight, Nullable, Hopeful}
 use Rattle.poets_syntax.specs.Studied.{has_mark, marks_in, IsRightMark, IsStudiedBook}
 use Rattle.poets_syntax.proofs.Replacing.{truth}
 
 module _ (Is : Contract → Type 0) (is : Mark → Bool) where
   -- a mark that says so of each body says it of the template that is found by name
-  pub has_mark_iff : (R : Definition → Mark → Type 0) → ((t : Definition) (m : Mark) → R t m → IsTrue (is m) ↔ Is t.body) →
-      (templates : List Definition) (marks : List Mark) → AllZip R templates marks → (f : Name) →
-      IsTrue (has_mark is templates marks f) ↔ ((t : Definition) × (template_in templates f ≡ Some t) × Is t.body)
+  pub has_mark_iff : (R : Template → Mark → Type 0) → ((t : Template) (m : Mark) → R t m → IsTrue (is m) ↔ Is t.body) →
+      (templates : List Template) (marks : List Mark) → AllZip R templates marks → (f : Name) →
+      IsTrue (has_mark is templates marks f) ↔ ((t : Template) × (template_in templates f ≡ Some t) × Is t.body)
   has_mark_iff R right [] [] h f = (λ k. absurd cc, λ b. absurd (let e = b.1 in cc))
   has_mark_iff R right [] (m ∷ marks) h f = absurd h
   has_mark_iff R right (t ∷ templates) [] h f = absurd h
@@ -35,7 +36,7 @@ module _ (Is : Contract → Type 0) (is : Mark → Bool) where
       refl_some : Some t ≡ Some t
       refl_some = cc
 
-pub AreRight-studied : (book : Definitions) (marks : List Mark) → IsStudiedBook book marks → AreRight book (marks_in book.templates marks)
+pub AreRight-studied : (book : Book) (marks : List Mark) → IsStudiedBook book marks → AreRight book (marks_in book.templates marks)
 AreRight-studied book marks h = record {
   nullable = has_mark_iff (Nullable book) (λ m. m.nullable) (IsRightMark book (marks_in book.templates marks)) (λ t m r. r.nullable) book.templates marks h.right;
   hopeful = has_mark_iff (Hopeful book) (λ m. m.hopeful) (IsRightMark book (marks_in book.templates marks)) (λ t m r. r.hopeful) book.templates marks h.right;

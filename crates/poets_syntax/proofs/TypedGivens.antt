@@ -15,11 +15,12 @@ use Rattle.poets_expr.proofs.SameTrees.{name_one}
 use Rattle.poets_syntax.specs.declared.term.Binders.{Binders}
 use Rattle.poets_syntax.specs.declared.term.Param.{Param}
 use Rattle.poets_syntax.specs.Contract.{Contract, Transmit, App}
-use Rattle.poets_syntax.specs.Book.{Definitions, Definition, template_in}
+use Rattle.poets_syntax.specs.Plain.{Book, Template, Twice}
+use Rattle.poets_syntax.specs.Book.{template_in}
 use Rattle.poets_syntax.specs.Replace.{replace}
 use Rattle.poets_syntax.specs.WellFormed.{IsDeclaredEvent}
 use Rattle.poets_syntax.specs.Residual.{event_givens, argument_givens}
-use Rattle.poets_syntax.specs.TypeOf.{Twice, Verdict, Passes, Fails, Scope, type_in, name_type, HasType}
+use Rattle.poets_syntax.specs.TypeOf.{Verdict, Passes, Fails, Scope, type_in, name_type, HasType}
 use Rattle.poets_syntax.specs.Typed.{is_among, in_use, check_new, scope_of, check_type, check_args, check_application, IsTyped, IsTypedBook}
 use Rattle.poets_syntax.specs.OfType.{AreOfTypes, types_given, IsUndeclaredScope}
 use Rattle.poets_syntax.proofs.Replacing.{truth}
@@ -123,7 +124,7 @@ module _ (declared : Declared) where
 
 -- ---- contracts
 
-module _ (book : Definitions) (reports : List Name) where
+module _ (book : Book) (reports : List Name) where
   pub IsTyped-given : (given : Givens) (scope : Scope) (c : Contract) → AreOfTypes book.declared given → IsUndeclaredScope book.declared scope →
       IsTyped book reports (types_given given ++ scope) c → IsTyped book reports scope (replace given c)
   IsTyped-given given s c h k =
@@ -138,7 +139,7 @@ module _ (book : Definitions) (reports : List Name) where
       (transmit_parts book reports [] b p c k).2
 
   -- an unfolded body
-  pub IsTyped-arguments : IsTypedBook book reports → (f : Name) (args : List Expression) (t : Definition) → template_in book.templates f ≡ Some t →
+  pub IsTyped-arguments : IsTypedBook book reports → (f : Name) (args : List Expression) (t : Template) → template_in book.templates f ≡ Some t →
       IsTyped book reports [] (App f args) → IsTyped book reports [] (replace (argument_givens book.declared t.params args) t.body)
   IsTyped-arguments typed f args t i h =
       let parts = application_parts book.declared [] f (Some t) args (along (λ o. check_application book.declared [] f o args ≡ Passes tt) i h) in
@@ -149,5 +150,5 @@ module _ (book : Definitions) (reports : List Name) where
       (along (λ u. length u.params ≡ length args) same parts.2) (along (λ u. check_args book.declared [] u.params args ≡ Passes tt) same parts.3))
       t.body (typed f t i).1
     where
-      some : {u v : Definition} → Some v ≡ Some u → u ≡ v
+      some : {u v : Template} → Some v ≡ Some u → u ≡ v
       some e = cc

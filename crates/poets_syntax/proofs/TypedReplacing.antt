@@ -18,9 +18,10 @@ use Rattle.poets_expr.proofs.SameTrees.{both_true, name_one}
 use Rattle.poets_syntax.specs.declared.term.Binders.{Binders}
 use Rattle.poets_syntax.specs.declared.term.Param.{Param}
 use Rattle.poets_syntax.specs.Contract.{Contract, Success, Failure, Transmit, Plus, Par, Seq, App}
-use Rattle.poets_syntax.specs.Book.{Definitions, Definition, template_in}
+use Rattle.poets_syntax.specs.Plain.{Book, Template, WrongCount}
+use Rattle.poets_syntax.specs.Book.{template_in}
 use Rattle.poets_syntax.specs.Replace.{binds, without, replace, AreUndeclared}
-use Rattle.poets_syntax.specs.TypeOf.{WrongCount, Passes, ◌>>=◌, Scope, type_in, must_be, same_type, unary_type, binary_type, make_type, if_type, name_type, type_of, HasType}
+use Rattle.poets_syntax.specs.TypeOf.{Passes, ◌>>=◌, Scope, type_in, must_be, same_type, unary_type, binary_type, make_type, if_type, name_type, type_of, HasType}
 use Rattle.poets_syntax.specs.Typed.{in_use, check_new, names_bound, types_bound, check_type, check_args, check_application, check_contract, IsTyped}
 use Rattle.poets_syntax.specs.OfType.{IsOfType, IsUndeclaredScope}
 use Rattle.poets_syntax.proofs.Replacing.{truth, first_of_four, none_of_four, one_of_four, declared_free, replaced-free, replaced-bound, args_count}
@@ -173,20 +174,20 @@ module _ (declared : Declared) where
       let q = passed (check_type declared s p.ty a) (λ _. check_args declared s params args) tt h in
       rw (check_type-typed s' p.ty (subst g a) (HasType-subst s g s' f a p.ty (HasType-checked s p.ty a q.1))) (check_args-subst s g s' f params args q.2)
 
-  pub application_parts : (scope : Scope) (f : Name) (o : Option Definition) (args : List Expression) → check_application declared scope f o args ≡ Passes tt →
-      (t : Definition) × (o ≡ Some t) × (length t.params ≡ length args) × (check_args declared scope t.params args ≡ Passes tt)
+  pub application_parts : (scope : Scope) (f : Name) (o : Option Template) (args : List Expression) → check_application declared scope f o args ≡ Passes tt →
+      (t : Template) × (o ≡ Some t) × (length t.params ≡ length args) × (check_args declared scope t.params args ≡ Passes tt)
   application_parts s f None args h = absurd cc
   application_parts s f (Some t) args h =
       let p = as_many (length t.params) (length args) (WrongCount f (length t.params) (length args)) (check_args declared s t.params args) h in
       (t, refl, p.0, p.1)
 
-  pub application_of_parts : (scope : Scope) (f : Name) (o : Option Definition) (t : Definition) (args : List Expression) → o ≡ Some t →
+  pub application_of_parts : (scope : Scope) (f : Name) (o : Option Template) (t : Template) (args : List Expression) → o ≡ Some t →
       length t.params ≡ length args → check_args declared scope t.params args ≡ Passes tt → check_application declared scope f o args ≡ Passes tt
   application_of_parts s f o t args i l h = rw (i, eq-eqb (length t.params) (length args) l) h
 
 -- ---- contracts
 
-module _ (book : Definitions) (reports : List Name) where
+module _ (book : Book) (reports : List Name) where
   pub two_parts : (scope : Scope) (a b : Contract) → (check_contract book reports scope a >>= λ _. check_contract book reports scope b) ≡ Passes tt →
       IsTyped book reports scope a × IsTyped book reports scope b
   two_parts s a b h = let p = passed (check_contract book reports s a) (λ _. check_contract book reports s b) tt h in (p.1, p.2)

@@ -13,11 +13,12 @@ use Rattle.poets_expr.specs.Fold.{HasDeclaredNames, HasDeclaredLiterals}
 use Rattle.poets_syntax.specs.declared.term.Binders.{Binders}
 use Rattle.poets_syntax.specs.declared.term.Param.{Param}
 use Rattle.poets_syntax.specs.Contract.{Contract, Success, Failure, Transmit, Plus, Par, Seq, App}
-use Rattle.poets_syntax.specs.Book.{Definitions, Definition, template_in}
+use Rattle.poets_syntax.specs.Plain.{Book, Template, TypeCause, Twice, WrongCount}
+use Rattle.poets_syntax.specs.Book.{template_in}
 use Rattle.poets_syntax.specs.Replace.{AreUndeclared}
 use Rattle.poets_syntax.specs.Applied.{Takes, ApplicationsFit, BodiesFit}
 use Rattle.poets_syntax.specs.WellFormed.{HaveDeclaredLiterals, IsWellFormed}
-use Rattle.poets_syntax.specs.TypeOf.{Fault, Twice, WrongCount, Verdict, Passes, Fails, ◌>>=◌, Scope, must_be, unary_type, binary_type, make_type, if_type, resource_type, literal_type, type_of}
+use Rattle.poets_syntax.specs.TypeOf.{Verdict, Passes, Fails, ◌>>=◌, Scope, must_be, unary_type, binary_type, make_type, if_type, resource_type, literal_type, type_of}
 use Rattle.poets_syntax.specs.Typed.{is_among, in_use, check_new, check_type, check_args, check_application, check_contract, names_bound, types_bound, scope_of, IsTyped, IsTypedBook}
 
 -- what passes two checks passes each
@@ -86,13 +87,13 @@ not_declared (Some t) true false h = absurd cc
 not_declared (Some t) false true h = absurd cc
 not_declared (Some t) false false h = absurd cc
 
-new_undeclared : (book : Definitions) (reports : List Name) (earlier : List Name) (x : Name) (names : List Name) →
+new_undeclared : (book : Book) (reports : List Name) (earlier : List Name) (x : Name) (names : List Name) →
     check_new (in_use book reports) earlier (x ∷ names) ≡ Passes tt → (book.declared x ≡ None) × (check_new (in_use book reports) (x ∷ earlier) names ≡ Passes tt)
 new_undeclared book reports earlier x names h =
     let p = undeclared (in_use book reports x) (is_among earlier x) x (check_new (in_use book reports) (x ∷ earlier) names) h in
     (not_declared (book.declared x) (is_some (template_in book.templates x)) (is_among reports x) p.0, p.1)
 
-AreUndeclared-typed : (book : Definitions) (reports : List Name) (b : Binders) → check_new (in_use book reports) [] (names_bound b) ≡ Passes tt → AreUndeclared book.declared b
+AreUndeclared-typed : (book : Book) (reports : List Name) (b : Binders) → check_new (in_use book reports) [] (names_bound b) ≡ Passes tt → AreUndeclared book.declared b
 AreUndeclared-typed book reports b h =
     let sender = new_undeclared book reports [] b.sender (b.receiver ∷ b.what ∷ b.day ∷ []) h in
     let receiver = new_undeclared book reports (b.sender ∷ []) b.receiver (b.what ∷ b.day ∷ []) sender.1 in
@@ -100,21 +101,21 @@ AreUndeclared-typed book reports b h =
     let day = new_undeclared book reports (b.what ∷ b.receiver ∷ b.sender ∷ []) b.day [] what.1 in
     record { sender = sender.0; receiver = receiver.0; what = what.0; day = day.0 }
 
-pub as_many : (m n : ℕ) (f : Fault) (next : Verdict (Unit {0})) → (if nat_eq m n then next else Fails f) ≡ Passes tt → (m ≡ n) × (next ≡ Passes tt)
+pub as_many : (m n : ℕ) (f : TypeCause) (next : Verdict (Unit {0})) → (if nat_eq m n then next else Fails f) ≡ Passes tt → (m ≡ n) × (next ≡ Passes tt)
 as_many m n f next h = by (nat_eq m n) refl h
   where
     by : (b : Bool) → nat_eq m n ≡ b → (if b then next else Fails f) ≡ Passes tt → (m ≡ n) × (next ≡ Passes tt)
     by true e k = (eqb-true m n e, k)
     by false e k = absurd cc
 
-applied_literals : (declared : Declared) (scope : Scope) (f : Name) (o : Option Definition) (args : List Expression) →
+applied_literals : (declared : Declared) (scope : Scope) (f : Name) (o : Option Template) (args : List Expression) →
     check_application declared scope f o args ≡ Passes tt → HaveDeclaredLiterals declared args
 applied_literals declared scope f None args h = absurd cc
 applied_literals declared scope f (Some t) args h =
     let p = as_many (length t.params) (length args) (WrongCount f (length t.params) (length args)) (check_args declared scope t.params args) h in
     HaveDeclaredLiterals-typed declared scope t.params args p.0 p.1
 
-pub IsWellFormed-typed : (book : Definitions) (reports : List Name) (scope : Scope) (c : Contract) → IsTyped book reports scope c → IsWellFormed book.declared c
+pub IsWellFormed-typed : (book : Book) (reports : List Name) (scope : Scope) (c : Contract) → IsTyped book reports scope c → IsWellFormed book.declared c
 IsWellFormed-typed book reports scope Success h = tt
 IsWellFormed-typed book reports scope Failure h = tt
 IsWellFormed-typed book reports scope (Transmit b p c) h =
@@ -135,14 +136,14 @@ IsWellFormed-typed book reports scope (App f args) h = applied_literals book.dec
 
 -- ---- applications of templates
 
-fitting : (book : Definitions) (scope : Scope) (f : Name) (args : List Expression) (o : Option Definition) → template_in book.templates f ≡ o →
+fitting : (book : Book) (scope : Scope) (f : Name) (args : List Expression) (o : Option Template) → template_in book.templates f ≡ o →
     check_application book.declared scope f o args ≡ Passes tt → Takes book f (length args)
 fitting book scope f args None e h = absurd cc
 fitting book scope f args (Some t) e h =
     let p = as_many (length t.params) (length args) (WrongCount f (length t.params) (length args)) (check_args book.declared scope t.params args) h in
     (t, e, p.0)
 
-pub ApplicationsFit-typed : (book : Definitions) (reports : List Name) (scope : Scope) (c : Contract) → IsTyped book reports scope c → ApplicationsFit book c
+pub ApplicationsFit-typed : (book : Book) (reports : List Name) (scope : Scope) (c : Contract) → IsTyped book reports scope c → ApplicationsFit book c
 ApplicationsFit-typed book reports scope Success h = tt
 ApplicationsFit-typed book reports scope Failure h = tt
 ApplicationsFit-typed book reports scope (Transmit b p c) h =
@@ -161,5 +162,5 @@ ApplicationsFit-typed book reports scope (Seq c₁ c₂) h =
     (ApplicationsFit-typed book reports scope c₁ p.1, ApplicationsFit-typed book reports scope c₂ p.2)
 ApplicationsFit-typed book reports scope (App f args) h = fitting book scope f args (template_in book.templates f) refl h
 
-pub BodiesFit-typed : (book : Definitions) (reports : List Name) → IsTypedBook book reports → BodiesFit book
+pub BodiesFit-typed : (book : Book) (reports : List Name) → IsTypedBook book reports → BodiesFit book
 BodiesFit-typed book reports typed f t i = ApplicationsFit-typed book reports (scope_of t.params) t.body (typed f t i).1

@@ -3,7 +3,8 @@ use Rattle.std.proofs.Common.{◌≡◌, ℕ, zero, suc, ◌+◌, ◌≤◌, ari
 use Rattle.poets_value.specs.declared.value.Name.{Name}
 use Rattle.poets_expr.specs.Size.{nodes_of_all}
 use Rattle.poets_syntax.specs.Contract.{Contract}
-use Rattle.poets_syntax.specs.Book.{Definitions, Definition, template_in}
+use Rattle.poets_syntax.specs.Plain.{Book, Template}
+use Rattle.poets_syntax.specs.Book.{template_in}
 use Rattle.poets_syntax.specs.Marks.{Marks, AreRight, nullable}
 use Rattle.poets_syntax.specs.Applied.{CountsFit, BodiesCountsFit}
 use Rattle.poets_syntax.specs.Exposed.{EachExposed, UnfoldsWithin}
@@ -15,7 +16,7 @@ use Rattle.poets_syntax.proofs.Replacing.{truth}
 use Rattle.poets_syntax.proofs.Exposures.{EachExposed-body}
 use Rattle.poets_syntax.proofs.Ahead.{less, names_of, length-names_of, Comes, fewer_to_come, all_come, body_comes}
 
-found : (o : Option Definition) → (o ≡ None) ⊎ ((t : Definition) × o ≡ Some t)
+found : (o : Option Template) → (o ≡ None) ⊎ ((t : Template) × o ≡ Some t)
 found None = inl refl
 found (Some t) = inr (t, refl)
 
@@ -34,7 +35,7 @@ wide_by-alike marks w w' (Contract.Seq a b) h =
     ]
 wide_by-alike marks w w' (Contract.App f args) h = ap (λ m. 1 + nodes_of_all args + m) h
 
-module _ (book : Definitions) (marks : Marks) (right : AreRight book marks) (guarded : IsGuarded book) (bodies : BodiesCountsFit book) where
+module _ (book : Book) (marks : Marks) (right : AreRight book marks) (guarded : IsGuarded book) (bodies : BodiesCountsFit book) where
   -- the width of a template's body, with so many unfoldings in a row
   abbrev body_wide : ℕ → Name → ℕ
   body_wide d f = body_in (template_in book.templates f) (wide_at d book marks)
@@ -65,7 +66,7 @@ module _ (book : Definitions) (marks : Marks) (right : AreRight book marks) (gua
         | inr t ↦ (let m = fewer_to_come book guarded coming f t.0 t.1 k.0 in absurd (omega (arith, m, l)))
       ]) c h
   deep (suc d) coming c l h =
-      EachExposed-weaker (Comes book guarded coming) (λ f args. (t : Definition) → template_in book.templates f ≡ Some t →
+      EachExposed-weaker (Comes book guarded coming) (λ f args. (t : Template) → template_in book.templates f ≡ Some t →
       (length t.params ≡ length args) × UnfoldsWithin d book marks (body_of book marks (Some t) args)) marks (λ f args k t i. (
         k.1 t i,
         (let m = fewer_to_come book guarded coming f t i k.0 in

@@ -3,14 +3,15 @@ use Rattle.std.specs.Prelude.{◌≡◌, ℕ, List, length, Some}
 use Rattle.poets_value.specs.declared.value.Name.{Name}
 use Rattle.poets_expr.specs.Expression.{Expression}
 use Rattle.poets_syntax.specs.Contract.{Contract, Success, Failure, Transmit, Plus, Par, Seq, App}
-use Rattle.poets_syntax.specs.Book.{Definitions, Definition, template_in}
+use Rattle.poets_syntax.specs.Plain.{Book, Template}
+use Rattle.poets_syntax.specs.Book.{template_in}
 
 -- there is a template of that name with so many parameters
-abbrev pub Takes : Definitions → Name → ℕ → Type 0
-Takes book f n = (t : Definition) × (template_in book.templates f ≡ Some t) × (length t.params ≡ n)
+abbrev pub Takes : Book → Name → ℕ → Type 0
+Takes book f n = (t : Template) × (template_in book.templates f ≡ Some t) × (length t.params ≡ n)
 
 -- each application in the contract is of a template with as many parameters
-abbrev pub ApplicationsFit : Definitions → Contract → Type 0
+abbrev pub ApplicationsFit : Book → Contract → Type 0
 ApplicationsFit book Success = Unit {0}
 ApplicationsFit book Failure = Unit {0}
 ApplicationsFit book (Transmit b p c) = ApplicationsFit book c
@@ -20,15 +21,15 @@ ApplicationsFit book (Seq c₁ c₂) = ApplicationsFit book c₁ × Applications
 ApplicationsFit book (App f args) = Takes book f (length args)
 
 -- so it is in the bodies of the templates
-abbrev pub BodiesFit : Definitions → Type 0
-BodiesFit book = (f : Name) (t : Definition) → template_in book.templates f ≡ Some t → ApplicationsFit book t.body
+abbrev pub BodiesFit : Book → Type 0
+BodiesFit book = (f : Name) (t : Template) → template_in book.templates f ≡ Some t → ApplicationsFit book t.body
 
 -- where there is a template of that name, it has as many parameters as there are arguments
-abbrev pub FitsTemplate : Definitions → Name → List Expression → Type 0
-FitsTemplate book f args = (t : Definition) → template_in book.templates f ≡ Some t → length t.params ≡ length args
+abbrev pub FitsTemplate : Book → Name → List Expression → Type 0
+FitsTemplate book f args = (t : Template) → template_in book.templates f ≡ Some t → length t.params ≡ length args
 
 -- where a template is applied, it is to as many arguments as it has parameters
-abbrev pub CountsFit : Definitions → Contract → Type 0
+abbrev pub CountsFit : Book → Contract → Type 0
 CountsFit book Success = Unit {0}
 CountsFit book Failure = Unit {0}
 CountsFit book (Transmit b p c) = CountsFit book c
@@ -38,5 +39,5 @@ CountsFit book (Seq c₁ c₂) = CountsFit book c₁ × CountsFit book c₂
 CountsFit book (App f args) = FitsTemplate book f args
 
 -- so it is in the bodies of the templates
-abbrev pub BodiesCountsFit : Definitions → Type 0
-BodiesCountsFit book = (f : Name) (t : Definition) → template_in book.templates f ≡ Some t → CountsFit book t.body
+abbrev pub BodiesCountsFit : Book → Type 0
+BodiesCountsFit book = (f : Name) (t : Template) → template_in book.templates f ≡ Some t → CountsFit book t.body

@@ -9,29 +9,19 @@ use Rattle.poets_syntax.specs.declared.term.Binders.{Binders}
 use Rattle.poets_syntax.specs.declared.term.Param.{Param}
 use Rattle.poets_syntax.specs.declared.term.Template.{Template}
 use Rattle.poets_syntax.specs.declared.term.Book.{Book}
-use Rattle.poets_syntax.specs.Contract.{Contract, contract_of}
+use Rattle.poets_syntax.specs.Contract.{contract_of}
+use Rattle.poets_syntax.specs.Plain as plain
 
--- a template, with its body as a tree
-pub record Definition : Type 0 where
-  pub name : Name
-  pub params : List Param
-  pub body : Contract
+-- a `Template` as plain data
+abbrev pub template_of : Template → plain.Template
+template_of t = record { name = t.name; params = t.params.items; body = contract_of t.body }
 
--- what is declared, and the templates
-pub record Definitions : Type 0 where
-  pub declared : Declared
-  pub templates : List Definition
-
--- the template of a `Template`
-abbrev pub definition_of : Template → Definition
-definition_of t = record { name = t.name; params = t.params.items; body = contract_of t.body }
-
--- the definitions of a `Book`
-abbrev pub definitions_of : Book → Definitions
-definitions_of b = record { declared = declared_of b.decls.names; templates = map definition_of b.templates.items }
+-- a `Book` as plain data
+abbrev pub book_of : Book → plain.Book
+book_of b = record { declared = declared_of b.decls.names; templates = map template_of b.templates.items }
 
 -- the first template of that name
-abbrev pub template_in : List Definition → Name → Option Definition
+abbrev pub template_in : List plain.Template → Name → Option plain.Template
 template_in [] f = None
 template_in (t ∷ ts) f = if same_name t.name f then Some t else template_in ts f
 

@@ -9,7 +9,7 @@ use Rattle.poets_expr.specs.Expression.{Expression, AmountOf, KindOf}
 use Rattle.poets_expr.specs.Env.{Declared, same_name}
 use Rattle.poets_syntax.specs.declared.term.Binders.{Binders}
 use Rattle.poets_syntax.specs.Contract.{Contract, Success, Transmit, Plus, Par, Seq, App}
-use Rattle.poets_syntax.specs.Book.{Definitions, Definition}
+use Rattle.poets_syntax.specs.Plain.{Book, Template}
 use Rattle.poets_syntax.specs.Marks.{Marks}
 
 abbrev pub name : ℕ → Name
@@ -93,7 +93,7 @@ paid buyer seller day =
 -- template sale(s: Agent, b: Agent, n: Int) =
 --   transmit(x, y, r, t | x = s and y = b and r = res(n, Oil)).
 --   transmit(u, v, p, w | u = b and v = s and kind(p) = USD and w <= t + 30). Success;;
-abbrev pub sale_template : Definition
+abbrev pub sale_template : Template
 sale_template = record {
   name = sale;
   params = record { name = name 20; ty = T.Agent } ∷ record { name = name 21; ty = T.Agent } ∷ record { name = name 22; ty = T.Int } ∷ [];
@@ -104,7 +104,7 @@ sale_template = record {
 }
 
 -- template again(n: Int) = Success + transmit(a, b, r, t | amount(r) = n). again(n / 0);;
-abbrev pub again_template : Definition
+abbrev pub again_template : Template
 again_template = record {
   name = again;
   params = record { name = name 20; ty = T.Int } ∷ [];
@@ -112,7 +112,7 @@ again_template = record {
       Plus Success (of_amount (named 20) (App again (Expression.Binary O.Div (named 20) (number 0) ∷ [])));
 }
 
-abbrev pub book : Definitions
+abbrev pub book : Book
 book = record { declared = traders; templates = sale_template ∷ again_template ∷ [] }
 
 -- `again` is nullable, and both are hopeful

@@ -3,7 +3,8 @@ use Rattle.std.specs.Prelude.{◌≡◌, ℕ, zero, suc, true, List, length, Som
 use Rattle.poets_value.specs.declared.value.Name.{Name}
 use Rattle.poets_expr.specs.Expression.{Expression}
 use Rattle.poets_syntax.specs.Contract.{Contract, Success, Failure, Transmit, Plus, Par, Seq, App}
-use Rattle.poets_syntax.specs.Book.{Definitions, Definition, template_in}
+use Rattle.poets_syntax.specs.Plain.{Book, Template}
+use Rattle.poets_syntax.specs.Book.{template_in}
 use Rattle.poets_syntax.specs.Marks.{Marks, nullable}
 use Rattle.poets_syntax.specs.Residual.{body_of}
 
@@ -18,8 +19,8 @@ EachExposed Is marks (Seq c₁ c₂) = EachExposed Is marks c₁ × (nullable ma
 EachExposed Is marks (App f args) = Is f args
 
 -- so many unfoldings in a row are enough: the exposed applications of templates fit them, and after so many there is none
-abbrev pub UnfoldsWithin : ℕ → Definitions → Marks → Contract → Type 0
+abbrev pub UnfoldsWithin : ℕ → Book → Marks → Contract → Type 0
 UnfoldsWithin zero book marks c = EachExposed (λ f args. template_in book.templates f ≡ None) marks c
 UnfoldsWithin (suc d) book marks c =
-    EachExposed (λ f args. (t : Definition) → template_in book.templates f ≡ Some t →
+    EachExposed (λ f args. (t : Template) → template_in book.templates f ≡ Some t →
     (length t.params ≡ length args) × UnfoldsWithin d book marks (body_of book marks (Some t) args)) marks c

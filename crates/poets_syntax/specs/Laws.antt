@@ -7,7 +7,7 @@ use Rattle.poets_expr.specs.Subst.{Givens}
 use Rattle.poets_expr.specs.Fold.{KeepsDeclared}
 use Rattle.poets_expr.specs.Whole.{AreWholeGivens}
 use Rattle.poets_syntax.specs.Contract.{Contract}
-use Rattle.poets_syntax.specs.Book.{Definitions}
+use Rattle.poets_syntax.specs.Plain.{Book}
 use Rattle.poets_syntax.specs.Perf.{Perf}
 use Rattle.poets_syntax.specs.May.{May}
 use Rattle.poets_syntax.specs.Shape.{SameShape}
@@ -21,38 +21,38 @@ use Rattle.poets_syntax.specs.WellFormed.{IsWellFormed}
 
 -- with no granted step, to be performed perhaps is to be performed
 abbrev pub NothingGranted : Type 0
-NothingGranted = (book : Definitions) (env : Env) (c : Contract) (s : List Event) → May book env c s 0 ↔ Perf book env c s
+NothingGranted = (book : Book) (env : Env) (c : Contract) (s : List Event) → May book env c s 0 ↔ Perf book env c s
 
 -- the rest of a trace may be granted
 abbrev pub RestGranted : Type 0
-RestGranted = (book : Definitions) (env : Env) (c : Contract) (s rest : List Event) →
+RestGranted = (book : Book) (env : Env) (c : Contract) (s rest : List Event) →
     Perf book env c (s ++ rest) → May book env c s (length rest)
 
 -- a whole trace may be granted
 abbrev pub AllGranted : Type 0
-AllGranted = (book : Definitions) (env : Env) (c : Contract) (s : List Event) (n : ℕ) →
+AllGranted = (book : Book) (env : Env) (c : Contract) (s : List Event) (n : ℕ) →
     May book env c s n → May book env c [] (length s + n)
 
 -- what granted steps alone perform depends on no environment
 abbrev pub GrantedAnywhere : Type 0
-GrantedAnywhere = (book : Definitions) (env env' : Env) (c : Contract) (n : ℕ) → May book env c [] n → May book env' c [] n
+GrantedAnywhere = (book : Book) (env env' : Env) (c : Contract) (n : ℕ) → May book env c [] n → May book env' c [] n
 
 -- what granted steps alone perform depends on the shape of the contract alone
 abbrev pub GrantedByShape : Type 0
-GrantedByShape = (book : Definitions) (env env' : Env) (c c' : Contract) (n : ℕ) →
+GrantedByShape = (book : Book) (env env' : Env) (c c' : Contract) (n : ℕ) →
     SameShape c c' → May book env c [] n ↔ May book env' c' [] n
 
 -- and so do nullability and hope
 abbrev pub NullableByShape : Type 0
-NullableByShape = (book : Definitions) (c c' : Contract) → SameShape c c' → Nullable book c ↔ Nullable book c'
+NullableByShape = (book : Book) (c c' : Contract) → SameShape c c' → Nullable book c ↔ Nullable book c'
 
 -- so does whether some granted steps perform a contract
 abbrev pub HopefulByShape : Type 0
-HopefulByShape = (book : Definitions) (c c' : Contract) → SameShape c c' → Hopeful book c ↔ Hopeful book c'
+HopefulByShape = (book : Book) (c c' : Contract) → SameShape c c' → Hopeful book c ↔ Hopeful book c'
 
 -- right marks tell whether the empty trace performs a contract
 abbrev pub NullableByMarks : Type 0
-NullableByMarks = (book : Definitions) (marks : Marks) (c : Contract) →
+NullableByMarks = (book : Book) (marks : Marks) (c : Contract) →
     AreRight book marks → ApplicationsFit book c → (nullable marks c ≡ true) ↔ Nullable book c
 
 -- a well-formed contract binds no declared name
@@ -61,13 +61,13 @@ WellFormedBindsUndeclared = (declared : Declared) (c : Contract) → IsWellForme
 
 -- a contract with its names replaced may be performed as the contract may be where the names have these values
 abbrev pub ReplacedAlike : Type 0
-ReplacedAlike = (book : Definitions) (given : Givens) (env : Env) (c : Contract) (s : List Event) (n : ℕ) →
+ReplacedAlike = (book : Book) (given : Givens) (env : Env) (c : Contract) (s : List Event) (n : ℕ) →
     AreDeclared book.declared given → KeepsDeclared book.declared env → BindersAreUndeclared book.declared c →
     May book env (replace given c) s n ↔ May book (env_of given ++ env) c s n
 
 -- and it is performed likewise
 abbrev pub ReplacedPerformed : Type 0
-ReplacedPerformed = (book : Definitions) (given : Givens) (env : Env) (c : Contract) (s : List Event) →
+ReplacedPerformed = (book : Book) (given : Givens) (env : Env) (c : Contract) (s : List Event) →
     AreDeclared book.declared given → KeepsDeclared book.declared env → BindersAreUndeclared book.declared c →
     Perf book env (replace given c) s ↔ Perf book (env_of given ++ env) c s
 
@@ -77,5 +77,5 @@ ReplacedIsWhole = (given : Givens) (c : Contract) → AreWholeGivens given → I
 
 -- a typed contract binds no declared name, and the literals in arguments of its applications are of declared kinds
 abbrev pub TypedIsWellFormed : Type 0
-TypedIsWellFormed = (book : Definitions) (reports : List Name) (scope : Scope) (c : Contract) →
+TypedIsWellFormed = (book : Book) (reports : List Name) (scope : Scope) (c : Contract) →
     IsTyped book reports scope c → IsWellFormed book.declared c

@@ -1,4 +1,5 @@
 pub mod Contract
+pub mod Plain
 pub mod Book
 pub mod Between
 pub mod Perf
@@ -16,7 +17,7 @@ pub mod Residual
 pub mod Exposed
 pub mod Width
 pub mod Arguments
-pub mod Plain
+pub mod NoTemplates
 pub mod TypeOf
 pub mod OfType
 pub mod Typed

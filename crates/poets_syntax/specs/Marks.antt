@@ -2,7 +2,8 @@
 use Rattle.std.specs.Prelude.{◌≡◌, ℕ, Bool, true, false, ◌&&◌, ◌||◌, [], Some, IsTrue, ◌↔◌}
 use Rattle.poets_value.specs.declared.value.Name.{Name}
 use Rattle.poets_syntax.specs.Contract.{Contract, Success, Failure, Transmit, Plus, Par, Seq, App}
-use Rattle.poets_syntax.specs.Book.{Definitions, Definition, template_in}
+use Rattle.poets_syntax.specs.Plain.{Book, Template}
+use Rattle.poets_syntax.specs.Book.{template_in}
 use Rattle.poets_syntax.specs.Perf.{Perf}
 use Rattle.poets_syntax.specs.May.{May}
 
@@ -12,19 +13,19 @@ pub record Marks : Type 0 where
   pub hopeful : Name → Bool
 
 -- the empty trace performs it
-abbrev pub Nullable : Definitions → Contract → Type 0
+abbrev pub Nullable : Book → Contract → Type 0
 Nullable book c = Perf book [] c []
 
 -- some number of granted steps performs it
-abbrev pub Hopeful : Definitions → Contract → Type 0
+abbrev pub Hopeful : Book → Contract → Type 0
 Hopeful book c = (n : ℕ) × May book [] c [] n
 
 -- there is a template of that name, and its body is so
-abbrev pub BodySatisfies : Definitions → (Contract → Type 0) → Name → Type 0
-BodySatisfies book Is f = (t : Definition) × (template_in book.templates f ≡ Some t) × Is t.body
+abbrev pub BodySatisfies : Book → (Contract → Type 0) → Name → Type 0
+BodySatisfies book Is f = (t : Template) × (template_in book.templates f ≡ Some t) × Is t.body
 
 -- each mark is right: a template has it exactly where its body is so
-pub record AreRight (book : Definitions) (marks : Marks) : Type 0 where
+pub record AreRight (book : Book) (marks : Marks) : Type 0 where
   pub nullable : (f : Name) → IsTrue (marks.nullable f) ↔ BodySatisfies book (Nullable book) f
   pub hopeful : (f : Name) → IsTrue (marks.hopeful f) ↔ BodySatisfies book (Hopeful book) f
 

@@ -7,12 +7,13 @@ use Rattle.poets_expr.specs.Expression.{Expression}
 use Rattle.poets_expr.specs.Val.{val}
 use Rattle.poets_syntax.specs.declared.term.Binders.{Binders}
 use Rattle.poets_syntax.specs.Contract.{Contract, Success, Transmit, Plus, Par, Seq, App}
-use Rattle.poets_syntax.specs.Book.{Definitions, Definition, template_in, parameter_env, taken, granted}
+use Rattle.poets_syntax.specs.Plain.{Book, Template}
+use Rattle.poets_syntax.specs.Book.{template_in, parameter_env, taken, granted}
 use Rattle.poets_syntax.specs.Between.{Between}
 use Rattle.poets_syntax.specs.Perf.{Holds}
 
 -- under the environment the contract may be performed by the trace, and then by so many granted steps
-pub data May (book : Definitions) : Env → Contract → List Event → ℕ → Type 0 where
+pub data May (book : Book) : Env → Contract → List Event → ℕ → Type 0 where
   Done : {env : Env} → May book env Success [] 0
   Taken :
       {env : Env} {b : Binders} {p : Expression} {c : Contract} {e : Event} {s : List Event} {n : ℕ} →
@@ -32,6 +33,6 @@ pub data May (book : Definitions) : Env → Contract → List Event → ℕ → 
       {env : Env} {c₁ c₂ : Contract} {s : List Event} {n₁ n₂ n : ℕ} →
       n ≡ n₁ + n₂ → May book env c₁ s n₁ → May book env c₂ [] n₂ → May book env (Seq c₁ c₂) s n
   Body :
-      {env : Env} {f : Name} {args : List Expression} {t : Definition} {s : List Event} {n : ℕ} →
+      {env : Env} {f : Name} {args : List Expression} {t : Template} {s : List Event} {n : ℕ} →
       template_in book.templates f ≡ Some t → length t.params ≡ length args →
       May book (parameter_env t.params (map (val book.declared env) args)) t.body s n → May book env (App f args) s n

@@ -8,7 +8,8 @@ use Rattle.poets_syntax.specs.declared.term.Binders.{Binders}
 use Rattle.poets_syntax.specs.declared.term.Param.{Param}
 use Rattle.poets_syntax.specs.Contract.{Contract, Success, Failure, Transmit, Plus, Par, Seq, App}
 use Rattle.poets_syntax.specs.Same.{same_contract}
-use Rattle.poets_syntax.specs.Book.{Definitions, Definition, template_in}
+use Rattle.poets_syntax.specs.Plain.{Book, Template}
+use Rattle.poets_syntax.specs.Book.{template_in}
 use Rattle.poets_syntax.specs.Marks.{Marks}
 
 -- the alternatives of a choice, from the left; `Failure` has none, and every other form is its own one
@@ -62,19 +63,19 @@ folded declared (p ∷ params) (a ∷ args) = fold_closed declared a p.ty ∷ fo
 folded declared params args = args
 
 -- the parameters of the template of that name
-abbrev pub params_in : Definitions → Name → List Param
+abbrev pub params_in : Book → Name → List Param
 params_in book f = params_of (template_in book.templates f)
   where
-    params_of : Option Definition → List Param
+    params_of : Option Template → List Param
     params_of None = []
     params_of (Some t) = t.params
 
 -- an application, with its arguments folded; `Failure` where the template is not hopeful
-abbrev pub app : Definitions → Marks → Name → List Expression → Contract
+abbrev pub app : Book → Marks → Name → List Expression → Contract
 app book marks f args = if marks.hopeful f then App f (folded book.declared (params_in book f) args) else Failure
 
 -- the contract rebuilt from its parts upwards, continuations included; predicates stay
-abbrev pub normal : Definitions → Marks → Contract → Contract
+abbrev pub normal : Book → Marks → Contract → Contract
 normal book marks Success = Success
 normal book marks Failure = Failure
 normal book marks (Transmit b p c) = send b p (normal book marks c)

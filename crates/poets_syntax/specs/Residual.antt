@@ -13,7 +13,8 @@ use Rattle.poets_syntax.specs.declared.term.Binders.{Binders}
 use Rattle.poets_syntax.specs.declared.term.Param.{Param}
 use Rattle.poets_syntax.specs.Contract.{Contract}
 use Rattle.poets_syntax.specs.Contract as C
-use Rattle.poets_syntax.specs.Book.{Definitions, Definition, template_in, taken}
+use Rattle.poets_syntax.specs.Plain.{Book, Template}
+use Rattle.poets_syntax.specs.Book.{template_in, taken}
 use Rattle.poets_syntax.specs.Replace.{replace}
 use Rattle.poets_syntax.specs.Perf.{Holds}
 use Rattle.poets_syntax.specs.Marks.{Marks, Nullable, nullable}
@@ -39,7 +40,7 @@ is_true (Some (V.Bool b)) = b
 is_true _ = false
 
 -- the residual by an event, where `unfold_at` gives that of an application
-abbrev pub after_by : (Name → List Expression → Contract) → Definitions → Marks → Event → Contract → Contract
+abbrev pub after_by : (Name → List Expression → Contract) → Book → Marks → Event → Contract → Contract
 after_by unfold_at book marks e C.Success = C.Failure
 after_by unfold_at book marks e C.Failure = C.Failure
 after_by unfold_at book marks e (C.Transmit b p c) =
@@ -53,26 +54,26 @@ after_by unfold_at book marks e (C.Seq a b) =
 after_by unfold_at book marks e (C.App f args) = unfold_at f args
 
 -- an application unfolded: the body with its parameters replaced, in normal form
-abbrev pub body_of : Definitions → Marks → Option Definition → List Expression → Contract
+abbrev pub body_of : Book → Marks → Option Template → List Expression → Contract
 body_of book marks None args = C.Failure
 body_of book marks (Some t) args = normal book marks (replace (argument_givens book.declared t.params args) t.body)
 
 -- the residual by an event, with at most so many unfoldings in a row
-abbrev pub after_at : ℕ → Definitions → Marks → Event → Contract → Contract
+abbrev pub after_at : ℕ → Book → Marks → Event → Contract → Contract
 after_at zero book marks e c = after_by (λ _ _. C.Failure) book marks e c
 after_at (suc d) book marks e c =
     after_by (λ f args. after_at d book marks e (body_of book marks (template_in book.templates f) args)) book marks e c
 
 -- the residual by an event: in a guarded book no more unfoldings than templates stand in a row
-abbrev pub after : Definitions → Marks → Event → Contract → Contract
+abbrev pub after : Book → Marks → Event → Contract → Contract
 after book marks e c = after_at (length book.templates) book marks e c
 
 -- the residual by a trace: the normal form of the original, taken through the events one by one
-abbrev pub residual_after : Definitions → Marks → Contract → List Event → Contract
+abbrev pub residual_after : Book → Marks → Contract → List Event → Contract
 residual_after book marks o s = fold (λ c e. after book marks e c) (normal book marks o) s
 
 -- the second contract is the residual of the first by the event, rule by rule
-pub data After (book : Definitions) (marks : Marks) (e : Event) : Contract → Contract → Type 0 where
+pub data After (book : Book) (marks : Marks) (e : Event) : Contract → Contract → Type 0 where
   Success : After book marks e Contract.Success Contract.Failure
   Failure : After book marks e Contract.Failure Contract.Failure
   Taken :
@@ -94,7 +95,7 @@ pub data After (book : Definitions) (marks : Marks) (e : Event) : Contract → C
       {c₁ c₂ r₁ : Contract} → (Nullable book c₁ → ⊥) → After book marks e c₁ r₁ →
       After book marks e (Contract.Seq c₁ c₂) (seq r₁ c₂)
   Body :
-      {f : Name} {args : List Expression} {t : Definition} {r : Contract} →
+      {f : Name} {args : List Expression} {t : Template} {r : Contract} →
       template_in book.templates f ≡ Some t → length t.params ≡ length args →
       After book marks e (normal book marks (replace (argument_givens book.declared t.params args) t.body)) r →
       After book marks e (Contract.App f args) r

@@ -5,11 +5,13 @@ use Rattle.poets_value.specs.declared.value.Name.{Name}
 use Rattle.poets_expr.specs.Env.{same_name}
 use Rattle.poets_syntax.specs.declared.term.Book.{Book}
 use Rattle.poets_syntax.specs.declared.studied.Mark.{Mark}
-use Rattle.poets_syntax.specs.Book.{Definitions, Definition, definitions_of}
+use Rattle.poets_syntax.specs.Plain.{Template}
+use Rattle.poets_syntax.specs.Book.{book_of}
 use Rattle.poets_syntax.specs.Checked.{IsChecked}
 use Rattle.poets_syntax.specs.Guarded.{IsGuarded}
 use Rattle.poets_syntax.specs.Marks.{Marks, Nullable, Hopeful}
 use Rattle.poets_syntax.specs.Width.{width}
+use Rattle.poets_syntax.specs.Plain as plain
 
 -- a book, and the marks of its templates in their order
 pub record StudiedBook : Type 0 where
@@ -17,12 +19,12 @@ pub record StudiedBook : Type 0 where
   pub marks : List Mark
 
 -- the mark of the first template of that name has the property
-abbrev pub has_mark : (Mark → Bool) → List Definition → List Mark → Name → Bool
+abbrev pub has_mark : (Mark → Bool) → List Template → List Mark → Name → Bool
 has_mark is (t ∷ templates) (m ∷ marks) f = if same_name t.name f then is m else has_mark is templates marks f
 has_mark is _ _ f = false
 
 -- which templates the list of marks calls nullable and which hopeful
-abbrev pub marks_in : List Definition → List Mark → Marks
+abbrev pub marks_in : List Template → List Mark → Marks
 marks_in templates marks = record {
   nullable = has_mark (λ m. m.nullable) templates marks;
   hopeful = has_mark (λ m. m.hopeful) templates marks;
@@ -30,16 +32,16 @@ marks_in templates marks = record {
 
 -- what is known of the templates of a studied book
 abbrev pub marks_of : StudiedBook → Marks
-marks_of s = marks_in (definitions_of s.book).templates s.marks
+marks_of s = marks_in (book_of s.book).templates s.marks
 
 -- what a mark says of a template's body is so; its width is cut at 1,001
-pub record IsRightMark (book : Definitions) (marks : Marks) (t : Definition) (m : Mark) : Type 0 where
+pub record IsRightMark (book : plain.Book) (marks : Marks) (t : Template) (m : Mark) : Type 0 where
   pub nullable : IsTrue m.nullable ↔ Nullable book t.body
   pub hopeful : IsTrue m.hopeful ↔ Hopeful book t.body
   pub wide : m.wide ≡ min (width book marks t.body) 1001
 
 -- the book is checked and guarded, and each template's mark is right
-pub record IsStudiedBook (book : Definitions) (marks : List Mark) : Type 0 where
+pub record IsStudiedBook (book : plain.Book) (marks : List Mark) : Type 0 where
   pub checked : IsChecked book
   pub guarded : IsGuarded book
   pub right : AllZip (IsRightMark book (marks_in book.templates marks)) book.templates marks

@@ -3,7 +3,8 @@ use Rattle.std.specs.Prelude.{◌≡◌, List, length}
 use Rattle.poets_value.specs.declared.value.Name.{Name}
 use Rattle.poets_syntax.specs.declared.studied.Mark.{Mark}
 use Rattle.poets_syntax.specs.Contract.{Contract}
-use Rattle.poets_syntax.specs.Book.{Definitions, template_in}
+use Rattle.poets_syntax.specs.Plain.{Book}
+use Rattle.poets_syntax.specs.Book.{template_in}
 use Rattle.poets_syntax.specs.Applied.{ApplicationsFit, BodiesFit, CountsFit, BodiesCountsFit}
 use Rattle.poets_syntax.specs.Marks.{Marks, AreRight}
 use Rattle.poets_syntax.specs.TypeOf.{Scope}
@@ -15,33 +16,33 @@ use Rattle.poets_syntax.specs.Studied.{marks_in, IsStudiedBook}
 
 -- the applications in a typed contract, and in the bodies of a typed book, have as many arguments as their templates have parameters
 abbrev pub TypedApplicationsFit : Type 0
-TypedApplicationsFit = (book : Definitions) (reports : List Name) (scope : Scope) (c : Contract) →
+TypedApplicationsFit = (book : Book) (reports : List Name) (scope : Scope) (c : Contract) →
     IsTyped book reports scope c → ApplicationsFit book c
 
 -- so have those in the bodies of the templates of a typed book
 abbrev pub TypedBodiesFit : Type 0
-TypedBodiesFit = (book : Definitions) (reports : List Name) → IsTypedBook book reports → BodiesFit book
+TypedBodiesFit = (book : Book) (reports : List Name) → IsTypedBook book reports → BodiesFit book
 
 -- so the numbers of arguments in a typed contract fit
 abbrev pub TypedCountsFit : Type 0
-TypedCountsFit = (book : Definitions) (reports : List Name) (scope : Scope) (c : Contract) →
+TypedCountsFit = (book : Book) (reports : List Name) (scope : Scope) (c : Contract) →
     IsTyped book reports scope c → CountsFit book c
 
 -- the marks of a studied book are right
 abbrev pub StudiedMarksAreRight : Type 0
-StudiedMarksAreRight = (book : Definitions) (marks : List Mark) → IsStudiedBook book marks → AreRight book (marks_in book.templates marks)
+StudiedMarksAreRight = (book : Book) (marks : List Mark) → IsStudiedBook book marks → AreRight book (marks_in book.templates marks)
 
 -- where each application is known, the numbers of arguments fit
 abbrev pub CountsFitWhereKnown : Type 0
-CountsFitWhereKnown = (book : Definitions) (c : Contract) → ApplicationsFit book c → CountsFit book c
+CountsFitWhereKnown = (book : Book) (c : Contract) → ApplicationsFit book c → CountsFit book c
 
 -- in a guarded book an application counts with the width of its template's body
 abbrev pub WidthUnfolds : Type 0
-WidthUnfolds = (book : Definitions) (marks : Marks) (c : Contract) →
+WidthUnfolds = (book : Book) (marks : Marks) (c : Contract) →
     AreRight book marks → IsGuarded book → BodiesCountsFit book → CountsFit book c →
     width book marks c ≡ wide_by (λ f. body_in (template_in book.templates f) (width book marks)) marks c
 
 -- and as many unfoldings in a row as there are templates are enough
 abbrev pub EnoughDepth : Type 0
-EnoughDepth = (book : Definitions) (marks : Marks) (c : Contract) →
+EnoughDepth = (book : Book) (marks : Marks) (c : Contract) →
     AreRight book marks → IsGuarded book → BodiesCountsFit book → CountsFit book c → UnfoldsWithin (length book.templates) book marks c

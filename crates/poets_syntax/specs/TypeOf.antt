@@ -10,17 +10,12 @@ use Rattle.poets_expr.specs.declared.expr.Op.TheVariants as O
 use Rattle.poets_expr.specs.Expression.{UnaryOp, Minus, Not, AmountOf, KindOf, Expression, Literal, Undefined, Named, Unary, Make, Binary, If}
 use Rattle.poets_expr.specs.Env.{Declared, same_name}
 use Rattle.poets_expr.specs.Same.{ty_place}
-
-pub data Fault : Type 0 where
-  Twice : Name → Fault
-  Unknown : Name → Fault
-  WrongCount : (name : Name) → (wanted found : ℕ) → Fault
-  WrongType : (wanted found : Ty) → Fault
+use Rattle.poets_syntax.specs.Plain.{TypeCause, Twice, Unknown, WrongCount, WrongType}
 
 -- what passes a check, or the first fault
 pub data Verdict (A : Type 0) : Type 0 where
   Passes : A → Verdict A
-  Fails : Fault → Verdict A
+  Fails : TypeCause → Verdict A
 
 -- one check after the other
 infixl 10 ◌>>=◌

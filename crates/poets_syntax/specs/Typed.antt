@@ -9,15 +9,16 @@ use Rattle.poets_expr.specs.Env.{Declared, same_name}
 use Rattle.poets_syntax.specs.declared.term.Binders.{Binders}
 use Rattle.poets_syntax.specs.declared.term.Param.{Param}
 use Rattle.poets_syntax.specs.Contract.{Contract, Success, Failure, Transmit, Plus, Par, Seq, App}
-use Rattle.poets_syntax.specs.Book.{Definitions, Definition, template_in}
-use Rattle.poets_syntax.specs.TypeOf.{Twice, Unknown, WrongCount, Verdict, Passes, Fails, ◌>>=◌, Scope, must_be, type_of}
+use Rattle.poets_syntax.specs.Plain.{Book, Template, Twice, Unknown, WrongCount}
+use Rattle.poets_syntax.specs.Book.{template_in}
+use Rattle.poets_syntax.specs.TypeOf.{Verdict, Passes, Fails, ◌>>=◌, Scope, must_be, type_of}
 
 -- the name is one of these
 abbrev pub is_among : List Name → Name → Bool
 is_among names x = list_any (same_name x) names
 
 -- the name is that of an agent, a kind, a template or a report
-abbrev pub in_use : Definitions → List Name → Name → Bool
+abbrev pub in_use : Book → List Name → Name → Bool
 in_use book reports x = is_some (book.declared x) || is_some (template_in book.templates x) || is_among reports x
 
 -- the first name from the left that is in use, or stands earlier in the same list, is a fault
@@ -53,12 +54,12 @@ check_arguments declared scope x params args =
     if nat_eq (length params) (length args) then check_args declared scope params args
     else Fails (WrongCount x (length params) (length args))
 
-abbrev pub check_application : Declared → Scope → Name → Option Definition → List Expression → Verdict (Unit {0})
+abbrev pub check_application : Declared → Scope → Name → Option Template → List Expression → Verdict (Unit {0})
 check_application declared scope f None args = Fails (Unknown f)
 check_application declared scope f (Some t) args = check_arguments declared scope f t.params args
 
 -- the first fault of a contract in the scope
-abbrev pub check_contract : Definitions → (reports : List Name) → Scope → Contract → Verdict (Unit {0})
+abbrev pub check_contract : Book → (reports : List Name) → Scope → Contract → Verdict (Unit {0})
 check_contract book reports scope Success = Passes tt
 check_contract book reports scope Failure = Passes tt
 check_contract book reports scope (Transmit b p c) = do
@@ -77,12 +78,12 @@ check_contract book reports scope (Seq c₁ c₂) = do
 check_contract book reports scope (App f args) = check_application book.declared scope f (template_in book.templates f) args
 
 -- no check finds a fault
-abbrev pub IsTyped : Definitions → (reports : List Name) → Scope → Contract → Type 0
+abbrev pub IsTyped : Book → (reports : List Name) → Scope → Contract → Type 0
 IsTyped book reports scope c = check_contract book reports scope c ≡ Passes tt
 
 -- one template: its parameters are new, and its body is typed under them
-abbrev pub IsTypedTemplate : Definitions → (reports : List Name) → Definition → Type 0
+abbrev pub IsTypedTemplate : Book → (reports : List Name) → Template → Type 0
 IsTypedTemplate book reports t = (check_new (in_use book reports) [] (map (λ p. p.name) t.params) ≡ Passes tt) × IsTyped book reports (scope_of t.params) t.body
 
-abbrev pub IsTypedBook : Definitions → (reports : List Name) → Type 0
-IsTypedBook book reports = (f : Name) (t : Definition) → template_in book.templates f ≡ Some t → IsTypedTemplate book reports t
+abbrev pub IsTypedBook : Book → (reports : List Name) → Type 0
+IsTypedBook book reports = (f : Name) (t : Template) → template_in book.templates f ≡ Some t → IsTypedTemplate book reports t

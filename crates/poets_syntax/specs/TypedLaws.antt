@@ -8,7 +8,7 @@ use Rattle.poets_expr.specs.Val.{val}
 use Rattle.poets_expr.specs.Subst.{Givens, subst}
 use Rattle.poets_expr.specs.Fold.{fold_closed, HasDeclaredNames}
 use Rattle.poets_syntax.specs.Contract.{Contract}
-use Rattle.poets_syntax.specs.Book.{Definitions}
+use Rattle.poets_syntax.specs.Plain.{Book}
 use Rattle.poets_syntax.specs.Replace.{replace}
 use Rattle.poets_syntax.specs.TypeOf.{Scope, HasType}
 use Rattle.poets_syntax.specs.Typed.{IsTyped}
@@ -33,6 +33,6 @@ ReplacedHasType = (declared : Declared) (given : Givens) (scope : Scope) (e : Ex
 
 -- and a typed contract stays typed
 abbrev pub ReplacedIsTyped : Type 0
-ReplacedIsTyped = (book : Definitions) (reports : List Name) (given : Givens) (scope : Scope) (c : Contract) →
+ReplacedIsTyped = (book : Book) (reports : List Name) (given : Givens) (scope : Scope) (c : Contract) →
     AreOfTypes book.declared given → IsUndeclaredScope book.declared scope →
     IsTyped book reports (types_given given ++ scope) c → IsTyped book reports scope (replace given c)

@@ -7,7 +7,8 @@ use Rattle.poets_expr.specs.Expression.{Expression}
 use Rattle.poets_expr.specs.Env.{Declared}
 use Rattle.poets_expr.specs.Fold.{HasDeclaredLiterals}
 use Rattle.poets_syntax.specs.Contract.{Contract, Success, Failure, Transmit, Plus, Par, Seq, App}
-use Rattle.poets_syntax.specs.Book.{Definitions, Definition, template_in}
+use Rattle.poets_syntax.specs.Plain.{Book, Template}
+use Rattle.poets_syntax.specs.Book.{template_in}
 use Rattle.poets_syntax.specs.Replace.{AreUndeclared}
 
 -- the literals in the expressions are of declared kinds
@@ -32,5 +33,5 @@ pub record IsDeclaredEvent (declared : Declared) (e : Event) : Type 0 where
   pub kind : declared e.what.kind ≡ Some T.Kind
 
 -- the bodies of the templates are well-formed
-abbrev pub AreWellFormed : Definitions → Type 0
-AreWellFormed book = (f : Name) (t : Definition) → template_in book.templates f ≡ Some t → IsWellFormed book.declared t.body
+abbrev pub AreWellFormed : Book → Type 0
+AreWellFormed book = (f : Name) (t : Template) → template_in book.templates f ≡ Some t → IsWellFormed book.declared t.body

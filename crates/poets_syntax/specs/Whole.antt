@@ -2,7 +2,7 @@
 use Rattle.std.specs.Prelude.{All}
 use Rattle.poets_expr.specs.Whole.{IsWholeExpression}
 use Rattle.poets_syntax.specs.Contract.{Contract, Success, Failure, Transmit, Plus, Par, Seq, App}
-use Rattle.poets_syntax.specs.Book.{Definitions}
+use Rattle.poets_syntax.specs.Plain.{Book}
 
 -- the expressions in the contract are whole
 abbrev pub IsWholeContract : Contract → Type 0
@@ -15,5 +15,5 @@ IsWholeContract (Seq c₁ c₂) = IsWholeContract c₁ × IsWholeContract c₂
 IsWholeContract (App f args) = All IsWholeExpression args
 
 -- the bodies of the templates are whole
-abbrev pub AreWholeDefinitions : Definitions → Type 0
-AreWholeDefinitions book = All (λ t. IsWholeContract t.body) book.templates
+abbrev pub IsWholeBook : Book → Type 0
+IsWholeBook book = All (λ t. IsWholeContract t.body) book.templates

@@ -3,7 +3,8 @@ use Rattle.std.specs.Prelude.{ℕ, zero, suc, ◌+◌, Option, Some, None, lengt
 use Rattle.poets_value.specs.declared.value.Name.{Name}
 use Rattle.poets_expr.specs.Size.{nodes, nodes_of_all}
 use Rattle.poets_syntax.specs.Contract.{Contract, Success, Failure, Transmit, Plus, Par, Seq, App}
-use Rattle.poets_syntax.specs.Book.{Definitions, Definition, template_in}
+use Rattle.poets_syntax.specs.Plain.{Book, Template}
+use Rattle.poets_syntax.specs.Book.{template_in}
 use Rattle.poets_syntax.specs.Marks.{Marks, nullable}
 
 -- each node of the contract and of its expressions counts 1; binders count nothing
@@ -27,15 +28,15 @@ wide_by of_body marks (Seq a b) = 1 + wide_by of_body marks a + (if nullable mar
 wide_by of_body marks (App f args) = 1 + nodes_of_all args + of_body f
 
 -- the measure of a template's body, or 0 where there is no template
-abbrev pub body_in : Option Definition → (Contract → ℕ) → ℕ
+abbrev pub body_in : Option Template → (Contract → ℕ) → ℕ
 body_in None measure = 0
 body_in (Some t) measure = measure t.body
 
 -- the width with at most so many unfoldings in a row
-abbrev pub wide_at : ℕ → Definitions → Marks → Contract → ℕ
+abbrev pub wide_at : ℕ → Book → Marks → Contract → ℕ
 wide_at zero book marks c = wide_by (λ _. 0) marks c
 wide_at (suc d) book marks c = wide_by (λ f. body_in (template_in book.templates f) (wide_at d book marks)) marks c
 
 -- the width: in a guarded book no more unfoldings than templates stand in a row
-abbrev pub width : Definitions → Marks → Contract → ℕ
+abbrev pub width : Book → Marks → Contract → ℕ
 width book marks c = wide_at (length book.templates) book marks c

@@ -2,19 +2,20 @@
 ghost use Rattle.std.specs.Prelude.{◌≡◌, ◌↔◌, IsTrue, map};
 ghost use Rattle.poets_expr.specs.Expression.{expression_of};
 ghost use Rattle.poets_syntax.specs.Contract.{contract_of};
-ghost use Rattle.poets_syntax.specs.Same.{same_contract, same_args as same_args_lem, same_binders as same_binders_lem};
+ghost use Rattle.poets_syntax.specs.Same.{same_contract};
+ghost use Rattle.poets_syntax.specs.Same as spec;
 
 use crate::term::{Binders, Term};
 use poets_expr::Expr;
 
 fn same_binders(a: &Binders, b: &Binders) -> bool
-    ensures { result ≡ same_binders_lem a.now b.now }
+    ensures { result ≡ spec.same_binders a.now b.now }
 {
     a == b
 }
 
 fn same_args(a: &[Expr], b: &[Expr]) -> bool
-    ensures { result ≡ same_args_lem (map expression_of a.now) (map expression_of b.now) }
+    ensures { result ≡ spec.same_args (map expression_of a.now) (map expression_of b.now) }
 {
     let mut left = a;
     let mut right = b;

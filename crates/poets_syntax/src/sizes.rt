@@ -3,7 +3,7 @@ ghost use Rattle.std.specs.Prelude.{◌≡◌, ◌+◌, ◌-◌, ◌^◌, min, m
 ghost use Rattle.poets_expr.specs.Expression.{expression_of};
 ghost use Rattle.poets_expr.specs.Size.{nodes_of_all};
 ghost use Rattle.poets_syntax.specs.Contract.{contract_of};
-ghost use Rattle.poets_syntax.specs.Width.{size as size_lem};
+ghost use Rattle.poets_syntax.specs.Width as width;
 
 use crate::term::Term;
 use poets_expr::Expr;
@@ -27,7 +27,7 @@ fn nodes_of_args(args: &[Expr]) -> u64
 
 /// The number of nodes of the contract and of its expressions, cut at the greatest `u64`.
 pub fn size(term: &Term) -> u64
-    ensures { result ≡ min (size_lem (contract_of term.now)) (2 ^ 64 - 1) }
+    ensures { result ≡ min (width.size (contract_of term.now)) (2 ^ 64 - 1) }
 {
     match term {
         Term::Success | Term::Failure => 1,

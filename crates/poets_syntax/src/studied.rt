@@ -3,7 +3,7 @@ ghost use Rattle.std.specs.Prelude.{◌≡◌, min, false, map, option_map, IfOk
 ghost use Rattle.std.specs.List.{IsDistinct};
 ghost use Rattle.std.specs.Option.{option_map_or};
 ghost use Rattle.poets_expr.specs.Env.{same_name};
-ghost use Rattle.poets_syntax.specs.Book.{definition_of, definitions_of, template_in};
+ghost use Rattle.poets_syntax.specs.Book.{template_of, book_of, template_in};
 ghost use Rattle.poets_syntax.specs.Contract.{contract_of};
 ghost use Rattle.poets_syntax.specs.Studied.{IsStudiedBook, marks_of};
 ghost use Rattle.poets_syntax.specs.Width.{width};
@@ -45,12 +45,12 @@ impl Model for Studied {
     ghost coded = { Prim.hlevel (codes, b.the_row.coded) };
 
     ghost use Rattle.std.specs.Prelude.{◌≡◌, map};
-    ghost use Rattle.poets_syntax.specs.Book.{definitions_of};
+    ghost use Rattle.poets_syntax.specs.Book.{book_of};
     ghost use Rattle.poets_syntax.specs.Studied.{IsStudiedBook};
 
     ghost view = { λ s. record { book = s.book; marks = s.marks.items } };
 
-    ghost invariant = { λ s. IsStudiedBook (definitions_of s.book) s.marks.items
+    ghost invariant = { λ s. IsStudiedBook (book_of s.book) s.marks.items
         × (s.names.keys ≡ map (λ t. t.name) s.book.templates.items) };
 }
 
@@ -69,7 +69,7 @@ fn names_of(alloc: Global, templates: &[Template]) -> Result<IndexSet<Name>, Mem
 impl Studied {
     /// The book with its marks, in the templates' order: the book is checked and guarded, and the marks are right.
     pub fn of(alloc: Global, book: Book, marks: List<Mark>) -> Result<Studied, Memory>
-        requires { IsStudiedBook (definitions_of book) marks.items }
+        requires { IsStudiedBook (book_of book) marks.items }
         ensures book { IfOk result (λ s. s.book ≡ book) }
         ensures marks { IfOk result (λ s. s.marks ≡ marks.items) }
     {
@@ -80,7 +80,7 @@ impl Studied {
     /// The book.
     pub fn book(&self) -> &Book
         ensures book { result.now ≡ self.now.book }
-        ensures studied { IsStudiedBook (definitions_of self.now.book) self.now.marks }
+        ensures studied { IsStudiedBook (book_of self.now.book) self.now.marks }
     {
         &self.book
     }
@@ -88,19 +88,19 @@ impl Studied {
     /// The marks of the templates, in the templates' order.
     pub fn marks(&self) -> &[Mark]
         ensures marks { result.now ≡ self.now.marks }
-        ensures studied { IsStudiedBook (definitions_of self.now.book) self.now.marks }
+        ensures studied { IsStudiedBook (book_of self.now.book) self.now.marks }
     {
         self.marks.as_slice()
     }
 
     /// The template of that name, and its mark.
     pub fn template(&self, name: Name) -> Option<(&Template, &Mark)>
-        ensures template { option_map (λ p. definition_of p.0.now) result
-            ≡ template_in (definitions_of self.now.book).templates name }
+        ensures template { option_map (λ p. template_of p.0.now) result
+            ≡ template_in (book_of self.now.book).templates name }
         ensures nullable { option_map_or (λ p. p.1.now.nullable) result false ≡ (marks_of self.now).nullable name }
         ensures hopeful { option_map_or (λ p. p.1.now.hopeful) result false ≡ (marks_of self.now).hopeful name }
         ensures wide { IfSome result (λ p. p.1.now.wide
-            ≡ min (width (definitions_of self.now.book) (marks_of self.now) (contract_of p.0.now.body)) 1001) }
+            ≡ min (width (book_of self.now.book) (marks_of self.now) (contract_of p.0.now.body)) 1001) }
     {
         let place = self.names.get_index_of(&name)?;
         let templates = self.book.templates.as_slice();

@@ -1,9 +1,10 @@
 //! Contracts with names replaced by literals.
 ghost use Rattle.std.specs.Prelude.{◌≡◌, IfOk, map, reverse};
 ghost use Rattle.poets_expr.specs.Expression.{expression_of};
-ghost use Rattle.poets_expr.specs.Subst.{subst as subst_lem};
+ghost use Rattle.poets_expr.specs.Subst as spec;
 ghost use Rattle.poets_syntax.specs.Contract.{contract_of};
-ghost use Rattle.poets_syntax.specs.Replace.{binds as binds_lem, without, replace as replace_lem};
+ghost use Rattle.poets_syntax.specs.Replace.{without};
+ghost use Rattle.poets_syntax.specs.Replace as replace;
 
 use crate::build::{par, plus, seq, transmit};
 use crate::term::{Binders, Term};
@@ -13,7 +14,7 @@ use std::alloc::Global;
 
 // Whether a name is among the binders.
 fn binds(binders: &Binders, name: Name) -> bool
-    ensures { result ≡ binds_lem binders.now name }
+    ensures { result ≡ replace.binds binders.now name }
 {
     binders.day == name
         || binders.what == name
@@ -44,7 +45,7 @@ pub fn subst_args(
     args: &List<Expr>,
     pairs: &[(Name, Given)],
 ) -> Result<List<Expr>, Memory>
-    ensures { IfOk result (λ r. map expression_of r.items ≡ map (subst_lem (reverse pairs.now)) (map expression_of args.now.items)) }
+    ensures { IfOk result (λ r. map expression_of r.items ≡ map (spec.subst (reverse pairs.now)) (map expression_of args.now.items)) }
 {
     let mut replaced = List::new(alloc);
     for arg in args.as_slice() {
@@ -56,7 +57,7 @@ pub fn subst_args(
 /// The contract with its names replaced by literals, of two pairs of one name by the later.
 /// Below a transmit that binds a name, that name stays.
 pub fn subst(alloc: Global, term: &Term, pairs: &[(Name, Given)]) -> Result<Term, Memory>
-    ensures { IfOk result (λ r. contract_of r ≡ replace_lem (reverse pairs.now) (contract_of term.now)) }
+    ensures { IfOk result (λ r. contract_of r ≡ replace.replace (reverse pairs.now) (contract_of term.now)) }
 {
     match term {
         Term::Success => Ok(Term::Success),

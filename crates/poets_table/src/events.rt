@@ -1,8 +1,8 @@
 //! Lists of events in pieces, of which all but the last are shared.
-ghost use Rattle.std.specs.Prelude.{◌≡◌, ◌+◌, ◌*◌, ◌-◌, ◌<◌, ◌≤◌, ◌^◌, ◌↔◌, ◌++◌, ◌∷◌, [], length, IfOk, OnOk, OnErr, IfSome, IsNone, slice_get};
-ghost use Rattle.std.specs.Prelude.{map};
+ghost use Rattle.std.specs.Prelude.{◌≡◌, ◌+◌, ◌*◌, ◌-◌, ◌<◌, ◌≤◌, ◌^◌, ◌↔◌, ◌++◌, ◌∷◌, [], length, IfOk, OnOk, OnErr, IfSome, IsNone, slice_get, map};
 ghost use Rattle.std.specs.Arc.{arc_value};
-ghost use Rattle.poets_table.specs.Pieces.{joined, most_pieces, piece_at, piece_length as piece_length_lem, pieces_of, AreSealed};
+ghost use Rattle.poets_table.specs.Pieces.{joined, most_pieces, piece_at, pieces_of, AreSealed};
+ghost use Rattle.poets_table.specs.Pieces as spec;
 
 use poets_value::{Event, List, Memory, push};
 use std::alloc::Global;
@@ -72,7 +72,7 @@ impl Events {
     /// The piece at a place, if there is one. The pieces, joined in order, are the list.
     pub fn piece(&self, place: usize) -> Option<&[Event]>
         ensures found { IfSome result (λ piece. piece.now ≡ piece_at place self.now.items) }
-        ensures none { IsNone result ↔ (length self.now.items ≤ place * piece_length_lem) }
+        ensures none { IsNone result ↔ (length self.now.items ≤ place * spec.piece_length) }
     {
         if let Some(piece) = self.sealed.get(place) {
             return Some(piece.as_slice());
@@ -119,7 +119,7 @@ impl Events {
 // Seals a full piece, which leaves an empty one.
 fn seal(sealed: &mut Vec<Arc<List<Event>>>, last: &mut List<Event>) -> Result<(), Memory>
     requires sealed { AreSealed (pieces_of sealed.old.items) }
-    requires full { length last.old.items ≡ piece_length_lem }
+    requires full { length last.old.items ≡ spec.piece_length }
     ensures sealed { AreSealed (pieces_of sealed.new.items) }
     ensures ok { OnOk result (last.new.items ≡ []) }
     ensures err { OnErr result (last.new ≡ last.old) }

@@ -6,8 +6,8 @@ use Rattle.poets_io.specs.Causes.{Rose}
 use Rattle.poets_io.specs.Streams.{AppendsPart, GivesAll, LosesFront}
 use Rattle.poets_io.proofs.Transfers.{IfSome-loses_more}
 use Rattle.poets_lex.specs.Table.{Table}
-use Rattle.poets_call.specs.Calls.{HistoryEntry}
-use Rattle.poets_call.specs.Sentences.{Sentence}
+use Rattle.poets_call.specs.Plain.{Entry}
+use Rattle.poets_call.specs.Said.{Statement}
 use Rattle.poets_session.specs.Causes.{refusal_of, IsFirstFault}
 use Rattle.poets_session.specs.Sessions.{Text, IsSession, IsNoSession, Holds}
 use Rattle.poets_session.specs.declared.form.Form.{Form}
@@ -32,9 +32,9 @@ use Rattle.poets_words.specs.declared.mode.Task.TheVariants as T
 
 -- ---- what is written
 
-module _ (Is : ℕ → List HistoryEntry → List ℕ → Type 0) (sink sink' : Stream) where
+module _ (Is : ℕ → List Entry → List ℕ → Type 0) (sink sink' : Stream) where
   -- the line of an outcome was written, or a front of it up to a fault
-  pub IsWritten-outcome : (wanted status : ℕ) (h g : List HistoryEntry) (line : List ℕ) → h ≡ g → Is wanted g line →
+  pub IsWritten-outcome : (wanted status : ℕ) (h g : List Entry) (line : List ℕ) → h ≡ g → Is wanted g line →
       ((status ≡ wanted) × Appends sink.bytes sink'.bytes line × (sink'.faults ≡ sink.faults)) ⊎ ((status ≡ 5) × AppendsPart sink.bytes sink'.bytes line × HasFailed sink sink') →
       IsWritten Is sink sink' status h
   IsWritten-outcome wanted status h g line same a (inl w) =
@@ -43,26 +43,26 @@ module _ (Is : ℕ → List HistoryEntry → List ℕ → Type 0) (sink sink' : 
       subst (λ s. IsWritten Is sink sink' s h) (sym w.0) (subst (IsWritten Is sink sink' 5) (sym same) (IsWritten.Failed a w.1 w.2))
 
   -- so was a line that is none of a history
-  pub IsWritten-line : (wanted status : ℕ) (h : List HistoryEntry) (line : List ℕ) → h ≡ [] → Is wanted [] line →
+  pub IsWritten-line : (wanted status : ℕ) (h : List Entry) (line : List ℕ) → h ≡ [] → Is wanted [] line →
       ((status ≡ wanted) × Appends sink.bytes sink'.bytes line × (sink'.faults ≡ sink.faults)) ⊎ ((status ≡ 5) × AppendsPart sink.bytes sink'.bytes line × HasFailed sink sink') →
       IsWritten Is sink sink' status h
   IsWritten-line wanted status h line empty a w = IsWritten-outcome wanted status h [] line empty a w
 
   -- nothing was written for want of memory
-  pub IsWritten-nothing : (status : ℕ) (h : List HistoryEntry) → sink' ≡ sink → status ≡ 3 → h ≡ [] → IsWritten Is sink sink' status h
+  pub IsWritten-nothing : (status : ℕ) (h : List Entry) → sink' ≡ sink → status ≡ 3 → h ≡ [] → IsWritten Is sink sink' status h
   IsWritten-nothing status h same three empty =
       subst (λ s. IsWritten Is sink sink' s h) (sym three) (subst (IsWritten Is sink sink' 3) (sym empty) (IsWritten.MemoryBefore same))
 
 -- what is one answer is the other
-pub IsWritten-weaker : (A B : ℕ → List HistoryEntry → List ℕ → Type 0) (sink sink' : Stream) {status : ℕ} {h : List HistoryEntry} →
-    ((s : ℕ) (g : List HistoryEntry) (text : List ℕ) → A s g text → B s g text) → IsWritten A sink sink' status h → IsWritten B sink sink' status h
+pub IsWritten-weaker : (A B : ℕ → List Entry → List ℕ → Type 0) (sink sink' : Stream) {status : ℕ} {h : List Entry} →
+    ((s : ℕ) (g : List Entry) (text : List ℕ) → A s g text → B s g text) → IsWritten A sink sink' status h → IsWritten B sink sink' status h
 IsWritten-weaker A B sink sink' f (IsWritten.Whole {status = s} {h = g} {text = t} a w k) = IsWritten.Whole (f s g t a) w k
 IsWritten-weaker A B sink sink' f (IsWritten.Failed {status = s} {h = g} {text = t} a w r) = IsWritten.Failed (f s g t a) w r
 IsWritten-weaker A B sink sink' f (IsWritten.MemoryBetween {h = g} names a some w k) = IsWritten.MemoryBetween names (f 0 g (history_text names g) a) some w k
 IsWritten-weaker A B sink sink' f (IsWritten.MemoryBefore e) = IsWritten.MemoryBefore e
 
 -- the source failed
-pub IsEnding-unread : (task : Task) (source source' sink : Stream) (status : ℕ) (h : List HistoryEntry) → status ≡ 4 → h ≡ [] → HasFailed source source' →
+pub IsEnding-unread : (task : Task) (source source' sink : Stream) (status : ℕ) (h : List Entry) → status ≡ 4 → h ≡ [] → HasFailed source source' →
     LosesFront 0 longest source.bytes source'.bytes → IsEnding task source source' sink sink status h
 IsEnding-unread task source source' sink status h four empty failed front =
     subst (λ s. IsEnding task source source' sink sink s h) (sym four) (subst (IsEnding task source source' sink sink 4) (sym empty) (IsEnding.ReadFailed failed front refl))
@@ -80,11 +80,11 @@ IsAnswerTo-fault text task fault line told (inr found) =
 
 -- ---- statuses
 
-answer_status : {text : List ℕ} {task : Task} {s : ℕ} {h : List HistoryEntry} {w : List ℕ} → IsAnswerTo text task s h w → s ≤ 1
+answer_status : {text : List ℕ} {task : Task} {s : ℕ} {h : List Entry} {w : List ℕ} → IsAnswerTo text task s h w → s ≤ 1
 answer_status (IsAnswerTo.Made a c) = omega arith
 answer_status (IsAnswerTo.Refused a) = omega arith
 
-result_status : {task : Task} {source source' : Stream} {s : ℕ} {h : List HistoryEntry} {w : List ℕ} → IsResult task source source' s h w → (s ≤ 1) ⊎ (s ≡ 6)
+result_status : {task : Task} {source source' : Stream} {s : ℕ} {h : List Entry} {w : List ℕ} → IsResult task source source' s h w → (s ≤ 1) ⊎ (s ≡ 6)
 result_status (IsResult.Read g l a) = inl (answer_status a)
 result_status (IsResult.TooLong l) = inr refl
 
@@ -93,32 +93,32 @@ no_two s (inl h) e = omega (arith, h, e)
 no_two s (inr h) e = omega (arith, h, e)
 
 module _ (task : Task) (source source' sink sink' : Stream) where
-  written_not_two : {status : ℕ} {h : List HistoryEntry} → IsWritten (IsResult task source source') sink sink' status h → status ≢ 2
+  written_not_two : {status : ℕ} {h : List Entry} → IsWritten (IsResult task source source') sink sink' status h → status ≢ 2
   written_not_two (IsWritten.Whole {status = s} a w k) = no_two s (result_status a)
   written_not_two (IsWritten.Failed a w r) = λ e. omega (arith, e)
   written_not_two (IsWritten.MemoryBetween names a some w k) = λ e. omega (arith, e)
   written_not_two (IsWritten.MemoryBefore e) = λ e. omega (arith, e)
 
   -- words that ask for a task do not end with the status of words that ask for none
-  IsEnding-not_two : {status : ℕ} {h : List HistoryEntry} → IsEnding task source source' sink sink' status h → status ≢ 2
+  IsEnding-not_two : {status : ℕ} {h : List Entry} → IsEnding task source source' sink sink' status h → status ≢ 2
   IsEnding-not_two (IsEnding.Answered k w) = written_not_two w
   IsEnding-not_two (IsEnding.ReadFailed r l k) = λ e. omega (arith, e)
 
-  written_later : {status : ℕ} {h : List HistoryEntry} → IsWritten (IsResult task source source') sink sink' status h → sink.faults ≤ sink'.faults
+  written_later : {status : ℕ} {h : List Entry} → IsWritten (IsResult task source source') sink sink' status h → sink.faults ≤ sink'.faults
   written_later (IsWritten.Whole a w k) = omega (arith, k)
   written_later (IsWritten.Failed a w r) = r.later
   written_later (IsWritten.MemoryBetween names a some w k) = omega (arith, k)
   written_later (IsWritten.MemoryBefore e) = let k = ap (λ s. s.faults) e in omega (arith, k)
 
   -- the counts of faults do not fall
-  IsEnding-later : {status : ℕ} {h : List HistoryEntry} → IsEnding task source source' sink sink' status h → (source.faults ≤ source'.faults) × (sink.faults ≤ sink'.faults)
+  IsEnding-later : {status : ℕ} {h : List Entry} → IsEnding task source source' sink sink' status h → (source.faults ≤ source'.faults) × (sink.faults ≤ sink'.faults)
   IsEnding-later (IsEnding.Answered k w) = (omega (arith, k), written_later w)
   IsEnding-later (IsEnding.ReadFailed r l k) = let e = ap (λ s. s.faults) k in (r.later, omega (arith, e))
 
 -- ---- a text that the source told
 
 -- a session that was read is one of the task's form
-pub IsSessionOf-read : (task asked : Task) (text : Text) (form : Form) (statements : List Sentence) (session : Session) → asked ≡ task → form ≡ form_of asked →
+pub IsSessionOf-read : (task asked : Task) (text : Text) (form : Form) (statements : List Statement) (session : Session) → asked ≡ task → form ≡ form_of asked →
     IsSession text form session.names statements → Holds statements session → IsSessionOf (form_of task) text statements session
 IsSessionOf-read task asked text form statements session same formed read holds = record {
   is = subst (λ f. IsSession text f session.names statements) (formed ∙ ap form_of same) read;
@@ -131,42 +131,42 @@ not_short text left' short l =
     let more : longest < length text = IfSome-loses_more longest (longest + block) (Some text) left' l in
     omega (arith, short, more)
 
-made_status : (text : Text) (task : Task) (names : Table) (statements : List Sentence) → IsSession text (form_of task) names statements →
-    {s : ℕ} {h : List HistoryEntry} {w : List ℕ} → IsAnswerTo text task s h w → s ≡ 0
+made_status : (text : Text) (task : Task) (names : Table) (statements : List Statement) → IsSession text (form_of task) names statements →
+    {s : ℕ} {h : List Entry} {w : List ℕ} → IsAnswerTo text task s h w → s ≡ 0
 made_status text task names statements session (IsAnswerTo.Made a c) = refl
 made_status text task names statements session (IsAnswerTo.Refused {names = others} {r = r} a) =
     absurd (session_unrefused text (form_of task) others names r statements a session)
 
-refused_status : (text : Text) (task : Task) → IsNoSession text (form_of task) → {s : ℕ} {h : List HistoryEntry} {w : List ℕ} → IsAnswerTo text task s h w → s ≡ 1
+refused_status : (text : Text) (task : Task) → IsNoSession text (form_of task) → {s : ℕ} {h : List Entry} {w : List ℕ} → IsAnswerTo text task s h w → s ≡ 1
 refused_status text task none (IsAnswerTo.Made {names = names} {statements = statements} a c) = absurd (none names statements a)
 refused_status text task none (IsAnswerTo.Refused a) = refl
 
 -- every answer to the task has the status
 abbrev IsAnsweredBy : Text → Task → (wanted : ℕ) → Type 0
-IsAnsweredBy text task wanted = (s : ℕ) (h : List HistoryEntry) (w : List ℕ) → IsAnswerTo text task s h w → s ≡ wanted
+IsAnsweredBy text task wanted = (s : ℕ) (h : List Entry) (w : List ℕ) → IsAnswerTo text task s h w → s ≡ wanted
 
 module _ (text : Text) (task : Task) (source source' : Stream) (told : source.bytes ≡ Some text) where
   -- a text of no more bytes than a session may have
   short_status : (wanted : ℕ) → length text ≤ longest → IsAnsweredBy text task wanted →
-      {s : ℕ} {h : List HistoryEntry} {w : List ℕ} → IsResult task source source' s h w → s ≡ wanted
+      {s : ℕ} {h : List Entry} {w : List ℕ} → IsResult task source source' s h w → s ≡ wanted
   short_status wanted short f (IsResult.Read {text = read} {written = w} {status = s} {h = h} g l a) =
       let same : text ≡ read = (rw told at g).0 in
       f s h w (subst (λ t. IsAnswerTo t task s h w) (sym same) a)
   short_status wanted short f (IsResult.TooLong l) = absurd (not_short text source'.bytes short (rw told at l))
 
-  long_status : longest < length text → {s : ℕ} {h : List HistoryEntry} {w : List ℕ} → IsResult task source source' s h w → s ≡ 6
+  long_status : longest < length text → {s : ℕ} {h : List Entry} {w : List ℕ} → IsResult task source source' s h w → s ≡ 6
   long_status long (IsResult.Read {text = read} g l a) =
       absurd (let same : text ≡ read = (rw told at g).0 in let long_too : length text ≡ length read = ap length same in omega (arith, long, l, long_too))
   long_status long (IsResult.TooLong l) = refl
 
   -- what a source asks for that told its text has the status that the text deserves
-  told_status : {wanted : ℕ} → Deserves task text wanted → {s : ℕ} {h : List HistoryEntry} {w : List ℕ} → IsResult task source source' s h w → s ≡ wanted
+  told_status : {wanted : ℕ} → Deserves task text wanted → {s : ℕ} {h : List Entry} {w : List ℕ} → IsResult task source source' s h w → s ≡ wanted
   told_status (Deserves.OfSession {names = names} {statements = statements} short session) r =
       short_status 0 short (λ s h w a. made_status text task names statements session a) r
   told_status (Deserves.OfNoSession short none) r = short_status 1 short (λ s h w a. refused_status text task none a) r
   told_status (Deserves.OfTooLong long) r = long_status long r
 
-  written_status : (sink sink' : Stream) (wanted : ℕ) → Deserves task text wanted → (Rose sink.faults sink'.faults → ⊥) → {status : ℕ} {h : List HistoryEntry} →
+  written_status : (sink sink' : Stream) (wanted : ℕ) → Deserves task text wanted → (Rose sink.faults sink'.faults → ⊥) → {status : ℕ} {h : List Entry} →
       IsWritten (IsResult task source source') sink sink' status h → IsStatusOrMemory wanted status
   written_status sink sink' wanted d n (IsWritten.Whole a w k) = inl (told_status d a)
   written_status sink sink' wanted d n (IsWritten.Failed a w r) = absurd (n r.rose)
@@ -175,25 +175,25 @@ module _ (text : Text) (task : Task) (source source' : Stream) (told : source.by
 
   -- where neither the source nor the sink failed
   IsEnding-status : (sink sink' : Stream) (wanted : ℕ) → Deserves task text wanted → (Rose source.faults source'.faults → ⊥) → (Rose sink.faults sink'.faults → ⊥) →
-      {status : ℕ} {h : List HistoryEntry} → IsEnding task source source' sink sink' status h → IsStatusOrMemory wanted status
+      {status : ℕ} {h : List Entry} → IsEnding task source source' sink sink' status h → IsStatusOrMemory wanted status
   IsEnding-status sink sink' wanted d m n (IsEnding.Answered k w) = written_status sink sink' wanted d n w
   IsEnding-status sink sink' wanted d m n (IsEnding.ReadFailed r l k) = absurd (m r.rose)
 
 -- ---- the status 0
 
 -- a session was read, this was made of it, and it was written
-record IsDone (task : Task) (source source' sink sink' : Stream) (h : List HistoryEntry) : Type 0 where
+record IsDone (task : Task) (source source' sink sink' : Stream) (h : List Entry) : Type 0 where
   pub text : Text
   pub given : GivesAll source.bytes source'.bytes text
   pub names : Table
-  pub statements : List Sentence
+  pub statements : List Statement
   pub session : IsSession text (form_of task) names statements
   pub line : List ℕ
   pub made : IsMade task names statements h line
   pub written : Appends sink.bytes sink'.bytes line
 
 module _ (task : Task) (source source' sink sink' : Stream) where
-  done_by : {s : ℕ} {h : List HistoryEntry} {text w : List ℕ} → s ≡ 0 → IsAnswerTo text task s h w → GivesAll source.bytes source'.bytes text →
+  done_by : {s : ℕ} {h : List Entry} {text w : List ℕ} → s ≡ 0 → IsAnswerTo text task s h w → GivesAll source.bytes source'.bytes text →
       Appends sink.bytes sink'.bytes w → IsDone task source source' sink sink' h
   done_by {text = text} {w = line} z (IsAnswerTo.Made {names = names} {statements = statements} session made) g a = record {
     text = text;
@@ -207,51 +207,51 @@ module _ (task : Task) (source source' sink sink' : Stream) where
   }
   done_by z (IsAnswerTo.Refused r) g a = absurd (omega (arith, z))
 
-  done_with : {s : ℕ} {h : List HistoryEntry} {w : List ℕ} → s ≡ 0 → IsResult task source source' s h w → Appends sink.bytes sink'.bytes w → IsDone task source source' sink sink' h
+  done_with : {s : ℕ} {h : List Entry} {w : List ℕ} → s ≡ 0 → IsResult task source source' s h w → Appends sink.bytes sink'.bytes w → IsDone task source source' sink sink' h
   done_with z (IsResult.Read g l answer) a = done_by z answer g a
   done_with z (IsResult.TooLong l) a = absurd (omega (arith, z))
 
-  written_done : {s : ℕ} {h : List HistoryEntry} → s ≡ 0 → IsWritten (IsResult task source source') sink sink' s h → IsDone task source source' sink sink' h
+  written_done : {s : ℕ} {h : List Entry} → s ≡ 0 → IsWritten (IsResult task source source') sink sink' s h → IsDone task source source' sink sink' h
   written_done z (IsWritten.Whole r a k) = done_with z r a
   written_done z (IsWritten.Failed r a k) = absurd (omega (arith, z))
   written_done z (IsWritten.MemoryBetween names r some a k) = absurd (omega (arith, z))
   written_done z (IsWritten.MemoryBefore e) = absurd (omega (arith, z))
 
-  ending_done : {s : ℕ} {h : List HistoryEntry} → s ≡ 0 → IsEnding task source source' sink sink' s h → IsDone task source source' sink sink' h
+  ending_done : {s : ℕ} {h : List Entry} → s ≡ 0 → IsEnding task source source' sink sink' s h → IsDone task source source' sink sink' h
   ending_done z (IsEnding.Answered k w) = written_done z w
   ending_done z (IsEnding.ReadFailed r l k) = absurd (omega (arith, z))
 
 -- ---- demonstrations
 
-demo_status : {sales s : ℕ} {h : List HistoryEntry} {w : List ℕ} → IsDemonstration sales s h w → s ≡ 0
+demo_status : {sales s : ℕ} {h : List Entry} {w : List ℕ} → IsDemonstration sales s h w → s ≡ 0
 demo_status (IsDemonstration.Demonstrated d) = refl
 
-shown_by : {sales s : ℕ} {h : List HistoryEntry} {w : List ℕ} {held held' : Option (List ℕ)} → IsDemonstration sales s h w → Appends held held' w → HasDemonstrated sales held held' h
+shown_by : {sales s : ℕ} {h : List Entry} {w : List ℕ} {held held' : Option (List ℕ)} → IsDemonstration sales s h w → Appends held held' w → HasDemonstrated sales held held' h
 shown_by {held = held} {held' = held'} (IsDemonstration.Demonstrated d) a = record {
   demonstrated = record { names = d.names; statements = d.statements; session = d.session; history = d.history; line_is = refl };
   written = subst (Appends held held') d.line_is a;
 }
 
 module _ (sales : ℕ) (sink sink' : Stream) where
-  demo_not_two : {status : ℕ} {h : List HistoryEntry} → IsWritten (IsDemonstration sales) sink sink' status h → status ≢ 2
+  demo_not_two : {status : ℕ} {h : List Entry} → IsWritten (IsDemonstration sales) sink sink' status h → status ≢ 2
   demo_not_two (IsWritten.Whole a w k) = let z = demo_status a in λ e. omega arith
   demo_not_two (IsWritten.Failed a w r) = λ e. omega (arith, e)
   demo_not_two (IsWritten.MemoryBetween names a some w k) = λ e. omega (arith, e)
   demo_not_two (IsWritten.MemoryBefore e) = λ e. omega (arith, e)
 
-  demo_later : {status : ℕ} {h : List HistoryEntry} → IsWritten (IsDemonstration sales) sink sink' status h → sink.faults ≤ sink'.faults
+  demo_later : {status : ℕ} {h : List Entry} → IsWritten (IsDemonstration sales) sink sink' status h → sink.faults ≤ sink'.faults
   demo_later (IsWritten.Whole a w k) = omega (arith, k)
   demo_later (IsWritten.Failed a w r) = r.later
   demo_later (IsWritten.MemoryBetween names a some w k) = omega (arith, k)
   demo_later (IsWritten.MemoryBefore e) = let k = ap (λ s. s.faults) e in omega (arith, k)
 
-  demo_ended : {status : ℕ} {h : List HistoryEntry} → (Rose sink.faults sink'.faults → ⊥) → IsWritten (IsDemonstration sales) sink sink' status h → IsStatusOrMemory 0 status
+  demo_ended : {status : ℕ} {h : List Entry} → (Rose sink.faults sink'.faults → ⊥) → IsWritten (IsDemonstration sales) sink sink' status h → IsStatusOrMemory 0 status
   demo_ended n (IsWritten.Whole a w k) = inl (demo_status a)
   demo_ended n (IsWritten.Failed a w r) = absurd (n r.rose)
   demo_ended n (IsWritten.MemoryBetween names a some w k) = inr refl
   demo_ended n (IsWritten.MemoryBefore e) = inr refl
 
-  demo_shown : {status : ℕ} {h : List HistoryEntry} → status ≡ 0 → IsWritten (IsDemonstration sales) sink sink' status h → HasDemonstrated sales sink.bytes sink'.bytes h
+  demo_shown : {status : ℕ} {h : List Entry} → status ≡ 0 → IsWritten (IsDemonstration sales) sink sink' status h → HasDemonstrated sales sink.bytes sink'.bytes h
   demo_shown z (IsWritten.Whole a w k) = shown_by a w
   demo_shown z (IsWritten.Failed a w r) = absurd (omega (arith, z))
   demo_shown z (IsWritten.MemoryBetween names a some w k) = absurd (omega (arith, z))
@@ -259,7 +259,7 @@ module _ (sales : ℕ) (sink sink' : Stream) where
 
 -- ---- runs
 
-module _ (source source' sink sink' : Stream) (status : ℕ) (h : List HistoryEntry) where
+module _ (source source' sink sink' : Stream) (status : ℕ) (h : List Entry) where
   -- a run for one thing is one for the thing that was asked for
   pub Ends-asked : (words : List (List ℕ)) (mode asked : Mode) → Asks words mode → Asks words asked → Ends source source' sink sink' status h mode → Ends source source' sink sink' status h asked
   Ends-asked words mode asked here there e = subst (Ends source source' sink sink' status h) (asked_once words mode asked here there) e

@@ -9,11 +9,11 @@ use Rattle.std.proofs.lemmas.Bool.Decides.{nat_tests}
 use Rattle.std.proofs.lemmas.List.Sums.{sum_by-append}
 use Rattle.poets_value.specs.Listed.{Listed}
 use Rattle.poets_call.specs.declared.call.Command.{Command as CodeCommand}
-use Rattle.poets_call.specs.Calls.{request_of}
-use Rattle.poets_call.specs.Sentences.{Sentence, Clerk}
+use Rattle.poets_call.specs.Calls.{command_of}
+use Rattle.poets_call.specs.Said.{Statement, Clerk}
 use Rattle.poets_session.specs.declared.form.Form.{Form}
 use Rattle.poets_session.specs.Places.{PlaceFault, is_clerk, is_misplaced, is_too_many, place_fault, place_fault_after}
-use Rattle.poets_session.specs.Sessions.{scripts_of, requests_of}
+use Rattle.poets_session.specs.Sessions.{scripts_of, commands_in}
 
 not_out : (misplaced many : Bool) (m t : PlaceFault) (rest : Option PlaceFault) → (if misplaced then Some m else if many then Some t else rest) ≡ None → (many ≡ false) × (rest ≡ None)
 not_out true many m t rest h = absurd cc
@@ -21,18 +21,18 @@ not_out false true m t rest h = absurd cc
 not_out false false m t rest h = (refl, h)
 
 -- one script for each `clerk`
-script_counted : (s : Sentence) (statements : List Sentence) → length (scripts_of (s ∷ statements)) ≡ count_by is_clerk (s ∷ []) + length (scripts_of statements)
+script_counted : (s : Statement) (statements : List Statement) → length (scripts_of (s ∷ statements)) ≡ count_by is_clerk (s ∷ []) + length (scripts_of statements)
 script_counted Clerk statements = omega arith
 script_counted s statements = omega arith
 
-clerks_counted : (before : List Sentence) (s : Sentence) → count_by is_clerk (before ++ s ∷ []) ≡ count_by is_clerk before + count_by is_clerk (s ∷ [])
+clerks_counted : (before : List Statement) (s : Statement) → count_by is_clerk (before ++ s ∷ []) ≡ count_by is_clerk before + count_by is_clerk (s ∷ [])
 clerks_counted before s = sum_by-append _ before (s ∷ [])
 
-one_more : (before : List Sentence) (s : Sentence) → is_too_many before s ≡ false → count_by is_clerk before ≤ 64 → count_by is_clerk before + count_by is_clerk (s ∷ []) ≤ 64
+one_more : (before : List Statement) (s : Statement) → is_too_many before s ≡ false → count_by is_clerk before ≤ 64 → count_by is_clerk before + count_by is_clerk (s ∷ []) ≤ 64
 one_more before Clerk few le = grind (arith, nat_tests)
 one_more before s few le = omega (arith, le)
 
-few_after : (form : Form) (before statements : List Sentence) → place_fault_after form before statements ≡ None → count_by is_clerk before ≤ 64 →
+few_after : (form : Form) (before statements : List Statement) → place_fault_after form before statements ≡ None → count_by is_clerk before ≤ 64 →
     count_by is_clerk before + length (scripts_of statements) ≤ 64
 few_after form before [] placed le = omega (arith, le)
 few_after form before (s ∷ statements) placed le =
@@ -41,15 +41,15 @@ few_after form before (s ∷ statements) placed le =
     let rest = few_after form (before ++ s ∷ []) statements h.1 (omega (arith, now, clerks_counted before s)) in
     omega (arith, rest, clerks_counted before s, script_counted s statements)
 
-scripts_few : (form : Form) (statements : List Sentence) → place_fault form statements ≡ None → length (scripts_of statements) ≤ 64
+scripts_few : (form : Form) (statements : List Statement) → place_fault form statements ≡ None → length (scripts_of statements) ≤ 64
 scripts_few form statements placed =
     let few : 0 + length (scripts_of statements) ≤ 64 = few_after form [] statements placed (omega arith) in
     omega (arith, few)
 
 -- so do the lists of the code that hold them
-pub scripts_few-held : (form : Form) (statements : List Sentence) (scripts : List (Listed (Arc CodeCommand Global))) → place_fault form statements ≡ None →
-    requests_of scripts ≡ scripts_of statements → length scripts ≤ 64
+pub scripts_few-held : (form : Form) (statements : List Statement) (scripts : List (Listed (Arc CodeCommand Global))) → place_fault form statements ≡ None →
+    commands_in scripts ≡ scripts_of statements → length scripts ≤ 64
 scripts_few-held form statements scripts placed held =
     let few = scripts_few form statements placed in
-    let many = length-map scripts (λ (script : Listed (Arc CodeCommand Global)). map (λ c. request_of (arc_value c)) script.items) in
+    let many = length-map scripts (λ (script : Listed (Arc CodeCommand Global)). map (λ c. command_of (arc_value c)) script.items) in
     omega (arith, few, many, ap length held)

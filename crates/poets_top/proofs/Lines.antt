@@ -7,10 +7,11 @@ use Rattle.std.proofs.KnownBytes.{Appends-trans, Appends-nil}
 use Rattle.poets_io.specs.Streams.{AppendsPart}
 use Rattle.poets_lex.specs.Table.{Table}
 use Rattle.poets_call.specs.declared.call.Entry.{Entry}
-use Rattle.poets_call.specs.Calls.{HistoryEntry, entry_of, history_of}
+use Rattle.poets_call.specs.Calls.{entry_of, history_of}
+use Rattle.poets_call.specs.Plain as plain
 use Rattle.poets_print.specs.Lines.{line_text, lines_from, history_text}
 
-lines_from-append : (names : Table) (n : ℕ) (a b : List HistoryEntry) → lines_from names n (a ++ b) ≡ lines_from names n a ++ lines_from names (n + length a) b
+lines_from-append : (names : Table) (n : ℕ) (a b : List plain.Entry) → lines_from names n (a ++ b) ≡ lines_from names n a ++ lines_from names (n + length a) b
 lines_from-append names n [] b = ap (λ m. lines_from names m b) (let e : n ≡ n + 0 = omega arith in e)
 lines_from-append names n (x ∷ a) b =
     let e : n + 1 + length a ≡ n + suc (length a) = omega arith in
@@ -21,7 +22,7 @@ last_some : (xs : List ℕ) (x : ℕ) → 0 < length (xs ++ x ∷ [])
 last_some xs x = omega (arith, length-append xs (x ∷ []))
 
 -- a line ends with LF
-line_text-some : (names : Table) (n : ℕ) (e : HistoryEntry) → 0 < length (line_text names n e)
+line_text-some : (names : Table) (n : ℕ) (e : plain.Entry) → 0 < length (line_text names n e)
 line_text-some names n e = last_some _ 10
 
 -- the text of the first entries
@@ -82,7 +83,7 @@ AppendsPart-lines names i entries e a b lt at p =
     (record { taken = 0; short = line_text-some names (i + 1) (entry_of e); bytes = Appends-nil b })
 
 -- a history whose lines were not all written has entries
-pub AppendsPart-some : (names : Table) (h : List HistoryEntry) (a b : Option (List ℕ)) → AppendsPart a b (history_text names h) → h ≢ []
+pub AppendsPart-some : (names : Table) (h : List plain.Entry) (a b : Option (List ℕ)) → AppendsPart a b (history_text names h) → h ≢ []
 AppendsPart-some names [] a b p = absurd (omega (arith, p.short))
 AppendsPart-some names (x ∷ h) a b p = λ e. absurd cc
 

@@ -10,16 +10,17 @@ use Rattle.std.specs.declared.sync.Arc.{Arc}
 use Rattle.poets_syntax.specs.Studied.{IsStudiedBook}
 use Rattle.poets_call.specs.declared.call.Command.{Command as CodeCommand}
 use Rattle.poets_call.specs.Taken.{IsTaken}
-use Rattle.poets_call.specs.TypedSentences.{IsTypedRequest}
+use Rattle.poets_call.specs.TypedStatements.{PassesAsCommand}
 use Rattle.poets_engine.proofs.ShownResiduals.{legal_histories_show}
-use Rattle.poets_call.specs.Calls.{Request, Call, HistoryEntry, calls_of, own_calls, request_of}
-use Rattle.poets_call.specs.Declarations.{book_of, reports_of}
+use Rattle.poets_call.specs.Plain.{Command, Entry}
+use Rattle.poets_call.specs.Calls.{Call, calls_of, own_calls, command_of}
+use Rattle.poets_call.specs.Declarations.{book_from, reports_of}
 use Rattle.poets_call.specs.declared.rules.Rules.{Rules}
 use Rattle.poets_call.specs.Histories.{IsLegal, IsRightHistory}
 use Rattle.poets_call.specs.Rules as R
-use Rattle.poets_call.specs.Sentences.{Sentence}
+use Rattle.poets_call.specs.Said.{Statement}
 use Rattle.poets_call.proofs.Histories.{own_calls_append}
-use Rattle.poets_session.specs.Sessions.{Holds, scripts_of, requests_of, journal_of, calls_in}
+use Rattle.poets_session.specs.Sessions.{Holds, scripts_of, commands_in, journal_of, calls_in}
 use Rattle.poets_session.specs.declared.session.Session.{Session}
 use Rattle.poets_machine.specs.Histories.{own_calls as machine_calls}
 use Rattle.poets_clerks.specs.Histories.{HasScripts}
@@ -42,33 +43,33 @@ own_same clerk (c ∷ calls) = dite (ℕ_discrete c.0 clerk)
 -- ---- histories
 
 -- a legal history of typed calls is right
-pub right_history : (rules : Rules) (h : List HistoryEntry) → IsStudiedBook (R.book_of rules) rules.studied.marks → IsLegal (R.book_of rules) (R.reports_of rules) h →
-    All (λ (call : Call). IsTypedRequest (R.book_of rules) (R.reports_of rules) call.1) (calls_of h) → IsRightHistory (R.book_of rules) (R.reports_of rules) h
+pub right_history : (rules : Rules) (h : List Entry) → IsStudiedBook (R.book_of_rules rules) rules.studied.marks → IsLegal (R.book_of_rules rules) (R.reports_of_rules rules) h →
+    All (λ (call : Call). PassesAsCommand (R.book_of_rules rules) (R.reports_of_rules rules) call.1) (calls_of h) → IsRightHistory (R.book_of_rules rules) (R.reports_of_rules rules) h
 right_history rules h studied legal typed = record {
   legal = legal;
-  shows = legal_histories_show (R.book_of rules) rules.studied.marks (R.reports_of rules) h studied legal
-      (All-of_map (λ (call : Call). IsTypedRequest (R.book_of rules) (R.reports_of rules) call.1) (λ (e : HistoryEntry). (e.clerk, e.request)) h typed);
+  shows = legal_histories_show (R.book_of_rules rules) rules.studied.marks (R.reports_of_rules rules) h studied legal
+      (All-of_map (λ (call : Call). PassesAsCommand (R.book_of_rules rules) (R.reports_of_rules rules) call.1) (λ (e : Entry). (e.clerk, e.command)) h typed);
 }
 
 -- a legal history of calls that are taken is right
-pub right_made : (rules found : Rules) (h : List HistoryEntry) (calls : List (ℕ × Arc CodeCommand Global)) (n : ℕ) → found ≡ rules →
-    IsStudiedBook (R.book_of rules) rules.studied.marks → IsLegal (R.book_of found) (R.reports_of found) h → AreTaken rules calls →
-    calls_of h ≡ calls_in (take n calls) → IsRightHistory (R.book_of rules) (R.reports_of rules) h
+pub right_made : (rules found : Rules) (h : List Entry) (calls : List (ℕ × Arc CodeCommand Global)) (n : ℕ) → found ≡ rules →
+    IsStudiedBook (R.book_of_rules rules) rules.studied.marks → IsLegal (R.book_of_rules found) (R.reports_of_rules found) h → AreTaken rules calls →
+    calls_of h ≡ calls_in (take n calls) → IsRightHistory (R.book_of_rules rules) (R.reports_of_rules rules) h
 right_made rules found h calls n same studied legal taken made =
-    let front = All-take (λ (p : ℕ × Arc CodeCommand Global). IsTaken (R.book_of rules) (R.reports_of rules) (request_of (arc_value p.1))) n calls taken in
-    right_history rules h studied (subst (λ r. IsLegal (R.book_of r) (R.reports_of r) h) same legal)
-    (subst (All (λ call. IsTypedRequest (R.book_of rules) (R.reports_of rules) call.1)) (sym made)
-    (All-map (λ (call : Call). IsTypedRequest (R.book_of rules) (R.reports_of rules) call.1) (λ (p : ℕ × Arc CodeCommand Global). (p.0, request_of (arc_value p.1))) (take n calls)
+    let front = All-take (λ (p : ℕ × Arc CodeCommand Global). IsTaken (R.book_of_rules rules) (R.reports_of_rules rules) (command_of (arc_value p.1))) n calls taken in
+    right_history rules h studied (subst (λ r. IsLegal (R.book_of_rules r) (R.reports_of_rules r) h) same legal)
+    (subst (All (λ call. PassesAsCommand (R.book_of_rules rules) (R.reports_of_rules rules) call.1)) (sym made)
+    (All-map (λ (call : Call). PassesAsCommand (R.book_of_rules rules) (R.reports_of_rules rules) call.1) (λ (p : ℕ × Arc CodeCommand Global). (p.0, command_of (arc_value p.1))) (take n calls)
     (λ k d lt. (front k d lt).typed)))
 
 -- a right history for rules is one for what they say
-right_for : (rules : Rules) (statements : List Sentence) (h : List HistoryEntry) → R.book_of rules ≡ book_of statements → R.reports_of rules ≡ reports_of statements →
-    IsRightHistory (R.book_of rules) (R.reports_of rules) h → IsRightHistory (book_of statements) (reports_of statements) h
+right_for : (rules : Rules) (statements : List Statement) (h : List Entry) → R.book_of_rules rules ≡ book_from statements → R.reports_of_rules rules ≡ reports_of statements →
+    IsRightHistory (R.book_of_rules rules) (R.reports_of_rules rules) h → IsRightHistory (book_from statements) (reports_of statements) h
 right_for rules statements h book reports right =
-    subst (λ q. IsRightHistory (book_of statements) q h) reports (subst (λ b. IsRightHistory b (R.reports_of rules) h) book right)
+    subst (λ q. IsRightHistory (book_from statements) q h) reports (subst (λ b. IsRightHistory b (R.reports_of_rules rules) h) book right)
 
-module _ (rules : Rules) (statements : List Sentence) (h : List HistoryEntry) (book : R.book_of rules ≡ book_of statements)
-    (reports : R.reports_of rules ≡ reports_of statements) (right : IsRightHistory (R.book_of rules) (R.reports_of rules) h) where
+module _ (rules : Rules) (statements : List Statement) (h : List Entry) (book : R.book_of_rules rules ≡ book_from statements)
+    (reports : R.reports_of_rules rules ≡ reports_of statements) (right : IsRightHistory (R.book_of_rules rules) (R.reports_of_rules rules) h) where
   -- a right history of the journal's calls
   pub IsReplayOf-made : calls_of h ≡ journal_of statements → IsReplayOf statements h
   IsReplayOf-made calls = record { right = right_for rules statements h book reports right; calls = calls }
@@ -80,12 +81,12 @@ module _ (rules : Rules) (statements : List Sentence) (h : List HistoryEntry) (b
       record {
         right = right_for rules statements h book reports right;
         own = λ place script at. own_same (suc place) (calls_of h) ∙ (ap (λ k. machine_calls k (calls_of h)) (omega arith) ∙ made.own place script at);
-        clerks = All-of_map (λ (call : Call). (1 ≤ call.0) × (call.0 ≤ n)) (λ (e : HistoryEntry). (e.clerk, e.request)) h made.clerks;
+        clerks = All-of_map (λ (call : Call). (1 ≤ call.0) × (call.0 ≤ n)) (λ (e : Entry). (e.clerk, e.command)) h made.clerks;
       }
 
 -- the same of a session that holds what the statements say
-pub IsHistoryOf-read : (statements : List Sentence) (session : Session) (h : List HistoryEntry) → Holds statements session → IsRightHistory (R.book_of session.rules) (R.reports_of session.rules) h →
-    HasScripts (requests_of session.scripts.items) (calls_of h) → IsHistoryOf statements h
+pub IsHistoryOf-read : (statements : List Statement) (session : Session) (h : List Entry) → Holds statements session → IsRightHistory (R.book_of_rules session.rules) (R.reports_of_rules session.rules) h →
+    HasScripts (commands_in session.scripts.items) (calls_of h) → IsHistoryOf statements h
 IsHistoryOf-read statements session h holds right made =
     IsHistoryOf-made session.rules statements h holds.book holds.reports right (subst (λ ss. HasScripts ss (calls_of h)) holds.scripts made)
 
@@ -98,12 +99,12 @@ own_calls-all clerk (call ∷ calls) all =
     rw (eq-eqb call.0 clerk own) (ap₂ (λ k others. (k, call.1) ∷ others) own (own_calls-all clerk calls (All-tail (λ call. call.0 ≡ clerk) call calls all)))
 
 -- where there is one script, its clerk makes each call
-pub one_clerk : (statements : List Sentence) (script : List Request) (h : List HistoryEntry) → scripts_of statements ≡ script ∷ [] → IsHistoryOf statements h →
+pub one_clerk : (statements : List Statement) (script : List Command) (h : List Entry) → scripts_of statements ≡ script ∷ [] → IsHistoryOf statements h →
     calls_of h ≡ under_clerk 1 script
 one_clerk statements script h one made =
     let mine : own_calls 1 (calls_of h) ≡ script = made.own 0 script (ap (λ scripts. slice_get scripts 0) one) in
     let many : length (scripts_of statements) ≡ 1 = ap length one in
     let all : All (λ call. call.0 ≡ 1) (calls_of h) =
-    All-map (λ (call : Call). call.0 ≡ 1) (λ (e : HistoryEntry). (e.clerk, e.request)) h
-    (All-weaker (λ (e : HistoryEntry). (1 ≤ e.clerk) × (e.clerk ≤ length (scripts_of statements))) (λ e. e.clerk ≡ 1) (λ e here. omega (arith, here.0, here.1, many)) h made.clerks) in
+    All-map (λ (call : Call). call.0 ≡ 1) (λ (e : Entry). (e.clerk, e.command)) h
+    (All-weaker (λ (e : Entry). (1 ≤ e.clerk) × (e.clerk ≤ length (scripts_of statements))) (λ e. e.clerk ≡ 1) (λ e here. omega (arith, here.0, here.1, many)) h made.clerks) in
     own_calls-all 1 (calls_of h) all ∙ ap (under_clerk 1) mine

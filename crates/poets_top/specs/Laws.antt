@@ -1,7 +1,8 @@
 -- The laws of runs, as statements.
 use Rattle.std.specs.Prelude.{◌≡◌, List, [], ◌∷◌}
-use Rattle.poets_call.specs.Calls.{Request, HistoryEntry, calls_of}
-use Rattle.poets_call.specs.Sentences.{Sentence}
+use Rattle.poets_call.specs.Plain.{Command, Entry}
+use Rattle.poets_call.specs.Calls.{calls_of}
+use Rattle.poets_call.specs.Said.{Statement}
 use Rattle.poets_session.specs.Sessions.{scripts_of}
 use Rattle.poets_top.specs.Scripts.{under_clerk}
 use Rattle.poets_top.specs.Running.{IsHistoryOf}
@@ -9,5 +10,5 @@ use Rattle.poets_top.specs.Running.{IsHistoryOf}
 -- the calls in a history of one clerk's session are his script, in its order
 abbrev pub OneClerk : Type 0
 OneClerk =
-    (statements : List Sentence) (script : List Request) (h : List HistoryEntry)
+    (statements : List Statement) (script : List Command) (h : List Entry)
     → scripts_of statements ≡ script ∷ [] → IsHistoryOf statements h → calls_of h ≡ under_clerk 1 script

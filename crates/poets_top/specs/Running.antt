@@ -3,32 +3,33 @@ use Rattle.std.specs.Prelude.{◌≡◌, ℕ, suc, ◌≤◌, List, length, All,
 use Rattle.std.specs.Io.KnownBytes.{Appends}
 use Rattle.poets_io.specs.Streams.{GivesAll}
 use Rattle.poets_lex.specs.Table.{Table}
-use Rattle.poets_call.specs.Calls.{Request, HistoryEntry, own}
-use Rattle.poets_call.specs.Sentences.{Sentence}
-use Rattle.poets_call.specs.Declarations.{book_of, reports_of}
+use Rattle.poets_call.specs.Plain.{Command, Entry}
+use Rattle.poets_call.specs.Calls.{own}
+use Rattle.poets_call.specs.Said.{Statement}
+use Rattle.poets_call.specs.Declarations.{book_from, reports_of}
 use Rattle.poets_call.specs.Histories.{IsRightHistory}
 use Rattle.poets_print.specs.Lines.{history_text}
 use Rattle.poets_session.specs.declared.form.Form.TheVariants as F
 use Rattle.poets_session.specs.Sessions.{Text, IsSession, scripts_of}
 
 -- a right history in which the commands of each clerk are his script, in order, and no other clerk's stand there
-pub record IsHistoryOf (statements : List Sentence) (h : List HistoryEntry) : Type 0 where
-  pub right : IsRightHistory (book_of statements) (reports_of statements) h
-  pub own : (place : ℕ) (script : List Request) → slice_get (scripts_of statements) place ≡ Some script → own (suc place) h ≡ script
+pub record IsHistoryOf (statements : List Statement) (h : List Entry) : Type 0 where
+  pub right : IsRightHistory (book_from statements) (reports_of statements) h
+  pub own : (place : ℕ) (script : List Command) → slice_get (scripts_of statements) place ≡ Some script → own (suc place) h ≡ script
   pub clerks : All (λ e. (1 ≤ e.clerk) × (e.clerk ≤ length (scripts_of statements))) h
 
 -- of the clerks' scripts a history is made, and its lines are to be written
-pub record RunsScripts (names : Table) (statements : List Sentence) (h : List HistoryEntry) (text : List ℕ) : Type 0 where
+pub record RunsScripts (names : Table) (statements : List Statement) (h : List Entry) (text : List ℕ) : Type 0 where
   pub history : IsHistoryOf statements h
   pub lines : text ≡ history_text names h
 
 -- a session was run: what the source had left before and after, what the sink held before and after, and the history
-pub record HasRun (left left' held held' : Option (List ℕ)) (h : List HistoryEntry) : Type 0 where
+pub record HasRun (left left' held held' : Option (List ℕ)) (h : List Entry) : Type 0 where
   -- the source was read to its end, and its bytes are the text of a session of clerks
   pub text : Text
   pub given : GivesAll left left' text
   pub names : Table
-  pub statements : List Sentence
+  pub statements : List Statement
   pub session : IsSession text F.Clerks names statements
   -- the history is right, and has each clerk's commands once, in his order
   pub history : IsHistoryOf statements h

@@ -3,8 +3,8 @@ use Rattle.std.specs.Prelude.{◌≡◌, ℕ, ◌+◌, ◌≤◌, ◌<◌, ◌�
 use Rattle.poets_io.specs.Causes.{Rose}
 use Rattle.poets_io.specs.Streams.{GivesAll, LosesFront}
 use Rattle.poets_lex.specs.Table.{Table}
-use Rattle.poets_call.specs.Calls.{HistoryEntry}
-use Rattle.poets_call.specs.Sentences.{Sentence}
+use Rattle.poets_call.specs.Plain.{Entry}
+use Rattle.poets_call.specs.Said.{Statement}
 use Rattle.poets_session.specs.Sessions.{Text, IsSession, IsNoSession}
 use Rattle.poets_session.specs.Refusals.{Refusal, IsRefused}
 use Rattle.poets_session.specs.Texts.{refusal_text}
@@ -31,48 +31,48 @@ abbrev pub too_long_text : List ℕ
 too_long_text = codes "refused: longer than 16777216 bytes" ++ 10 ∷ []
 
 -- what a task makes of a session
-abbrev pub IsMade : Task → Table → List Sentence → List HistoryEntry → List ℕ → Type 0
+abbrev pub IsMade : Task → Table → List Statement → List Entry → List ℕ → Type 0
 IsMade T.Check names statements = ChecksBook statements
 IsMade T.Run names statements = RunsScripts names statements
 IsMade T.Replay names statements = ReplaysJournal names statements
 
 -- what a text asks for that was read
-pub data IsAnswerTo (text : Text) (task : Task) : (status : ℕ) → List HistoryEntry → List ℕ → Type 0 where
+pub data IsAnswerTo (text : Text) (task : Task) : (status : ℕ) → List Entry → List ℕ → Type 0 where
   -- a session
   Made :
-      {names : Table} {statements : List Sentence} {h : List HistoryEntry} {written : List ℕ} →
+      {names : Table} {statements : List Statement} {h : List Entry} {written : List ℕ} →
       IsSession text (form_of task) names statements → IsMade task names statements h written → IsAnswerTo text task 0 h written
   -- no session: the line of its first fault
   Refused : {names : Table} {r : Refusal} → IsRefused text (form_of task) names r → IsAnswerTo text task 1 [] (refusal_text names r)
 
 -- what a source asks for that was like this before the run, and like that after it
-pub data IsResult (task : Task) (source source' : Stream) : (status : ℕ) → List HistoryEntry → List ℕ → Type 0 where
+pub data IsResult (task : Task) (source source' : Stream) : (status : ℕ) → List Entry → List ℕ → Type 0 where
   -- it was read to its end
   Read :
-      {text written : List ℕ} {status : ℕ} {h : List HistoryEntry} →
+      {text written : List ℕ} {status : ℕ} {h : List Entry} →
       GivesAll source.bytes source'.bytes text → length text ≤ longest → IsAnswerTo text task status h written → IsResult task source source' status h written
   -- it gave more bytes than a session may have; they come in blocks, so that at most a block too many was taken
   TooLong : LosesFront (longest + 1) (longest + block) source.bytes source'.bytes → IsResult task source source' 6 [] too_long_text
 
 -- how a run ends, by its source and its sink before and after
-pub data IsEnding (task : Task) (source source' sink sink' : Stream) : (status : ℕ) → List HistoryEntry → Type 0 where
+pub data IsEnding (task : Task) (source source' sink sink' : Stream) : (status : ℕ) → List Entry → Type 0 where
   -- the source had no fault, and its result was written, or as much of it as the sink or memory allowed
   Answered :
-      {status : ℕ} {h : List HistoryEntry} →
+      {status : ℕ} {h : List Entry} →
       source'.faults ≡ source.faults → IsWritten (IsResult task source source') sink sink' status h → IsEnding task source source' sink sink' status h
   -- the source failed, and nothing was written
   ReadFailed :
       HasFailed source source' → LosesFront 0 longest source.bytes source'.bytes → sink' ≡ sink → IsEnding task source source' sink sink' 4 []
 
 -- how a run ends that was asked for this
-pub data Ends (source source' sink sink' : Stream) (status : ℕ) (h : List HistoryEntry) : Mode → Type 0 where
+pub data Ends (source source' sink sink' : Stream) (status : ℕ) (h : List Entry) : Mode → Type 0 where
   OfTask : {task : Task} → IsEnding task source source' sink sink' status h → Ends source source' sink sink' status h (M.Read task)
   -- a demonstration reads nothing
   OfDemo : {sales : ℕ} → source' ≡ source → IsWritten (IsDemonstration sales) sink sink' status h → Ends source source' sink sink' status h (M.Demo sales)
 
 -- the status that a text deserves
 pub data Deserves (task : Task) (text : Text) : (status : ℕ) → Type 0 where
-  OfSession : {names : Table} {statements : List Sentence} → length text ≤ longest → IsSession text (form_of task) names statements → Deserves task text 0
+  OfSession : {names : Table} {statements : List Statement} → length text ≤ longest → IsSession text (form_of task) names statements → Deserves task text 0
   OfNoSession : length text ≤ longest → IsNoSession text (form_of task) → Deserves task text 1
   OfTooLong : longest < length text → Deserves task text 6
 

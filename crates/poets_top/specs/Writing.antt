@@ -4,7 +4,7 @@ use Rattle.std.specs.Io.KnownBytes.{Appends}
 use Rattle.poets_io.specs.Causes.{Rose}
 use Rattle.poets_io.specs.Streams.{AppendsPart}
 use Rattle.poets_lex.specs.Table.{Table}
-use Rattle.poets_call.specs.Calls.{HistoryEntry}
+use Rattle.poets_call.specs.Plain.{Entry}
 use Rattle.poets_print.specs.Lines.{history_text}
 
 -- a source or a sink: the bytes that it has left or holds, where it tells them, and its count of faults
@@ -22,18 +22,18 @@ pub record HasFailed (old new : Stream) : Type 0 where
   pub later : old.faults ≤ new.faults
 
 -- how it ends that an answer is written to a sink; it tells the status, the history, and the text that is to be written
-pub data IsWritten (Is : (status : ℕ) → List HistoryEntry → (text : List ℕ) → Type 0) (sink sink' : Stream) : (status : ℕ) → List HistoryEntry → Type 0 where
+pub data IsWritten (Is : (status : ℕ) → List Entry → (text : List ℕ) → Type 0) (sink sink' : Stream) : (status : ℕ) → List Entry → Type 0 where
   -- the text was written whole, without a fault
   Whole :
-      {status : ℕ} {h : List HistoryEntry} {text : List ℕ} →
+      {status : ℕ} {h : List Entry} {text : List ℕ} →
       Is status h text → Appends sink.bytes sink'.bytes text → sink'.faults ≡ sink.faults → IsWritten Is sink sink' status h
   -- the sink failed: a front of the text was written
   Failed :
-      {status : ℕ} {h : List HistoryEntry} {text : List ℕ} →
+      {status : ℕ} {h : List Entry} {text : List ℕ} →
       Is status h text → AppendsPart sink.bytes sink'.bytes text → HasFailed sink sink' → IsWritten Is sink sink' 5 h
   -- want of memory while the lines of a history are written: a front of them was written, and not all, without a fault
   MemoryBetween :
-      {h : List HistoryEntry} (names : Table) →
+      {h : List Entry} (names : Table) →
       Is 0 h (history_text names h) → h ≢ [] → AppendsPart sink.bytes sink'.bytes (history_text names h) → sink'.faults ≡ sink.faults → IsWritten Is sink sink' 3 h
   -- want of memory ahead of all writing: nothing was written, and no history is handed out
   MemoryBefore : sink' ≡ sink → IsWritten Is sink sink' 3 []

@@ -1,10 +1,11 @@
 //! The word `check`: what a book declares is counted.
-ghost use Rattle.std.specs.Prelude.{◌≡◌, IfOk, List as AnttList, string_bytes};
+ghost use Rattle.std.specs.Prelude.{◌≡◌, IfOk, string_bytes};
+ghost use Rattle.std.specs.Prelude as prelude;
 ghost use Rattle.poets_call.specs.Calls.{history_of};
-ghost use Rattle.poets_call.specs.Sentences.{Sentence};
+ghost use Rattle.poets_call.specs.Said.{Statement};
 ghost use Rattle.poets_session.specs.declared.form.Form.TheVariants as F;
 ghost use Rattle.poets_session.specs.Sessions.{Holds, Text};
-ghost use Rattle.poets_top.specs.Checking.{book_line as book_line_lem, book_text as book_text_lem};
+ghost use Rattle.poets_top.specs.Checking as checking;
 ghost use Rattle.poets_top.specs.Runs.{IsAnswerTo};
 ghost use Rattle.poets_top.specs.Sessions.{IsSessionOf};
 ghost use Rattle.poets_top.specs.Writing.{IsWritten, stream};
@@ -19,14 +20,14 @@ use std::alloc::Global;
 
 // The line of so many templates and reports.
 fn book_line(alloc: Global, templates: usize, reports: usize) -> Result<String, Memory>
-    ensures { IfOk result (λ line. string_bytes line ≡ book_line_lem templates reports) }
+    ensures { IfOk result (λ line. string_bytes line ≡ checking.book_line templates reports) }
 {
     Ok(format!(in alloc; "book: templates {templates}, reports {reports}\n")?)
 }
 
 // The line of a book that was checked.
 fn book_text(alloc: Global, session: &Session) -> Result<String, Memory>
-    ensures { (statements : AnttList Sentence) → Holds statements session.now → IfOk result (λ line. string_bytes line ≡ book_text_lem statements) }
+    ensures { (statements : prelude.List Statement) → Holds statements session.now → IfOk result (λ line. string_bytes line ≡ checking.book_text statements) }
 {
     let templates = session.rules.studied.book().templates.len();
     let reports = session.rules.reports.len();
@@ -35,7 +36,7 @@ fn book_text(alloc: Global, session: &Session) -> Result<String, Memory>
 
 /// Writes how many templates and reports a book has.
 pub(crate) fn check<K: Sink>(alloc: Global, sink: &mut K, session: &Session) -> Outcome
-    ensures { (text : Text) (statements : AnttList Sentence) → IsSessionOf F.Book text statements session.now →
+    ensures { (text : Text) (statements : prelude.List Statement) → IsSessionOf F.Book text statements session.now →
         IsWritten (IsAnswerTo text T.Check) (stream (K.held sink.old) (K.faults sink.old)) (stream (K.held sink.new) (K.faults sink.new))
         result.status (history_of result.history.items) }
 {

@@ -9,7 +9,7 @@ ghost use Rattle.poets_top.specs.Demonstrating.{HasDemonstrated};
 ghost use Rattle.poets_top.specs.Replaying.{HasReplayed};
 ghost use Rattle.poets_top.specs.Running.{HasRun};
 ghost use Rattle.poets_top.specs.Runs.{DeservesRun, Ends, IsAnswerTo, IsEnding, IsStatusOrMemory, NoFaultRose, longest};
-ghost use Rattle.poets_top.specs.Tasks.{form_of as form_of_lem};
+ghost use Rattle.poets_top.specs.Tasks as spec;
 ghost use Rattle.poets_words.specs.Words.{Asks, IsCommandForm};
 ghost use Rattle.poets_top.specs.Writing.{IsWritten, stream};
 ghost use Rattle.poets_words.specs.declared.mode.Mode.{Mode as SMode};
@@ -133,7 +133,7 @@ fn answer<K: Sink, G: Gate + Sync, R: Threads + Wait + Sync>(
 
 // Writes the line of a text's first fault.
 fn refuse<K: Sink>(alloc: Global, sink: &mut K, fault: &SessionFault) -> Outcome
-    ensures { (text : Text) (task : STask) → IsFirstFault text (form_of_lem task) fault.now →
+    ensures { (text : Text) (task : STask) → IsFirstFault text (spec.form_of task) fault.now →
         IsWritten (IsAnswerTo text task) (stream (K.held sink.old) (K.faults sink.old)) (stream (K.held sink.new) (K.faults sink.new))
         result.status (history_of result.history.items) }
 {

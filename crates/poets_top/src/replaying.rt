@@ -1,7 +1,7 @@
 //! The word `replay`: the calls of a journal are made.
-ghost use Rattle.std.specs.Prelude.{List as AnttList};
+ghost use Rattle.std.specs.Prelude as prelude;
 ghost use Rattle.poets_call.specs.Calls.{history_of};
-ghost use Rattle.poets_call.specs.Sentences.{Sentence};
+ghost use Rattle.poets_call.specs.Said.{Statement};
 ghost use Rattle.poets_session.specs.declared.form.Form.TheVariants as F;
 ghost use Rattle.poets_session.specs.Sessions.{Text};
 ghost use Rattle.poets_top.specs.Runs.{IsAnswerTo};
@@ -24,8 +24,8 @@ pub(crate) fn replay<K: Sink, R: Threads + Sync>(
     sink: &mut K,
     session: Session,
 ) -> Outcome
-    requires { (text : Text) × ((statements : AnttList Sentence) × IsSessionOf F.Journal text statements session) }
-    ensures { (text : Text) (statements : AnttList Sentence) → IsSessionOf F.Journal text statements session →
+    requires { (text : Text) × ((statements : prelude.List Statement) × IsSessionOf F.Journal text statements session) }
+    ensures { (text : Text) (statements : prelude.List Statement) → IsSessionOf F.Journal text statements session →
         IsWritten (IsAnswerTo text T.Replay) (stream (K.held sink.old) (K.faults sink.old)) (stream (K.held sink.new) (K.faults sink.new))
         result.status (history_of result.history.items) }
 {

@@ -1,7 +1,7 @@
 //! The word `run`: the clerks' scripts are made.
-ghost use Rattle.std.specs.Prelude.{List as AnttList};
+ghost use Rattle.std.specs.Prelude as prelude;
 ghost use Rattle.poets_call.specs.Calls.{history_of};
-ghost use Rattle.poets_call.specs.Sentences.{Sentence};
+ghost use Rattle.poets_call.specs.Said.{Statement};
 ghost use Rattle.poets_session.specs.Sessions.{Text};
 ghost use Rattle.poets_top.specs.Runs.{IsAnswerTo};
 ghost use Rattle.poets_top.specs.Sessions.{IsSessionOf};
@@ -27,8 +27,8 @@ pub(crate) fn run_scripts<K: Sink, G: Gate + Sync, R: Threads + Wait + Sync>(
     session: Session,
     gate: &G,
 ) -> Outcome
-    requires { (text : Text) × ((statements : AnttList Sentence) × IsSessionOf F.Clerks text statements session) }
-    ensures { (text : Text) (statements : AnttList Sentence) → IsSessionOf F.Clerks text statements session →
+    requires { (text : Text) × ((statements : prelude.List Statement) × IsSessionOf F.Clerks text statements session) }
+    ensures { (text : Text) (statements : prelude.List Statement) → IsSessionOf F.Clerks text statements session →
         IsWritten (IsAnswerTo text T.Run) (stream (K.held sink.old) (K.faults sink.old)) (stream (K.held sink.new) (K.faults sink.new))
         result.status (history_of result.history.items) }
 {

@@ -2,13 +2,14 @@
 ghost use Rattle.std.specs.Prelude.{◌≡◌, ◌≤◌, length, All, IfOk};
 ghost use Rattle.std.specs.Arc.{arc_value};
 ghost use Rattle.poets_clerks.specs.Histories.{HasScripts};
-ghost use Rattle.poets_call.specs.Calls.{calls_of, history_of, response_of};
+ghost use Rattle.poets_call.specs.Calls.{calls_of, history_of, reply_of};
 ghost use Rattle.poets_call.specs.Histories.{IsRightHistory};
-ghost use Rattle.poets_call.specs.Rules.{book_of, reports_of};
+ghost use Rattle.poets_call.specs.Rules.{book_of_rules, reports_of_rules};
 ghost use Rattle.poets_engine.specs.State.{commands_of};
-ghost use Rattle.poets_session.specs.Sessions.{requests_of};
-ghost use Rattle.poets_syntax.specs.Whole.{AreWholeDefinitions};
-ghost use Rattle.poets_top.specs.Scripts.{AreScriptsTaken, entries_of as entries_of_lem};
+ghost use Rattle.poets_session.specs.Sessions.{commands_in};
+ghost use Rattle.poets_syntax.specs.Whole.{IsWholeBook};
+ghost use Rattle.poets_top.specs.Scripts.{AreScriptsTaken};
+ghost use Rattle.poets_top.specs.Scripts as spec;
 
 use poets_call::{Command, Entry, Reply, Rules};
 use poets_clerks::{Gate, make_history};
@@ -26,11 +27,11 @@ pub(crate) fn make_scripts<G: Gate + Sync, R: Threads + Wait + Sync>(
     scripts: &List<List<Arc<Command>>>,
     gate: &G,
 ) -> Result<List<Entry>, Memory>
-    requires whole { AreWholeDefinitions (book_of rules) }
+    requires whole { IsWholeBook (book_of_rules rules) }
     requires taken { AreScriptsTaken rules scripts.now.items }
     requires few { length scripts.now.items ≤ 64 }
-    ensures right { IfOk result (λ entries. IsRightHistory (book_of rules) (reports_of rules) (history_of entries.items)) }
-    ensures scripts { IfOk result (λ entries. HasScripts (requests_of scripts.now.items) (calls_of (history_of entries.items))) }
+    ensures right { IfOk result (λ entries. IsRightHistory (book_of_rules rules) (reports_of_rules rules) (history_of entries.items)) }
+    ensures scripts { IfOk result (λ entries. HasScripts (commands_in scripts.now.items) (calls_of (history_of entries.items))) }
 {
     // The book is checked and guarded, and the marks are right.
     let _book = rules.studied.book();
@@ -48,7 +49,7 @@ fn entries_of(
     calls: &[(u32, Arc<Command>)],
     replies: List<Reply>,
 ) -> Result<List<Entry>, Memory>
-    ensures { IfOk result (λ entries. history_of entries.items ≡ entries_of_lem (commands_of calls.now) replies.items) }
+    ensures { IfOk result (λ entries. history_of entries.items ≡ spec.entries_of (commands_of calls.now) replies.items) }
 {
     let mut entries = List::new(alloc);
     for ((clerk, command), reply) in calls.iter().zip(replies.into_vec()) {

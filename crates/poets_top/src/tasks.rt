@@ -1,13 +1,13 @@
 //! The sessions that tasks take.
 ghost use Rattle.std.specs.Prelude.{◌≡◌};
-ghost use Rattle.poets_top.specs.Tasks.{form_of as form_of_lem};
+ghost use Rattle.poets_top.specs.Tasks as tasks;
 
 use poets_session::Form;
 use poets_words::Task;
 
 /// The form of the sessions that a task takes.
 pub(crate) fn form_of(task: Task) -> Form
-    ensures { result ≡ form_of_lem task }
+    ensures { result ≡ tasks.form_of task }
 {
     match task {
         Task::Check => Form::Book,

@@ -1,5 +1,6 @@
 //! The clerks go, and the machine comes back.
-ghost use Rattle.std.specs.Prelude.{◌≡◌, ℕ, ◌<◌, List as AnttList, [], length, All};
+ghost use Rattle.std.specs.Prelude.{◌≡◌, ℕ, ◌<◌, [], length, All};
+ghost use Rattle.std.specs.Prelude as prelude;
 ghost use Rattle.poets_turn.specs.Clerks.{AreAll, KnowsClerk, IsClerkIn, front, calls, number, clerk_count, turn_frame, IsClerkOf};
 ghost use Rattle.poets_turn.specs.Turnstile.{OnlyClerks};
 ghost use Rattle.poets_turn.specs.declared.view.Stage.TheVariants.{Idle};
@@ -58,7 +59,7 @@ impl<M: Machine> Turn<M> {
         ensures table { seat.new.table_id ≡ seat.old.table_id }
         ensures idle { (seat.new.me.0.stage ≡ Idle) × (0 < seat.new.me.0.number) × (seat.new.me.0.heard ≡ []) }
         ensures clerk { KnowsClerk seat.new.me.0 (number clerk) (front clerk) (calls clerk) }
-        ensures others { (k : ℕ) (saw : AnttList (ℕ × M.Call)) (made : AnttList M.Call) → KnowsClerk seat.old.me.0 k saw made → KnowsClerk seat.new.me.0 k saw made }
+        ensures others { (k : ℕ) (saw : prelude.List (ℕ × M.Call)) (made : prelude.List M.Call) → KnowsClerk seat.old.me.0 k saw made → KnowsClerk seat.new.me.0 k saw made }
     {
         let ClerkOf {
             seat: other,

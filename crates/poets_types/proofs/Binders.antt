@@ -8,7 +8,8 @@ use Rattle.std.proofs.lemmas.List.Folds.{list_any-append}
 use Rattle.poets_value.specs.declared.value.Name.{Name}
 use Rattle.poets_expr.specs.Env.{same_name}
 use Rattle.poets_syntax.specs.declared.term.Param.{Param}
-use Rattle.poets_syntax.specs.TypeOf.{Twice, Fails, type_in}
+use Rattle.poets_syntax.specs.Plain.{Twice}
+use Rattle.poets_syntax.specs.TypeOf.{Fails, type_in}
 use Rattle.poets_syntax.specs.Typed.{is_among, check_new, scope_of}
 use Rattle.poets_types.proofs.Scopes.{is_some-type_in}
 

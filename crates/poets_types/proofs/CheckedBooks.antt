@@ -13,20 +13,22 @@ use Rattle.poets_value.specs.declared.value.Name.{Name}
 use Rattle.poets_value.specs.declared.value.Ty.{Ty}
 use Rattle.poets_value.specs.declared.value.Ty.TheVariants as T
 use Rattle.poets_expr.specs.Env.{Declared, same_name}
-use Rattle.poets_syntax.specs.Book.{Definition, Definitions, template_in}
+use Rattle.poets_syntax.specs.Plain.{Book, Twice}
+use Rattle.poets_syntax.specs.Book.{template_in}
 use Rattle.poets_syntax.specs.Checked.{IsCheckedBook, names_of_templates_and}
-use Rattle.poets_syntax.specs.TypeOf.{Twice, Verdict, Passes, Fails, Scope, type_in}
+use Rattle.poets_syntax.specs.TypeOf.{Verdict, Passes, Fails, Scope, type_in}
 use Rattle.poets_syntax.specs.Typed.{is_among, in_use, check_new, check_contract, scope_of, IsTypedTemplate}
-use Rattle.poets_report.specs.Query.{Query}
-use Rattle.poets_call.specs.Sentences.{Sentence, Agents, Kinds, Template, Report, Clerk, Journal, Command, Numbered}
-use Rattle.poets_call.specs.Declarations.{agents_and_kinds, declared_by, template_in_statement, book_of, reports_of}
-use Rattle.poets_call.specs.TypedSentences.{NumberedFault, report_names, check_template, check_sentence, or_else, twice_from, mistyped_from}
+use Rattle.poets_call.specs.Said.{Statement, Agents, Kinds, Template, Report, Clerk, Journal, Command, Numbered}
+use Rattle.poets_call.specs.Declarations.{agents_and_kinds, declared_by, template_in_statement, book_from, reports_of}
+use Rattle.poets_call.specs.Plain.{TypeFault}
+use Rattle.poets_call.specs.TypedStatements.{report_names, check_template, check_statement, or_else, twice_from, mistyped_from}
 use Rattle.poets_syntax.proofs.TypedGivens.{neither}
 use Rattle.poets_syntax.proofs.Typedness.{passed}
 use Rattle.poets_types.proofs.Scopes.{same_name_laws}
+use Rattle.poets_report.specs.Plain as plain
 
 -- no fault at a statement, and none after it
-pub or_else-none : (check : Verdict (Unit {0})) (n : ℕ) (others : NumberedFault) → or_else check n others ≡ None → (check ≡ Passes tt) × (others ≡ None)
+pub or_else-none : (check : Verdict (Unit {0})) (n : ℕ) (others : TypeFault) → or_else check n others ≡ None → (check ≡ Passes tt) × (others ≡ None)
 or_else-none (Passes _) n others e = (refl, e)
 or_else-none (Fails f) n others e = absurd cc
 
@@ -49,8 +51,8 @@ found_here : {A : Type 0} (P : A → Type 0) (b : Bool) (t u : A) (o : Option A)
 found_here P true t u o e here later = let same : t ≡ u = cc in subst P same here
 found_here P false t u o e here later = later e
 
-typed_from : (book : Definitions) (reports : List Query) (n : ℕ) (statements : List Sentence) → mistyped_from n book reports statements ≡ None →
-    (f : Name) (t : Definition) → template_in (flat_map template_in_statement statements) f ≡ Some t → IsTypedTemplate book (report_names reports) t
+typed_from : (book : Book) (reports : List plain.Report) (n : ℕ) (statements : List Statement) → mistyped_from n book reports statements ≡ None →
+    (f : Name) (t : plain.Template) → template_in (flat_map template_in_statement statements) f ≡ Some t → IsTypedTemplate book (report_names reports) t
 typed_from book reports n [] e f t h = absurd cc
 typed_from book reports n (Template u ∷ statements) e f t h =
     let parts = or_else-none (check_template book (report_names reports) u) n (mistyped_from (n + 1) book reports statements) e in
@@ -61,11 +63,11 @@ typed_from book reports n (Kinds names ∷ statements) e f t h = typed_from book
 typed_from book reports n (Clerk ∷ statements) e f t h = typed_from book reports (n + 1) statements e f t h
 typed_from book reports n (Journal ∷ statements) e f t h = typed_from book reports (n + 1) statements e f t h
 typed_from book reports n (Report q ∷ statements) e f t h =
-    typed_from book reports (n + 1) statements (or_else-none (check_sentence book reports (Report q)) n (mistyped_from (n + 1) book reports statements) e).1 f t h
+    typed_from book reports (n + 1) statements (or_else-none (check_statement book reports (Report q)) n (mistyped_from (n + 1) book reports statements) e).1 f t h
 typed_from book reports n (Command r ∷ statements) e f t h =
-    typed_from book reports (n + 1) statements (or_else-none (check_sentence book reports (Command r)) n (mistyped_from (n + 1) book reports statements) e).1 f t h
+    typed_from book reports (n + 1) statements (or_else-none (check_statement book reports (Command r)) n (mistyped_from (n + 1) book reports statements) e).1 f t h
 typed_from book reports n (Numbered c r ∷ statements) e f t h =
-    typed_from book reports (n + 1) statements (or_else-none (check_sentence book reports (Numbered c r)) n (mistyped_from (n + 1) book reports statements) e).1 f t h
+    typed_from book reports (n + 1) statements (or_else-none (check_statement book reports (Numbered c r)) n (mistyped_from (n + 1) book reports statements) e).1 f t h
 
 -- ---- what is declared beside them
 
@@ -75,7 +77,7 @@ declared_among : (P : Ty → Type 0) (s : Ty) (names : List Name) (others : Scop
 declared_among P s [] others x t e here later = later e
 declared_among P s (y ∷ names) others x t e here later = found_here P (same_name y x) s t _ e here (λ f. declared_among P s names others x t f here later)
 
-agent_or_kind : (statements : List Sentence) (x : Name) (t : Ty) → declared_by statements x ≡ Some t → (t ≡ T.Agent) ⊎ (t ≡ T.Kind)
+agent_or_kind : (statements : List Statement) (x : Name) (t : Ty) → declared_by statements x ≡ Some t → (t ≡ T.Agent) ⊎ (t ≡ T.Kind)
 agent_or_kind [] x t e = absurd cc
 agent_or_kind (Agents names ∷ statements) x t e = declared_among (λ u. (u ≡ T.Agent) ⊎ (u ≡ T.Kind)) T.Agent names (flat_map agents_and_kinds statements) x t e (inl refl) (agent_or_kind statements x t)
 agent_or_kind (Kinds names ∷ statements) x t e = declared_among (λ u. (u ≡ T.Agent) ⊎ (u ≡ T.Kind)) T.Kind names (flat_map agents_and_kinds statements) x t e (inr refl) (agent_or_kind statements x t)
@@ -156,10 +158,10 @@ more_declared earlier others t declared names e h =
     }
 
 -- the names of the templates and of the reports
-template_and_report_names : List Sentence → List Name
-template_and_report_names statements = names_of_templates_and (book_of statements) (report_names (reports_of statements))
+template_and_report_names : List Statement → List Name
+template_and_report_names statements = names_of_templates_and (book_from statements) (report_names (reports_of statements))
 
-names_new : (n : ℕ) (earlier : List Name) (statements : List Sentence) → twice_from n earlier statements ≡ None → AreNew earlier (declared_by statements) (template_and_report_names statements)
+names_new : (n : ℕ) (earlier : List Name) (statements : List Statement) → twice_from n earlier statements ≡ None → AreNew earlier (declared_by statements) (template_and_report_names statements)
 unfolding template_and_report_names IsDistinct
 names_new n earlier [] e = record { apart = tt; free = All-nil (IsFree earlier (declared_by [])); undeclared = λ x among. refl }
 names_new n earlier (Template t ∷ statements) e =
@@ -167,7 +169,7 @@ names_new n earlier (Template t ∷ statements) e =
     one_more earlier (declared_by statements) t.name (template_and_report_names statements) (check_new-one (is_among earlier) t.name parts.0) (names_new (n + 1) (t.name ∷ earlier) statements parts.1)
 names_new n earlier (Report q ∷ statements) e =
     let parts = or_else-none (check_new (is_among earlier) [] (q.name ∷ [])) n (twice_from (n + 1) (q.name ∷ earlier) statements) e in
-    let templates = map (λ (t : Definition). t.name) (flat_map template_in_statement statements) in
+    let templates = map (λ (t : plain.Template). t.name) (flat_map template_in_statement statements) in
     let reports = report_names (reports_of statements) in
     AreNew-IsPermutation earlier (declared_by statements) (q.name ∷ (templates ++ reports)) (templates ++ q.name ∷ reports)
     (IsPermutation-sym (templates ++ q.name ∷ reports) (q.name ∷ (templates ++ reports)) (IsPermutation-middle templates q.name reports))
@@ -183,14 +185,14 @@ names_new n earlier (Journal ∷ statements) e = names_new (n + 1) earlier state
 names_new n earlier (Command r ∷ statements) e = names_new (n + 1) earlier statements e
 names_new n earlier (Numbered c r ∷ statements) e = names_new (n + 1) earlier statements e
 
-pub IsCheckedBook-none : (statements : List Sentence) (book : Definitions) (reports : List Query) → twice_from 1 [] statements ≡ None → mistyped_from 1 book reports statements ≡ None →
-    book ≡ book_of statements → reports ≡ reports_of statements → IsCheckedBook book (report_names reports)
+pub IsCheckedBook-none : (statements : List Statement) (book : Book) (reports : List plain.Report) → twice_from 1 [] statements ≡ None → mistyped_from 1 book reports statements ≡ None →
+    book ≡ book_from statements → reports ≡ reports_of statements → IsCheckedBook book (report_names reports)
 unfolding template_and_report_names IsFree
 IsCheckedBook-none statements book reports twice mistyped b r =
     let new = names_new 1 [] statements twice in
     let names = template_and_report_names statements in
     rw (b, r) (record {
-      typed = typed_from (book_of statements) (reports_of statements) 1 statements (rw (b, r) at mistyped);
+      typed = typed_from (book_from statements) (reports_of statements) 1 statements (rw (b, r) at mistyped);
       distinct = new.apart;
       undeclared = All-weaker (IsFree [] (declared_by statements)) (λ f. declared_by statements f ≡ None) (λ x f. f.1) names new.free;
       agent_or_kind = agent_or_kind statements;

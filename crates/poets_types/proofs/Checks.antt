@@ -1,7 +1,8 @@
 -- Checks as the code answers them.
 use Rattle.std.proofs.Common.{◌≡◌, Result, Ok, Err, refl}
 use Rattle.std.specs.Prelude.{IfErr}
-use Rattle.poets_syntax.specs.TypeOf.{Twice, Unknown, WrongCount, WrongType, Verdict, Passes, Fails, ◌>>=◌}
+use Rattle.poets_syntax.specs.Plain.{Twice, Unknown, WrongCount, WrongType}
+use Rattle.poets_syntax.specs.TypeOf.{Verdict, Passes, Fails, ◌>>=◌}
 use Rattle.poets_types.specs.declared.cause.TypeCause.{TypeCause}
 use Rattle.poets_types.specs.Faults.{IsFaultOf}
 use Rattle.poets_types.specs.Answers.{answer_of, IsAnswerOf}

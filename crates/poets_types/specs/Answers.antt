@@ -1,12 +1,14 @@
 -- Checks as the code answers them.
 use Rattle.std.specs.Prelude.{◌≡◌, Result, Ok, Err}
-use Rattle.poets_syntax.specs.TypeOf.{Fault, Twice, Unknown, WrongCount, WrongType, Verdict, Passes, Fails}
+use Rattle.poets_syntax.specs.Plain.{Twice, Unknown, WrongCount, WrongType}
+use Rattle.poets_syntax.specs.TypeOf.{Verdict, Passes, Fails}
+use Rattle.poets_syntax.specs.Plain as plain
 use Rattle.poets_types.specs.declared.cause.TypeCause.{TypeCause}
 use Rattle.poets_types.specs.declared.cause.TypeCause.TheVariants as C
 use Rattle.poets_types.specs.Faults.{IsFaultOf}
 
 -- the cause that tells a fault
-abbrev pub cause_of : Fault → TypeCause
+abbrev pub cause_of : plain.TypeCause → TypeCause
 cause_of (Twice x) = C.Twice x
 cause_of (Unknown x) = C.Unknown x
 cause_of (WrongCount x wanted found) = C.WrongCount x wanted found

@@ -1,6 +1,7 @@
 //! New names: parameters and binders.
 ghost use Rattle.std.specs.Prelude.{◌≡◌, ◌||◌, []};
-ghost use Rattle.poets_syntax.specs.Typed.{in_use, is_among, check_new as check_new_lem, scope_of, types_bound};
+ghost use Rattle.poets_syntax.specs.Typed.{in_use, is_among, scope_of, types_bound};
+ghost use Rattle.poets_syntax.specs.Typed as typed;
 ghost use Rattle.poets_types.specs.Answers.{answer_of};
 ghost use Rattle.poets_types.specs.Indices.{book_in, reports_in};
 
@@ -18,7 +19,7 @@ fn is_taken(index: &Index, earlier: &[Name], name: Name) -> bool
 
 // No name is in use, and none stands twice. This is for short lists.
 pub(crate) fn check_new(index: &Index, names: &[Name]) -> Result<(), TypeCause>
-    ensures { result ≡ answer_of (check_new_lem (in_use (book_in index.now) (reports_in index.now)) [] names.now) }
+    ensures { result ≡ answer_of (typed.check_new (in_use (book_in index.now) (reports_in index.now)) [] names.now) }
 {
     for (place, name) in names.iter().enumerate() {
         if is_taken(index, &names[..place], *name) {

@@ -3,18 +3,19 @@ ghost use Rattle.std.specs.Prelude.{◌≡◌, ◌++◌, None, IfOk, IfErr, map}
 ghost use Rattle.std.specs.Option.{option_or};
 ghost use Rattle.poets_value.specs.declared.value.Name.{Name};
 ghost use Rattle.poets_expr.specs.Env.{declared_of};
-ghost use Rattle.poets_syntax.specs.Book.{definition_of, definitions_of};
+ghost use Rattle.poets_syntax.specs.Book.{template_of, book_of};
 ghost use Rattle.poets_syntax.specs.Checked.{IsCheckedBook};
 ghost use Rattle.poets_syntax.specs.TypeOf.{type_in};
-ghost use Rattle.poets_report.specs.Query.{query_of};
-ghost use Rattle.poets_call.specs.Sentences.{sentence_of, sentences_of};
-ghost use Rattle.poets_call.specs.Declarations.{agents_and_kinds, template_in_statement, report_in_statement, book_of, reports_of};
-ghost use Rattle.poets_call.specs.TypedSentences.{report_names, check_sentence, mistyped_from, first_fault};
+ghost use Rattle.poets_report.specs.Reports.{report_of};
+ghost use Rattle.poets_call.specs.Statements.{statement_of, statements_of};
+ghost use Rattle.poets_call.specs.Declarations.{agents_and_kinds, template_in_statement, report_in_statement, book_from, reports_of};
+ghost use Rattle.poets_call.specs.TypedStatements.{report_names, mistyped_from, first_fault};
+ghost use Rattle.poets_call.specs.TypedStatements as typed_statements;
 ghost use Rattle.poets_types.specs.Faults.{IsFirstFault};
 ghost use Rattle.poets_types.specs.Answers.{IsAnswerOf};
 ghost use Rattle.poets_types.specs.Indices.{book_in};
 
-use crate::command::check_request;
+use crate::command::check_command;
 use crate::declared::check_names;
 use crate::index::Index;
 use crate::table::enter;
@@ -49,7 +50,7 @@ fn declare(decls: &mut Decls, names: &[Name], ty: Ty) -> Result<(), Memory>
 
 // The same template.
 fn copy_template(alloc: Global, template: &Template) -> Result<Template, Memory>
-    ensures { IfOk result (λ t. definition_of t ≡ definition_of template.now) }
+    ensures { IfOk result (λ t. template_of t ≡ template_of template.now) }
 {
     Ok(Template {
         name: template.name,
@@ -60,9 +61,9 @@ fn copy_template(alloc: Global, template: &Template) -> Result<Template, Memory>
 
 // Adds what a statement declares.
 fn add(alloc: Global, checked: &mut Checked, statement: &Statement) -> Result<(), Memory>
-    ensures declared { IfOk result (λ _. (x : Name) → declared_of checked.new.book.decls.names x ≡ option_or (declared_of checked.old.book.decls.names x) (type_in (λ _. None) (agents_and_kinds (sentence_of statement.now)) x)) }
-    ensures templates { IfOk result (λ _. map definition_of checked.new.book.templates.items ≡ map definition_of checked.old.book.templates.items ++ template_in_statement (sentence_of statement.now)) }
-    ensures reports { IfOk result (λ _. map query_of checked.new.reports.items ≡ map query_of checked.old.reports.items ++ report_in_statement (sentence_of statement.now)) }
+    ensures declared { IfOk result (λ _. (x : Name) → declared_of checked.new.book.decls.names x ≡ option_or (declared_of checked.old.book.decls.names x) (type_in (λ _. None) (agents_and_kinds (statement_of statement.now)) x)) }
+    ensures templates { IfOk result (λ _. map template_of checked.new.book.templates.items ≡ map template_of checked.old.book.templates.items ++ template_in_statement (statement_of statement.now)) }
+    ensures reports { IfOk result (λ _. map report_of checked.new.reports.items ≡ map report_of checked.old.reports.items ++ report_in_statement (statement_of statement.now)) }
 {
     match statement {
         Statement::Agents(names) => {
@@ -83,8 +84,8 @@ fn add(alloc: Global, checked: &mut Checked, statement: &Statement) -> Result<()
 
 // What the statements declare.
 fn gather(alloc: Global, statements: &[Statement]) -> Result<Checked, Memory>
-    ensures book { IfOk result (λ c. definitions_of c.book ≡ book_of (sentences_of statements.now)) }
-    ensures reports { IfOk result (λ c. map query_of c.reports.items ≡ reports_of (sentences_of statements.now)) }
+    ensures book { IfOk result (λ c. book_of c.book ≡ book_from (statements_of statements.now)) }
+    ensures reports { IfOk result (λ c. map report_of c.reports.items ≡ reports_of (statements_of statements.now)) }
 {
     let mut checked = Checked {
         book: Book {
@@ -104,13 +105,13 @@ fn gather(alloc: Global, statements: &[Statement]) -> Result<Checked, Memory>
 // The statement is typed in the book.
 #[tactic(auto, using(crate::proofs::Checks::answer_told))]
 fn check_statement(alloc: Global, index: &Index, statement: &Statement) -> Result<(), TypeCause>
-    ensures { IsAnswerOf (check_sentence (book_in index.now) (map query_of index.now.reports.now) (sentence_of statement.now)) result }
+    ensures { IsAnswerOf (typed_statements.check_statement (book_in index.now) (map report_of index.now.reports.now) (statement_of statement.now)) result }
 {
     match statement {
         Statement::Template(template) => check_template(alloc, index, template),
         Statement::Report(report) => check_report(alloc, index, report),
         Statement::Command(command) | Statement::Numbered(_, command) => {
-            check_request(index, command)
+            check_command(index, command)
         }
         Statement::Agents(_) | Statement::Kinds(_) | Statement::Clerk | Statement::Journal => {
             Ok(())
@@ -125,8 +126,8 @@ fn check_statements(
     reports: &[Report],
     statements: &[Statement],
 ) -> Result<(), TypeFault>
-    ensures passes { IfOk result (λ _. mistyped_from 1 (definitions_of book.now) (map query_of reports.now) (sentences_of statements.now) ≡ None) }
-    ensures fault { IfErr result (IsFirstFault (mistyped_from 1 (definitions_of book.now) (map query_of reports.now) (sentences_of statements.now))) }
+    ensures passes { IfOk result (λ _. mistyped_from 1 (book_of book.now) (map report_of reports.now) (statements_of statements.now) ≡ None) }
+    ensures fault { IfErr result (IsFirstFault (mistyped_from 1 (book_of book.now) (map report_of reports.now) (statements_of statements.now))) }
 {
     let index = Index::new(alloc, book, reports)?;
     for (place, statement) in statements.iter().enumerate() {
@@ -143,11 +144,11 @@ fn check_statements(
 /// Checks the statements of a book or of a whole session, and answers what they declare.
 /// An error tells the first fault: names that are declared twice come first, and then types.
 pub fn check_book(alloc: Global, statements: &[Statement]) -> Result<Checked, TypeFault>
-    ensures passes { IfOk result (λ _. first_fault (sentences_of statements.now) ≡ None) }
-    ensures book { IfOk result (λ c. definitions_of c.book ≡ book_of (sentences_of statements.now)) }
-    ensures reports { IfOk result (λ c. map query_of c.reports.items ≡ reports_of (sentences_of statements.now)) }
-    ensures typed { IfOk result (λ c. IsCheckedBook (definitions_of c.book) (report_names (map query_of c.reports.items))) }
-    ensures fault { IfErr result (IsFirstFault (first_fault (sentences_of statements.now))) }
+    ensures passes { IfOk result (λ _. first_fault (statements_of statements.now) ≡ None) }
+    ensures book { IfOk result (λ c. book_of c.book ≡ book_from (statements_of statements.now)) }
+    ensures reports { IfOk result (λ c. map report_of c.reports.items ≡ reports_of (statements_of statements.now)) }
+    ensures typed { IfOk result (λ c. IsCheckedBook (book_of c.book) (report_names (map report_of c.reports.items))) }
+    ensures fault { IfErr result (IsFirstFault (first_fault (statements_of statements.now))) }
 {
     check_names(alloc, statements)?;
     let checked = gather(alloc, statements)?;

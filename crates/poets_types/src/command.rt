@@ -2,14 +2,15 @@
 ghost use Rattle.std.specs.Prelude.{◌≡◌, [], IfOk, IfErr, map};
 ghost use Rattle.poets_expr.specs.Env.{declared_of};
 ghost use Rattle.poets_expr.specs.Expression.{expression_of};
-ghost use Rattle.poets_syntax.specs.Book.{definitions_of};
+ghost use Rattle.poets_syntax.specs.Book.{book_of};
 ghost use Rattle.poets_syntax.specs.Contract.{contract_of};
 ghost use Rattle.poets_syntax.specs.TypeOf.{Passes};
-ghost use Rattle.poets_syntax.specs.Typed.{check_contract as check_contract_lem};
-ghost use Rattle.poets_report.specs.Query.{query_of};
-ghost use Rattle.poets_call.specs.Calls.{request_of};
+ghost use Rattle.poets_syntax.specs.Typed as typed;
+ghost use Rattle.poets_report.specs.Reports.{report_of};
+ghost use Rattle.poets_call.specs.Calls.{command_of};
 ghost use Rattle.poets_call.specs.Replies.{report_in};
-ghost use Rattle.poets_call.specs.TypedSentences.{report_names, check_declared as check_declared_lem, check_event as check_event_lem, check_report_arguments as check_report_arguments_lem, check_request as check_request_lem};
+ghost use Rattle.poets_call.specs.TypedStatements.{report_names};
+ghost use Rattle.poets_call.specs.TypedStatements as typed_statements;
 ghost use Rattle.poets_types.specs.Faults.{IsFaultOf};
 ghost use Rattle.poets_types.specs.Answers.{answer_of};
 ghost use Rattle.poets_types.specs.Indices.{book_in};
@@ -19,7 +20,7 @@ use crate::contract::{check_arguments, check_contract};
 use crate::expression::{must_be, name_type};
 use crate::index::Index;
 use crate::scope::Scope;
-use poets_call::{Command, report_of};
+use poets_call::{Command, named_report};
 use poets_expr::{Decls, Expr};
 use poets_report::Report;
 use poets_syntax::{Book, Term};
@@ -28,7 +29,7 @@ use std::alloc::Global;
 
 // The name is declared as the wanted one of an agent and a kind.
 fn check_declared(decls: &Decls, wanted: Ty, name: Name) -> Result<(), TypeCause>
-    ensures { result ≡ answer_of (check_declared_lem (declared_of decls.now.names) wanted name) }
+    ensures { result ≡ answer_of (typed_statements.check_declared (declared_of decls.now.names) wanted name) }
 {
     let found = name_type(name, decls.names.get(&name).copied())?;
     must_be(wanted, found)
@@ -36,7 +37,7 @@ fn check_declared(decls: &Decls, wanted: Ty, name: Name) -> Result<(), TypeCause
 
 // The event's agents and its kind are declared as such.
 fn check_event(decls: &Decls, event: &Event) -> Result<(), TypeCause>
-    ensures { result ≡ answer_of (check_event_lem (declared_of decls.now.names) event.now) }
+    ensures { result ≡ answer_of (typed_statements.check_event (declared_of decls.now.names) event.now) }
 {
     check_declared(decls, Ty::Agent, event.sender)?;
     check_declared(decls, Ty::Agent, event.receiver)?;
@@ -50,9 +51,9 @@ fn check_report_arguments(
     name: Name,
     args: &[Expr],
 ) -> Result<(), TypeCause>
-    ensures { result ≡ answer_of (check_report_arguments_lem (declared_of decls.now.names) name (report_in (map query_of reports.now) name) (map expression_of args.now)) }
+    ensures { result ≡ answer_of (typed_statements.check_report_arguments (declared_of decls.now.names) name (report_in (map report_of reports.now) name) (map expression_of args.now)) }
 {
-    match report_of(reports, name) {
+    match named_report(reports, name) {
         None => Err(TypeCause::Unknown { name }),
         Some(report) => {
             check_arguments(decls, &Scope::Empty, name, report.params.as_slice(), args)
@@ -61,8 +62,8 @@ fn check_report_arguments(
 }
 
 // The command is typed.
-pub(crate) fn check_request(index: &Index, command: &Command) -> Result<(), TypeCause>
-    ensures { result ≡ answer_of (check_request_lem (book_in index.now) (map query_of index.now.reports.now) (request_of command.now)) }
+pub(crate) fn check_command(index: &Index, command: &Command) -> Result<(), TypeCause>
+    ensures { result ≡ answer_of (typed_statements.check_command (book_in index.now) (map report_of index.now.reports.now) (command_of command.now)) }
 {
     let decls = &index.book.decls;
     match command {
@@ -85,8 +86,8 @@ pub fn check_term(
     reports: &[Report],
     term: &Term,
 ) -> Result<(), TypeCause>
-    ensures passes { IfOk result (λ _. check_contract_lem (definitions_of book.now) (report_names (map query_of reports.now)) [] (contract_of term.now) ≡ Passes tt) }
-    ensures fault { IfErr result (IsFaultOf (check_contract_lem (definitions_of book.now) (report_names (map query_of reports.now)) [] (contract_of term.now))) }
+    ensures passes { IfOk result (λ _. typed.check_contract (book_of book.now) (report_names (map report_of reports.now)) [] (contract_of term.now) ≡ Passes tt) }
+    ensures fault { IfErr result (IsFaultOf (typed.check_contract (book_of book.now) (report_names (map report_of reports.now)) [] (contract_of term.now))) }
 {
     let index = Index::new(alloc, book, reports)?;
     check_contract(&index, &Scope::Empty, term)
@@ -101,9 +102,9 @@ pub fn check_call(
     reports: &[Report],
     command: &Command,
 ) -> Result<(), TypeCause>
-    ensures passes { IfOk result (λ _. check_request_lem (definitions_of book.now) (map query_of reports.now) (request_of command.now) ≡ Passes tt) }
-    ensures fault { IfErr result (IsFaultOf (check_request_lem (definitions_of book.now) (map query_of reports.now) (request_of command.now))) }
+    ensures passes { IfOk result (λ _. typed_statements.check_command (book_of book.now) (map report_of reports.now) (command_of command.now) ≡ Passes tt) }
+    ensures fault { IfErr result (IsFaultOf (typed_statements.check_command (book_of book.now) (map report_of reports.now) (command_of command.now))) }
 {
     let index = Index::new(alloc, book, reports)?;
-    check_request(&index, command)
+    check_command(&index, command)
 }

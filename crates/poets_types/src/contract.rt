@@ -3,7 +3,7 @@ ghost use Rattle.std.specs.Prelude.{◌≡◌, map, option_map};
 ghost use Rattle.poets_expr.specs.Env.{declared_of};
 ghost use Rattle.poets_expr.specs.Expression.{expression_of};
 ghost use Rattle.poets_syntax.specs.Contract.{contract_of};
-ghost use Rattle.poets_syntax.specs.Typed.{check_args as check_args_lem, check_arguments as check_arguments_lem, check_contract as check_contract_lem};
+ghost use Rattle.poets_syntax.specs.Typed as typed;
 ghost use Rattle.poets_types.specs.Answers.{answer_of};
 ghost use Rattle.poets_types.specs.Indices.{book_in, reports_in};
 ghost use Rattle.poets_types.specs.Scopes.{names_in};
@@ -24,7 +24,7 @@ fn check_args(
     params: &[Param],
     args: &[Expr],
 ) -> Result<(), TypeCause>
-    ensures { result ≡ answer_of (check_args_lem (declared_of decls.now.names) (names_in scope.now) params.now (map expression_of args.now)) }
+    ensures { result ≡ answer_of (typed.check_args (declared_of decls.now.names) (names_in scope.now) params.now (map expression_of args.now)) }
 {
     for (param, arg) in params.iter().zip(args) {
         check_type(decls, scope, param.ty, arg)?;
@@ -40,7 +40,7 @@ pub(crate) fn check_arguments(
     params: &[Param],
     args: &[Expr],
 ) -> Result<(), TypeCause>
-    ensures { result ≡ answer_of (check_arguments_lem (declared_of decls.now.names) (names_in scope.now) name params.now (map expression_of args.now)) }
+    ensures { result ≡ answer_of (typed.check_arguments (declared_of decls.now.names) (names_in scope.now) name params.now (map expression_of args.now)) }
 {
     if params.len() != args.len() {
         return Err(TypeCause::WrongCount {
@@ -54,7 +54,7 @@ pub(crate) fn check_arguments(
 
 // The contract is typed in the scope.
 pub(crate) fn check_contract(index: &Index, scope: &Scope, term: &Term) -> Result<(), TypeCause>
-    ensures { result ≡ answer_of (check_contract_lem (book_in index.now) (reports_in index.now) (names_in scope.now) (contract_of term.now)) }
+    ensures { result ≡ answer_of (typed.check_contract (book_in index.now) (reports_in index.now) (names_in scope.now) (contract_of term.now)) }
 {
     let decls = &index.book.decls;
     match term {

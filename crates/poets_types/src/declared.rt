@@ -4,9 +4,9 @@ ghost use Rattle.std.specs.BTreeSet.{contains};
 ghost use Rattle.poets_value.specs.declared.value.Name.{Name};
 ghost use Rattle.poets_value.specs.Names.{name_cmp};
 ghost use Rattle.poets_syntax.specs.Typed.{is_among, check_new};
-ghost use Rattle.poets_call.specs.Sentences.{sentence_of, sentences_of};
-ghost use Rattle.poets_call.specs.Declarations.{names_declared as names_declared_lem};
-ghost use Rattle.poets_call.specs.TypedSentences.{twice_from};
+ghost use Rattle.poets_call.specs.Statements.{statement_of, statements_of};
+ghost use Rattle.poets_call.specs.Declarations as declarations;
+ghost use Rattle.poets_call.specs.TypedStatements.{twice_from};
 ghost use Rattle.poets_types.specs.Faults.{IsFirstFault};
 ghost use Rattle.poets_types.specs.Answers.{IsAnswerOf};
 
@@ -20,7 +20,7 @@ use std::slice;
 
 // The names that a statement declares, in order.
 fn names_declared(statement: &Statement) -> &[Name]
-    ensures { result.now ≡ names_declared_lem (sentence_of statement.now) }
+    ensures { result.now ≡ declarations.names_declared (statement_of statement.now) }
 {
     match statement {
         Statement::Agents(names) | Statement::Kinds(names) => names.as_slice(),
@@ -45,8 +45,8 @@ fn add_names(seen: &mut BTreeSet<Name>, names: &[Name]) -> Result<(), TypeCause>
 
 // No statement declares a name that was declared before.
 pub(crate) fn check_names(alloc: Global, statements: &[Statement]) -> Result<(), TypeFault>
-    ensures passes { IfOk result (λ _. twice_from 1 [] (sentences_of statements.now) ≡ None) }
-    ensures fault { IfErr result (IsFirstFault (twice_from 1 [] (sentences_of statements.now))) }
+    ensures passes { IfOk result (λ _. twice_from 1 [] (statements_of statements.now) ≡ None) }
+    ensures fault { IfErr result (IsFirstFault (twice_from 1 [] (statements_of statements.now))) }
 {
     let mut seen = BTreeSet::new(alloc);
     for (place, statement) in statements.iter().enumerate() {

@@ -3,8 +3,8 @@ ghost use Rattle.std.specs.Prelude.{◌≡◌};
 ghost use Rattle.poets_value.specs.declared.value.Ty.TheVariants as T;
 ghost use Rattle.poets_expr.specs.Env.{declared_of};
 ghost use Rattle.poets_expr.specs.Expression.{expression_of};
-ghost use Rattle.poets_syntax.specs.TypeOf.{type_of as type_of_lem, must_be as must_be_lem, must_be_number_or_day as must_be_number_or_day_lem, of_one as of_one_lem, of_two as of_two_lem, sum_type as sum_type_lem, difference_type as difference_type_lem, equal_type as equal_type_lem, order_type as order_type_lem, binary_type as binary_type_lem, make_type as make_type_lem, if_type as if_type_lem, resource_type as resource_type_lem, name_type as name_type_lem};
-ghost use Rattle.poets_syntax.specs.Typed.{check_type as check_type_lem};
+ghost use Rattle.poets_syntax.specs.TypeOf as spec;
+ghost use Rattle.poets_syntax.specs.Typed as typed;
 ghost use Rattle.poets_types.specs.Answers.{answer_of};
 ghost use Rattle.poets_types.specs.Scopes.{names_in};
 
@@ -15,7 +15,7 @@ use poets_value::{Name, Ty};
 
 // What is found is of the wanted type.
 pub(crate) fn must_be(wanted: Ty, found: Ty) -> Result<(), TypeCause>
-    ensures { result ≡ answer_of (must_be_lem wanted found) }
+    ensures { result ≡ answer_of (spec.must_be wanted found) }
 {
     if wanted == found {
         Ok(())
@@ -26,7 +26,7 @@ pub(crate) fn must_be(wanted: Ty, found: Ty) -> Result<(), TypeCause>
 
 // What is found is a number or a day.
 fn must_be_number_or_day(found: Ty) -> Result<(), TypeCause>
-    ensures { result ≡ answer_of (must_be_number_or_day_lem found) }
+    ensures { result ≡ answer_of (spec.must_be_number_or_day found) }
 {
     match found {
         Ty::Int | Ty::Day => Ok(()),
@@ -39,7 +39,7 @@ fn must_be_number_or_day(found: Ty) -> Result<(), TypeCause>
 
 // The type of a node whose one part is of the wanted type.
 fn of_one(wanted: Ty, x: Ty, node: Ty) -> Result<Ty, TypeCause>
-    ensures { result ≡ answer_of (of_one_lem wanted x node) }
+    ensures { result ≡ answer_of (spec.of_one wanted x node) }
 {
     must_be(wanted, x)?;
     Ok(node)
@@ -47,7 +47,7 @@ fn of_one(wanted: Ty, x: Ty, node: Ty) -> Result<Ty, TypeCause>
 
 // The type of a node whose two parts are of the wanted type.
 fn of_two(wanted: Ty, x: Ty, y: Ty, node: Ty) -> Result<Ty, TypeCause>
-    ensures { result ≡ answer_of (of_two_lem wanted x y node) }
+    ensures { result ≡ answer_of (spec.of_two wanted x y node) }
 {
     must_be(wanted, x)?;
     must_be(wanted, y)?;
@@ -56,7 +56,7 @@ fn of_two(wanted: Ty, x: Ty, y: Ty, node: Ty) -> Result<Ty, TypeCause>
 
 // The type of a number or a day with a number added or taken away.
 fn sum_type(x: Ty, y: Ty) -> Result<Ty, TypeCause>
-    ensures { result ≡ answer_of (sum_type_lem x y) }
+    ensures { result ≡ answer_of (spec.sum_type x y) }
 {
     must_be_number_or_day(x)?;
     must_be(Ty::Int, y)?;
@@ -65,7 +65,7 @@ fn sum_type(x: Ty, y: Ty) -> Result<Ty, TypeCause>
 
 // The type of a difference: of two days it is a number.
 fn difference_type(x: Ty, y: Ty) -> Result<Ty, TypeCause>
-    ensures { result ≡ answer_of (difference_type_lem x y) }
+    ensures { result ≡ answer_of (spec.difference_type x y) }
 {
     match (&x, &y) {
         (Ty::Day, Ty::Day) => Ok(Ty::Int),
@@ -75,7 +75,7 @@ fn difference_type(x: Ty, y: Ty) -> Result<Ty, TypeCause>
 
 // The type of an equation of two parts of one type.
 fn equal_type(x: Ty, y: Ty) -> Result<Ty, TypeCause>
-    ensures { result ≡ answer_of (equal_type_lem x y) }
+    ensures { result ≡ answer_of (spec.equal_type x y) }
 {
     must_be(x, y)?;
     Ok(Ty::Bool)
@@ -83,7 +83,7 @@ fn equal_type(x: Ty, y: Ty) -> Result<Ty, TypeCause>
 
 // The type of a comparison of two numbers or two days.
 fn order_type(x: Ty, y: Ty) -> Result<Ty, TypeCause>
-    ensures { result ≡ answer_of (order_type_lem x y) }
+    ensures { result ≡ answer_of (spec.order_type x y) }
 {
     must_be_number_or_day(x)?;
     equal_type(x, y)
@@ -91,7 +91,7 @@ fn order_type(x: Ty, y: Ty) -> Result<Ty, TypeCause>
 
 // The type of a node of two operands.
 fn binary_type(op: Op, x: Ty, y: Ty) -> Result<Ty, TypeCause>
-    ensures { result ≡ answer_of (binary_type_lem op x y) }
+    ensures { result ≡ answer_of (spec.binary_type op x y) }
 {
     match op {
         Op::Add => sum_type(x, y),
@@ -105,7 +105,7 @@ fn binary_type(op: Op, x: Ty, y: Ty) -> Result<Ty, TypeCause>
 
 // The type of a resource made of a number and a kind.
 fn make_type(x: Ty, y: Ty) -> Result<Ty, TypeCause>
-    ensures { result ≡ answer_of (make_type_lem x y) }
+    ensures { result ≡ answer_of (spec.make_type x y) }
 {
     must_be(Ty::Int, x)?;
     must_be(Ty::Kind, y)?;
@@ -114,7 +114,7 @@ fn make_type(x: Ty, y: Ty) -> Result<Ty, TypeCause>
 
 // The type of a choice of two parts of one type.
 fn if_type(x: Ty, y: Ty, z: Ty) -> Result<Ty, TypeCause>
-    ensures { result ≡ answer_of (if_type_lem x y z) }
+    ensures { result ≡ answer_of (spec.if_type x y z) }
 {
     must_be(Ty::Bool, x)?;
     must_be(y, z)?;
@@ -123,14 +123,14 @@ fn if_type(x: Ty, y: Ty, z: Ty) -> Result<Ty, TypeCause>
 
 // The type that was found for a name.
 pub(crate) fn name_type(name: Name, ty: Option<Ty>) -> Result<Ty, TypeCause>
-    ensures { result ≡ answer_of (name_type_lem name ty) }
+    ensures { result ≡ answer_of (spec.name_type name ty) }
 {
     ty.ok_or(TypeCause::Unknown { name })
 }
 
 // The type of a resource literal, whose kind is declared as one.
 fn resource_type(decls: &Decls, kind: Name) -> Result<Ty, TypeCause>
-    ensures { result ≡ answer_of (resource_type_lem kind (declared_of decls.now.names kind)) }
+    ensures { result ≡ answer_of (spec.resource_type kind (declared_of decls.now.names kind)) }
 {
     match decls.names.get(&kind) {
         None => Err(TypeCause::Unknown { name: kind }),
@@ -140,7 +140,7 @@ fn resource_type(decls: &Decls, kind: Name) -> Result<Ty, TypeCause>
 
 // The type of an expression.
 pub(crate) fn type_of(decls: &Decls, scope: &Scope, e: &Expr) -> Result<Ty, TypeCause>
-    ensures { result ≡ answer_of (type_of_lem (declared_of decls.now.names) (names_in scope.now) (expression_of e.now)) }
+    ensures { result ≡ answer_of (spec.type_of (declared_of decls.now.names) (names_in scope.now) (expression_of e.now)) }
 {
     match e {
         Expr::Int(_) => Ok(Ty::Int),
@@ -172,7 +172,7 @@ pub(crate) fn check_type(
     wanted: Ty,
     e: &Expr,
 ) -> Result<(), TypeCause>
-    ensures { result ≡ answer_of (check_type_lem (declared_of decls.now.names) (names_in scope.now) wanted (expression_of e.now)) }
+    ensures { result ≡ answer_of (typed.check_type (declared_of decls.now.names) (names_in scope.now) wanted (expression_of e.now)) }
 {
     must_be(wanted, type_of(decls, scope, e)?)
 }

@@ -50,7 +50,7 @@ fn report_names(alloc: Global, reports: &[Report]) -> Result<BTreeSet<Name>, Mem
 
 impl<'a> Index<'a> {
     ghost use Rattle.std.specs.Prelude.{map, option_map, is_some};
-    ghost use Rattle.poets_syntax.specs.Book.{definition_of, template_in};
+    ghost use Rattle.poets_syntax.specs.Book.{template_of, template_in};
     ghost use Rattle.poets_syntax.specs.Typed.{in_use, is_among};
     ghost use Rattle.poets_types.specs.Indices.{book_in, reports_in};
 
@@ -75,7 +75,7 @@ impl<'a> Index<'a> {
 
     // The first template of that name.
     pub(crate) fn template(&self, name: Name) -> Option<&'a Template>
-        ensures { option_map (λ t. definition_of t.now) result ≡ template_in (book_in self.now).templates name }
+        ensures { option_map (λ t. template_of t.now) result ≡ template_in (book_in self.now).templates name }
     {
         self.book.templates.get(*self.places.get(&name)?)
     }

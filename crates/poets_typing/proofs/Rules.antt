@@ -13,15 +13,17 @@ use Rattle.poets_expr.specs.Expression.{UnaryOp, Minus, Not, AmountOf, KindOf, E
 use Rattle.poets_expr.specs.Env.{Declared}
 use Rattle.poets_syntax.specs.declared.term.Param.{Param}
 use Rattle.poets_syntax.specs.Contract.{Contract, Success, Failure, Transmit, Plus, Par, Seq, App}
-use Rattle.poets_syntax.specs.Book.{Definitions, Definition, template_in}
-use Rattle.poets_syntax.specs.TypeOf.{Fault, Twice, WrongCount, Verdict, Passes, ◌>>=◌, Scope, type_in, same_type, must_be, unary_type, binary_type, sum_type, equal_type, order_type, make_type, if_type, name_type, literal_type, type_of}
+use Rattle.poets_syntax.specs.Plain.{Book, Template, TypeCause, Twice, WrongCount}
+use Rattle.poets_syntax.specs.Book.{template_in}
+use Rattle.poets_syntax.specs.TypeOf.{Verdict, Passes, ◌>>=◌, Scope, type_in, same_type, must_be, unary_type, binary_type, sum_type, equal_type, order_type, make_type, if_type, name_type, literal_type, type_of}
 use Rattle.poets_syntax.specs.TypeOf as F
 use Rattle.poets_syntax.specs.Typed.{is_among, in_use, check_new, names_bound, types_bound, check_type, check_args, check_arguments, check_application, check_contract, scope_of}
-use Rattle.poets_report.specs.Query.{Query}
-use Rattle.poets_call.specs.Calls.{Request}
+use Rattle.poets_report.specs.Plain.{Report}
+use Rattle.poets_call.specs.Plain.{Command}
 use Rattle.poets_call.specs.Calls as Q
 use Rattle.poets_call.specs.Replies.{report_in}
-use Rattle.poets_call.specs.TypedSentences.{report_names, check_key, check_fold, check_report, check_declared, check_event, check_report_arguments, check_request}
+use Rattle.poets_call.specs.TypedStatements.{report_names, check_key, check_fold, check_report, check_declared, check_event, check_report_arguments, check_command}
+use Rattle.poets_call.specs.Plain as plain
 use Rattle.poets_syntax.proofs.Typedness.{passed, kind_declared, as_many}
 use Rattle.poets_typing.specs.Rules.{IsNumberOrDay, Number, ADay, IsSum, IsProduct, IsEquality, IsComparison, IsConnective, Has, Fit, AreNew, Typed}
 use Rattle.poets_typing.specs.Rules as R
@@ -314,12 +316,12 @@ arguments_pass declared scope x params args f =
 
 -- contracts
 
-applied : (book : Definitions) (reports : List Name) (scope : Scope) (f : Name) (o : Option Definition) (args : List Expression) →
+applied : (book : Book) (reports : List Name) (scope : Scope) (f : Name) (o : Option Template) (args : List Expression) →
     template_in book.templates f ≡ o → check_application book.declared scope f o args ≡ Passes tt → Typed book reports scope (App f args)
 applied book reports scope f None args e h = absurd cc
 applied book reports scope f (Some t) args e h = R.Applies e (fits book.declared scope f t.params args h)
 
-typed : (book : Definitions) (reports : List Name) (scope : Scope) (c : Contract) → check_contract book reports scope c ≡ Passes tt → Typed book reports scope c
+typed : (book : Book) (reports : List Name) (scope : Scope) (c : Contract) → check_contract book reports scope c ≡ Passes tt → Typed book reports scope c
 typed book reports scope Success h = R.Succeeds
 typed book reports scope Failure h = R.Fails
 typed book reports scope (Transmit b p c) h =
@@ -338,7 +340,7 @@ typed book reports scope (Seq a b) h =
     R.Follows (typed book reports scope a p.1) (typed book reports scope b p.2)
 typed book reports scope (App f args) h = applied book reports scope f (template_in book.templates f) args refl h
 
-contract_passes : (book : Definitions) (reports : List Name) (scope : Scope) (c : Contract) → Typed book reports scope c → check_contract book reports scope c ≡ Passes tt
+contract_passes : (book : Book) (reports : List Name) (scope : Scope) (c : Contract) → Typed book reports scope c → check_contract book reports scope c ≡ Passes tt
 contract_passes book reports scope Success R.Succeeds = refl
 contract_passes book reports scope Failure R.Fails = refl
 contract_passes book reports scope (Transmit b p c) (R.Transmits n h k) =
@@ -373,7 +375,7 @@ key_passes : (declared : Declared) (scope : Scope) (key : Option Expression) →
 key_passes declared scope None R.NoKey = refl
 key_passes declared scope (Some e) (R.AKey {t = t} h) = rw (type_passes declared scope e t h) refl
 
-report_typed : (book : Definitions) (reports : List Name) (q : Query) → check_report book reports q ≡ Passes tt → R.IsTypedReport book reports q
+report_typed : (book : Book) (reports : List Name) (q : Report) → check_report book reports q ≡ Passes tt → R.IsTypedReport book reports q
 report_typed book reports q h =
     let outer = scope_of q.params in
     let names = check_new (in_use book reports) [] (q.carry ∷ names_bound q.binders) in
@@ -391,7 +393,7 @@ report_typed book reports q h =
       key = has_key book.declared (types_bound q.binders ++ outer) q.key u.2;
     }
 
-report_passes : (book : Definitions) (reports : List Name) (q : Query) → R.IsTypedReport book reports q → check_report book reports q ≡ Passes tt
+report_passes : (book : Book) (reports : List Name) (q : Report) → R.IsTypedReport book reports q → check_report book reports q ≡ Passes tt
 report_passes book reports q r =
     rw (
       new_passes (in_use book reports) [] (map (λ x. x.name) q.params) r.params,
@@ -432,37 +434,37 @@ event_passes : (declared : Declared) (e : Event) → R.IsTypedEvent declared e �
 event_passes declared e r =
     rw (declared_passes declared T.Agent e.sender r.sender, declared_passes declared T.Agent e.receiver r.receiver) (declared_passes declared T.Kind e.what.kind r.kind)
 
-asks : (book : Definitions) (reports : List Query) (x : Name) (args : List Expression) →
+asks : (book : Book) (reports : List Report) (x : Name) (args : List Expression) →
     check_report_arguments book.declared x (report_in reports x) args ≡ Passes tt → R.Asks book reports x args
 asks book reports x args h = by (report_in reports x) refl h
   where
-    by : (o : Option Query) → report_in reports x ≡ o → check_report_arguments book.declared x o args ≡ Passes tt → R.Asks book reports x args
+    by : (o : Option Report) → report_in reports x ≡ o → check_report_arguments book.declared x o args ≡ Passes tt → R.Asks book reports x args
     by None e k = absurd cc
     by (Some q) e k = record { query = q; found = e; fit = fits book.declared [] x q.params args k }
 
-asks_pass : (book : Definitions) (reports : List Query) (x : Name) (args : List Expression) →
+asks_pass : (book : Book) (reports : List Report) (x : Name) (args : List Expression) →
     R.Asks book reports x args → check_report_arguments book.declared x (report_in reports x) args ≡ Passes tt
 asks_pass book reports x args a = rw (a.found) (arguments_pass book.declared [] x a.query.params args a.fit)
 
-command_typed : (book : Definitions) (reports : List Query) (command : Request) → check_request book reports command ≡ Passes tt → R.IsTypedCommand book reports command
-command_typed book reports (Q.Register x c) h = R.Registers (typed book (report_names reports) [] c h)
-command_typed book reports (Q.Transmit x e) h = R.Delivers (event_typed book.declared e h)
-command_typed book reports (Q.End x) h = R.Ends
-command_typed book reports (Q.Show x) h = R.Looks
-command_typed book reports (Q.Tally x args) h = R.Tallies (asks book reports x args h)
-command_typed book reports (Q.Portfolio x args over) h = R.Lists (asks book reports x args h)
-command_typed book reports (Q.Watch x args) h = R.Watches (asks book reports x args h)
-command_typed book reports (Q.Read n) h = R.Reads
+command_typed : (book : Book) (reports : List Report) (command : Command) → check_command book reports command ≡ Passes tt → R.IsTypedCommand book reports command
+command_typed book reports (plain.Register x c) h = R.Registers (typed book (report_names reports) [] c h)
+command_typed book reports (plain.Transmit x e) h = R.Delivers (event_typed book.declared e h)
+command_typed book reports (plain.End x) h = R.Ends
+command_typed book reports (plain.Show x) h = R.Looks
+command_typed book reports (plain.Tally x args) h = R.Tallies (asks book reports x args h)
+command_typed book reports (plain.Portfolio x args over) h = R.Lists (asks book reports x args h)
+command_typed book reports (plain.Watch x args) h = R.Watches (asks book reports x args h)
+command_typed book reports (plain.Read n) h = R.Reads
 
-command_passes : (book : Definitions) (reports : List Query) (command : Request) → R.IsTypedCommand book reports command → check_request book reports command ≡ Passes tt
-command_passes book reports (Q.Register x c) (R.Registers h) = contract_passes book (report_names reports) [] c h
-command_passes book reports (Q.Transmit x e) (R.Delivers h) = event_passes book.declared e h
-command_passes book reports (Q.End x) R.Ends = refl
-command_passes book reports (Q.Show x) R.Looks = refl
-command_passes book reports (Q.Tally x args) (R.Tallies h) = asks_pass book reports x args h
-command_passes book reports (Q.Portfolio x args over) (R.Lists h) = asks_pass book reports x args h
-command_passes book reports (Q.Watch x args) (R.Watches h) = asks_pass book reports x args h
-command_passes book reports (Q.Read n) R.Reads = refl
+command_passes : (book : Book) (reports : List Report) (command : Command) → R.IsTypedCommand book reports command → check_command book reports command ≡ Passes tt
+command_passes book reports (plain.Register x c) (R.Registers h) = contract_passes book (report_names reports) [] c h
+command_passes book reports (plain.Transmit x e) (R.Delivers h) = event_passes book.declared e h
+command_passes book reports (plain.End x) R.Ends = refl
+command_passes book reports (plain.Show x) R.Looks = refl
+command_passes book reports (plain.Tally x args) (R.Tallies h) = asks_pass book reports x args h
+command_passes book reports (plain.Portfolio x args over) (R.Lists h) = asks_pass book reports x args h
+command_passes book reports (plain.Watch x args) (R.Watches h) = asks_pass book reports x args h
+command_passes book reports (plain.Read n) R.Reads = refl
 
 pub commands_by_rules : CommandsByRules
 commands_by_rules book reports command = (command_typed book reports command, command_passes book reports command)

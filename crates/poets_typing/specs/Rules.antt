@@ -15,13 +15,14 @@ use Rattle.poets_expr.specs.Env.{Declared}
 use Rattle.poets_syntax.specs.declared.term.Binders.{Binders}
 use Rattle.poets_syntax.specs.declared.term.Param.{Param}
 use Rattle.poets_syntax.specs.Contract.{Contract, Success, Failure, Transmit, Plus, Par, Seq, App}
-use Rattle.poets_syntax.specs.Book.{Definitions, Definition, template_in}
+use Rattle.poets_syntax.specs.Plain.{Book, Template}
+use Rattle.poets_syntax.specs.Book.{template_in}
 use Rattle.poets_syntax.specs.TypeOf.{Scope, type_in}
 use Rattle.poets_syntax.specs.Typed.{is_among, in_use, names_bound, types_bound, scope_of}
-use Rattle.poets_report.specs.Query.{Query}
-use Rattle.poets_call.specs.Calls.{Request, Register, Transmit as Transmission, End, Show, Tally, Portfolio, Watch, Read}
+use Rattle.poets_report.specs.Plain.{Report}
+use Rattle.poets_call.specs.Plain.{Command, Register, Transmit as Transmission, End, Show, Tally, Portfolio, Watch, Read}
 use Rattle.poets_call.specs.Replies.{report_in}
-use Rattle.poets_call.specs.TypedSentences.{report_names}
+use Rattle.poets_call.specs.TypedStatements.{report_names}
 
 -- numbers and days can be ordered, and have a number added and taken away
 pub data IsNumberOrDay : Ty → Type 0 where
@@ -97,7 +98,7 @@ pub data AreNew (used : Name → Bool) : (earlier names : List Name) → Type 0 
       used x ≡ false → is_among earlier x ≡ false → AreNew used (x ∷ earlier) names → AreNew used earlier (x ∷ names)
 
 -- a contract is typed in a scope, under the book and beside reports with these names
-pub data Typed (book : Definitions) (reports : List Name) : Scope → Contract → Type 0 where
+pub data Typed (book : Book) (reports : List Name) : Scope → Contract → Type 0 where
   Succeeds : {scope : Scope} → Typed book reports scope Success
   Fails : {scope : Scope} → Typed book reports scope Failure
   Transmits :
@@ -108,11 +109,11 @@ pub data Typed (book : Definitions) (reports : List Name) : Scope → Contract �
   Joins : {scope : Scope} {c₁ c₂ : Contract} → Typed book reports scope c₁ → Typed book reports scope c₂ → Typed book reports scope (Par c₁ c₂)
   Follows : {scope : Scope} {c₁ c₂ : Contract} → Typed book reports scope c₁ → Typed book reports scope c₂ → Typed book reports scope (Seq c₁ c₂)
   Applies :
-      {scope : Scope} {f : Name} {args : List Expression} {t : Definition} →
+      {scope : Scope} {f : Name} {args : List Expression} {t : Template} →
       template_in book.templates f ≡ Some t → Fit book.declared scope t.params args → Typed book reports scope (App f args)
 
 -- a template: its parameters are new, and its body is typed under them
-pub record IsTypedTemplate (book : Definitions) (reports : List Name) (t : Definition) : Type 0 where
+pub record IsTypedTemplate (book : Book) (reports : List Name) (t : Template) : Type 0 where
   pub params : AreNew (in_use book reports) [] (map (λ p. p.name) t.params)
   pub body : Typed book reports (scope_of t.params) t.body
 
@@ -123,7 +124,7 @@ pub data HasKey (declared : Declared) (scope : Scope) : Option Expression → Ty
 
 -- a report: new parameters; a start of its type; new names for the value so far and the parts of an event; a step of its type;
 -- and a key, which does not see the value so far
-pub record IsTypedReport (book : Definitions) (reports : List Name) (q : Query) : Type 0 where
+pub record IsTypedReport (book : Book) (reports : List Name) (q : Report) : Type 0 where
   pub params : AreNew (in_use book reports) [] (map (λ p. p.name) q.params)
   pub start : Has book.declared (scope_of q.params) q.start q.ty
   pub names : AreNew (in_use book reports) [] (q.carry ∷ names_bound q.binders)
@@ -137,13 +138,13 @@ pub record IsTypedEvent (declared : Declared) (e : Event) : Type 0 where
   pub kind : declared e.what.kind ≡ Some T.Kind
 
 -- a report with the name takes these arguments
-pub record Asks (book : Definitions) (reports : List Query) (x : Name) (args : List Expression) : Type 0 where
-  pub query : Query
+pub record Asks (book : Book) (reports : List Report) (x : Name) (args : List Expression) : Type 0 where
+  pub query : Report
   pub found : report_in reports x ≡ Some query
   pub fit : Fit book.declared [] query.params args
 
 -- a command; contracts' names are a space of their own, in which nothing is declared
-pub data IsTypedCommand (book : Definitions) (reports : List Query) : Request → Type 0 where
+pub data IsTypedCommand (book : Book) (reports : List Report) : Command → Type 0 where
   Registers : {x : Name} {c : Contract} → Typed book (report_names reports) [] c → IsTypedCommand book reports (Register x c)
   Delivers : {x : Name} {e : Event} → IsTypedEvent book.declared e → IsTypedCommand book reports (Transmission x e)
   Ends : {x : Name} → IsTypedCommand book reports (End x)

@@ -1,4 +1,4 @@
-use Rattle.poets_call.proofs.TypedRequests.{typed_event}
+use Rattle.poets_call.proofs.TypedCommands.{typed_event}
 use Rattle.poets_call.proofs.laws.typed_event.Goals as goal
 
 pub returns : goal.returns

@@ -1,4 +1,4 @@
-use Rattle.poets_call.proofs.TypedRequests.{typed_report}
+use Rattle.poets_call.proofs.TypedCommands.{typed_report}
 use Rattle.poets_call.proofs.laws.typed_report.Goals as goal
 
 pub returns : goal.returns

@@ -1,7 +1,7 @@
 use Rattle.std.proofs.Common.{◌≡◌, ◌∙◌, List, None, false, length, sym, ap, subst}
 use Rattle.poets_value.specs.declared.event.Event.{Event}
 use Rattle.poets_syntax.specs.Applied.{CountsFit}
-use Rattle.poets_syntax.specs.Book.{definitions_of}
+use Rattle.poets_syntax.specs.Book.{book_of}
 use Rattle.poets_syntax.specs.Contract.{Contract}
 use Rattle.poets_syntax.specs.Residual.{after}
 use Rattle.poets_syntax.specs.Studied.{StudiedBook, marks_of}
@@ -11,22 +11,22 @@ use Rattle.poets_cons.specs.Table.{contract_of_rows}
 use Rattle.poets_residue.proofs.Kept.{CountsFit-after_at}
 use Rattle.poets_residue.proofs.Studies.{IsStudied-book}
 use Rattle.poets_table.specs.TableView.{RowView, row_view}
-use Rattle.poets_call.specs.Calls.{Response}
+use Rattle.poets_call.specs.Plain.{Reply}
 use Rattle.poets_call.specs.Ledger.{late_day}
 use Rattle.poets_engine.specs.Choices.{choice_by, judge, unless_over}
 use Rattle.poets_engine.proofs.transmission.decide.Goals as goal
 
 -- where the contract runs on and the event is not late, what is left is judged
 in_time : (s : StudiedBook) (r : RowView Term (List Node)) (e : Event) (next : Contract) → r.ended ≡ false → late_day r.events e.day ≡ None →
-    next ≡ after (definitions_of s.book) (marks_of s) e (contract_of_rows r.current) → judge s Response.Unmatched next ≡ choice_by s r e
+    next ≡ after (book_of s.book) (marks_of s) e (contract_of_rows r.current) → judge s Reply.Unmatched next ≡ choice_by s r e
 in_time s r e next running timely left =
-    sym (ap (λ ended. unless_over ended (late_day r.events e.day) (judge s Response.Unmatched next)) running
-    ∙ ap (λ late. unless_over false late (judge s Response.Unmatched next)) timely)
-    ∙ ap (λ c. unless_over r.ended (late_day r.events e.day) (judge s Response.Unmatched c)) left
+    sym (ap (λ ended. unless_over ended (late_day r.events e.day) (judge s Reply.Unmatched next)) running
+    ∙ ap (λ late. unless_over false late (judge s Reply.Unmatched next)) timely)
+    ∙ ap (λ c. unless_over r.ended (late_day r.events e.day) (judge s Reply.Unmatched c)) left
 
 pub judge-requires : goal.judge-requires
 judge-requires g c =
-    let book = definitions_of c.args.studied.now.book in
+    let book = book_of c.args.studied.now.book in
     subst (CountsFit book) (sym c.in_ok-next.ensures.residual)
     (CountsFit-after_at book (marks_of c.args.studied.now) (IsStudied-book book c.args.studied.now.marks c.book-book.ensures.studied).fit c.args.event.now
     (length book.templates) (contract_of_rows c.args.row.now.current) c.requires)

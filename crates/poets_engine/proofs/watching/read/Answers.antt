@@ -1,5 +1,5 @@
 use Rattle.std.proofs.Common.{◌-◌, inl, inr, arith}
-use Rattle.poets_report.specs.Answers.{finding_of}
+use Rattle.poets_report.specs.Answers.{answer_of}
 use Rattle.poets_engine.proofs.Tallying.{read_absent, read_found, within}
 use Rattle.poets_engine.proofs.watching.read.Goals as goal
 use Rattle.poets_engine.proofs.watching.read.Goals.{then-number-eq0-via-then-number-eq0, then-number-eq0-via-else-number-eq0+then-watch_count-number}
@@ -17,4 +17,4 @@ returns c = λ rules.
     let some = c.if-number-eq0.false in
     let few = c.if-watch_count-number.false in
     let there = within c.args.store.now.watches (c.args.number - 1) (omega (arith, count, some, few)) in
-    read_found rules c.args.number c.args.store.now there.0 (finding_of c.in_ok-read.field-0) (omega (arith, some)) there.1 (c.in_ok-read.ensures there.0 there.1)
+    read_found rules c.args.number c.args.store.now there.0 (answer_of c.in_ok-read.field-0) (omega (arith, some)) there.1 (c.in_ok-read.ensures there.0 there.1)

@@ -1,7 +1,7 @@
 use Rattle.std.proofs.Common.{◌≤◌, ◌*◌, length, sym, subst, arith, append-nil}
 use Rattle.std.proofs.lemmas.Grind.{div_ceil_times}
 use Rattle.poets_expr.specs.Env.{declared_of}
-use Rattle.poets_report.specs.Query.{query_of}
+use Rattle.poets_report.specs.Reports.{report_of}
 use Rattle.poets_report.specs.Folds.{StandsFor}
 use Rattle.poets_table.specs.Pieces.{piece_length}
 use Rattle.poets_folio.proofs.Goings.{goes_on, goes_over}
@@ -9,11 +9,11 @@ use Rattle.poets_folio.proofs.folio.folded.Goals as goal
 
 pub loop-place-init : goal.loop-place-init
 loop-place-init g c = λ args events stands.
-    subst (λ es. StandsFor (declared_of c.args.decls.now.names) (query_of c.args.report.now) args es c.args.fold) (sym (append-nil events)) stands
+    subst (λ es. StandsFor (declared_of c.args.decls.now.names) (report_of c.args.report.now) args es c.args.fold) (sym (append-nil events)) stands
 
 pub loop-place-preserved : goal.loop-place-preserved
 loop-place-preserved g c =
-    goes_on (declared_of c.args.decls.now.names) (query_of c.args.report.now) c.args.events.now.items c.args.fold c.loop-place.fold c.in_ok-fold.fold
+    goes_on (declared_of c.args.decls.now.names) (report_of c.args.report.now) c.args.events.now.items c.args.fold c.loop-place.fold c.in_ok-fold.fold
     c.loop-place.place c.in-Some.piece.now c.in-Some.ensures.found c.loop-place.invariant c.in_ok-fold.ensures.stands
 
 pub returns : goal.returns
@@ -23,5 +23,5 @@ returns g c =
     let pieces = c.div_ceil-place-end.ensures in
     let over = c.loop-place-test.false in
     let end : length c.args.events.now.items ≤ c.loop-place.place * piece_length = omega (arith, times, count, pieces, over) in
-    goes_over (declared_of c.args.decls.now.names) (query_of c.args.report.now) c.args.events.now.items c.args.fold c.loop-place.fold c.loop-place.fold c.loop-place.place
+    goes_over (declared_of c.args.decls.now.names) (report_of c.args.report.now) c.args.events.now.items c.args.fold c.loop-place.fold c.loop-place.fold c.loop-place.place
     end c.loop-place.invariant

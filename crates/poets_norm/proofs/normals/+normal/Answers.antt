@@ -2,7 +2,7 @@ use Rattle.std.proofs.Common.{◌≡◌, ◌+◌, ◌≤◌, arith, map, ap, sum
 use Rattle.std.proofs.lemmas.Result.{IfOk-weaker}
 use Rattle.poets_expr.specs.Expression.{expression_of}
 use Rattle.poets_syntax.specs.Arguments.{arguments}
-use Rattle.poets_syntax.specs.Book.{definitions_of}
+use Rattle.poets_syntax.specs.Book.{book_of}
 use Rattle.poets_syntax.specs.Contract.{contract_of}
 use Rattle.poets_syntax.specs.Normal.{plus}
 use Rattle.poets_syntax.specs.Studied.{marks_of}
@@ -16,12 +16,12 @@ use Rattle.poets_norm.proofs.normals.+normal.Goals as goal
 pub merge-requires-clause-first : goal.merge-requires-clause-first
 merge-requires-clause-first g t c =
     let studied = c.args.studied.now in
-    rw c.in_ok-a-in-Plus.ensures.normal (normal_is_distinct (definitions_of studied.book) (marks_of studied) (contract_of c.deref-in-Plus.result.now))
+    rw c.in_ok-a-in-Plus.ensures.normal (normal_is_distinct (book_of studied.book) (marks_of studied) (contract_of c.deref-in-Plus.result.now))
 
 pub merge-requires-clause-second : goal.merge-requires-clause-second
 merge-requires-clause-second g t c =
     let studied = c.args.studied.now in
-    rw c.in_ok-b-in-Plus.ensures.normal (normal_is_distinct (definitions_of studied.book) (marks_of studied) (contract_of c.deref-in-Plus-2.result.now))
+    rw c.in_ok-b-in-Plus.ensures.normal (normal_is_distinct (book_of studied.book) (marks_of studied) (contract_of c.deref-in-Plus-2.result.now))
 
 pub returns-in_ok-b-in-Plus-clause-questions : goal.returns-in_ok-b-in-Plus-clause-questions
 returns-in_ok-b-in-Plus-clause-questions g t c =

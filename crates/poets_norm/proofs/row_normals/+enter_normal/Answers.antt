@@ -2,7 +2,7 @@ use Rattle.std.proofs.Common.{◌≡◌, ◌+◌, ◌≤◌, arith, map, ap, sum
 use Rattle.std.proofs.lemmas.Result.{IfOk-weaker}
 use Rattle.poets_expr.specs.Expression.{expression_of}
 use Rattle.poets_syntax.specs.Arguments.{arguments}
-use Rattle.poets_syntax.specs.Book.{definitions_of}
+use Rattle.poets_syntax.specs.Book.{book_of}
 use Rattle.poets_syntax.specs.Contract.{contract_of}
 use Rattle.poets_syntax.specs.Normal.{plus, normal}
 use Rattle.poets_syntax.specs.Studied.{marks_of}
@@ -18,19 +18,19 @@ use Rattle.poets_norm.proofs.row_normals.+enter_normal.Goals as goal
 pub enter_normal-merge-requires-clause-first : goal.enter_normal-merge-requires-clause-first
 enter_normal-merge-requires-clause-first g t c =
     let studied = c.args.studied.now in
-    normal_distinct (definitions_of studied.book) (marks_of studied) c.enter_both.new.arena c.in_ok-a-in-Plus.a (contract_of c.in-Plus.a.value)
+    normal_distinct (book_of studied.book) (marks_of studied) c.enter_both.new.arena c.in_ok-a-in-Plus.a (contract_of c.in-Plus.a.value)
     c.in_ok-a-in-Plus.ensures.first
 
 pub enter_normal-merge-requires-clause-second : goal.enter_normal-merge-requires-clause-second
 enter_normal-merge-requires-clause-second g t c =
     let studied = c.args.studied.now in
-    normal_distinct (definitions_of studied.book) (marks_of studied) c.enter_both.new.arena c.in_ok-a-in-Plus.b (contract_of c.in-Plus.b.value)
+    normal_distinct (book_of studied.book) (marks_of studied) c.enter_both.new.arena c.in_ok-a-in-Plus.b (contract_of c.in-Plus.b.value)
     c.in_ok-a-in-Plus.ensures.second
 
 pub enter_normal-returns-in_ok-a-in-Plus-clause-questions : goal.enter_normal-returns-in_ok-a-in-Plus-clause-questions
 enter_normal-returns-in_ok-a-in-Plus-clause-questions g t c =
     let studied = c.args.studied.now in
-    let form = normal (definitions_of studied.book) (marks_of studied) in
+    let form = normal (book_of studied.book) (marks_of studied) in
     let a = c.in-Plus.a.value in
     let b = c.in-Plus.b.value in
     let both = c.in_ok-a-in-Plus.ensures.questions in
@@ -69,4 +69,4 @@ pub enter_both-returns-clause-first : goal.enter_both-returns-clause-first
 enter_both-returns-clause-first g t c =
     let studied = c.args.studied.now in
     stands_later c.enter_normal.new.arena c.enter_normal-2.new.arena c.enter_normal-2.ensures.grows c.in_ok-first.first
-    (normal (definitions_of studied.book) (marks_of studied) (contract_of c.args.a.value)) (rw c.into_inner.ensures at c.in_ok-first.ensures.normal)
+    (normal (book_of studied.book) (marks_of studied) (contract_of c.args.a.value)) (rw c.into_inner.ensures at c.in_ok-first.ensures.normal)

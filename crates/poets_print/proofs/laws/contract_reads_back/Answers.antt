@@ -1,4 +1,4 @@
-use Rattle.poets_print.proofs.WritingRequests.{contract_reads_back}
+use Rattle.poets_print.proofs.WritingCommands.{contract_reads_back}
 use Rattle.poets_print.proofs.laws.contract_reads_back.Goals as goal
 
 pub returns : goal.returns

@@ -2,7 +2,7 @@ use Rattle.std.proofs.Common.{rules, ◌≡◌, ◌∙◌, ◌+◌, ◌*◌, ◌
 use Rattle.std.specs.Arc.{arc_value}
 use Rattle.poets_expr.specs.Expression.{expression_of}
 use Rattle.poets_syntax.specs.Applied.{CountsFit}
-use Rattle.poets_syntax.specs.Book.{definition_of, definitions_of}
+use Rattle.poets_syntax.specs.Book.{template_of, book_of}
 use Rattle.poets_syntax.specs.Contract.{Contract, Failure, Transmit, Plus, Par, Seq}
 use Rattle.poets_syntax.specs.Residual.{after}
 use Rattle.poets_syntax.specs.Studied.{marks_of}
@@ -23,22 +23,22 @@ use Rattle.poets_residue.proofs.derivation.+derive.Goals as goal
 
 pub derive-returns-in-Some-clause-derived : goal.derive-returns-in-Some-clause-derived
 derive-returns-in-Some-clause-derived g t c =
-    known_derived (definitions_of c.args.studied.now.book) (marks_of c.args.studied.now) c.args.event.now c.args.arena.now (noted c.args.memo.now)
+    known_derived (book_of c.args.studied.now.book) (marks_of c.args.studied.now) c.args.event.now c.args.arena.now (noted c.args.memo.now)
     c.requires.notes c.args.place c.in-Some.known (sym c.in-Some.ensures)
 
 pub derive-returns-in-Some-clause-asks : goal.derive-returns-in-Some-clause-asks
 derive-returns-in-Some-clause-asks g t c =
-    none_asked (definitions_of c.args.studied.now.book) (marks_of c.args.studied.now) (contract_at c.args.arena.now c.args.place) c.args.asks.now
+    none_asked (book_of c.args.studied.now.book) (marks_of c.args.studied.now) (contract_at c.args.arena.now c.args.place) c.args.asks.now
 
 pub derive-returns-clause-derived : goal.derive-returns-clause-derived
 derive-returns-clause-derived g t c =
-    noted_derived (definitions_of c.args.studied.now.book) (marks_of c.args.studied.now) c.args.event.now c.args.arena.now c.derive_anew.new.arena
+    noted_derived (book_of c.args.studied.now.book) (marks_of c.args.studied.now) c.args.event.now c.args.arena.now c.derive_anew.new.arena
     c.in_ok-next.ensures.grows c.args.place c.in_ok-next.next c.requires.within (noted c.derive_anew.new.memo) (noted c.note.new.self)
     c.in_ok-next.ensures.derived c.note.result c.note.ensures.row c.note.ensures.notes
 
 pub derive_anew-returns-in-Success-clause-derived : goal.derive_anew-returns-in-Success-clause-derived
 derive_anew-returns-in-Success-clause-derived g t c =
-    let book = definitions_of c.args.studied.now.book in
+    let book = book_of c.args.studied.now.book in
     let marks = marks_of c.args.studied.now in
     let e = c.args.event.now in
     let old = c.args.arena.now in
@@ -48,21 +48,21 @@ derive_anew-returns-in-Success-clause-derived g t c =
 
 pub derive_anew-returns-in-Failure-clause-derived : goal.derive_anew-returns-in-Failure-clause-derived
 derive_anew-returns-in-Failure-clause-derived g t c =
-    failure_derived (definitions_of c.args.studied.now.book) (marks_of c.args.studied.now) c.args.event.now c.args.arena.now (noted c.args.memo.now) c.requires.notes
+    failure_derived (book_of c.args.studied.now.book) (marks_of c.args.studied.now) c.args.event.now c.args.arena.now (noted c.args.memo.now) c.requires.notes
     c.args.place c.requires.within (row_is c.args.arena.now c.args.place c.node.ensures.contract c.in-Failure.is)
 
 pub derive_anew-returns-in-Failure-clause-asks : goal.derive_anew-returns-in-Failure-clause-asks
 derive_anew-returns-in-Failure-clause-asks g t c =
-    none_asked (definitions_of c.args.studied.now.book) (marks_of c.args.studied.now) (contract_at c.args.arena.now c.args.place) c.args.asks.now
+    none_asked (book_of c.args.studied.now.book) (marks_of c.args.studied.now) (contract_at c.args.arena.now c.args.place) c.args.asks.now
 
 pub derive_anew-returns-in-Failure-clause-once : goal.derive_anew-returns-in-Failure-clause-once
 derive_anew-returns-in-Failure-clause-once g t c =
-    grown_spent (definitions_of c.args.studied.now.book) (marks_of c.args.studied.now) c.args.event.now c.args.arena.now (noted c.args.memo.now) c.requires.notes c.args.place
+    grown_spent (book_of c.args.studied.now.book) (marks_of c.args.studied.now) c.args.event.now c.args.arena.now (noted c.args.memo.now) c.requires.notes c.args.place
     c.args.arena.now (extends_not c.args.arena.now) _ c.args.asks.now
 
 pub derive_anew-returns-in_default-clause-derived : goal.derive_anew-returns-in_default-clause-derived
 derive_anew-returns-in_default-clause-derived g t c =
-    let book = definitions_of c.args.studied.now.book in
+    let book = book_of c.args.studied.now.book in
     let marks = marks_of c.args.studied.now in
     let old = c.args.arena.now in
     let here = contract_at old c.args.place in
@@ -74,23 +74,23 @@ derive_anew-returns-in_default-clause-derived g t c =
 
 pub derive_anew-returns-in_err-start-in-App-clause-asks : goal.derive_anew-returns-in_err-start-in-App-clause-asks
 derive_anew-returns-in_err-start-in-App-clause-asks g t c =
-    let book = definitions_of c.args.studied.now.book in
+    let book = book_of c.args.studied.now.book in
     let marks = marks_of c.args.studied.now in
     let here = contract_at c.args.arena.now c.args.place in
     let args = map expression_of c.as_slice.result.now in
     let whole = app_is c.args.arena.now c.args.place c.node.ensures.contract c.in-App.is c.as_slice.result.now (c.as_slice.ensures ∙ ap (λ l. l.items) (c.deref-in-App.ensures ∙ c.in_ok-args-in-App.ensures)) in
-    let template = definition_of c.in-Some.template.now in
+    let template = template_of c.in-Some.template.now in
     app_asking book marks c.requires.studied here c.in-App.name args whole c.requires.fits template (sym c.in-Some.ensures.template)
     c.args.asks.now c.unfold.new.asks c.in_err-start-in-App.ensures.asks
 
 pub derive_anew-derive-requires : goal.derive_anew-derive-requires
 derive_anew-derive-requires g t c κs within =
-    let book = definitions_of c.args.studied.now.book in
+    let book = book_of c.args.studied.now.book in
     let marks = marks_of c.args.studied.now in
     let here = contract_at c.args.arena.now c.args.place in
     let args = map expression_of c.as_slice.result.now in
     let whole = app_is c.args.arena.now c.args.place c.node.ensures.contract c.in-App.is c.as_slice.result.now (c.as_slice.ensures ∙ ap (λ l. l.items) (c.deref-in-App.ensures ∙ c.in_ok-args-in-App.ensures)) in
-    let template = definition_of c.in-Some.template.now in
+    let template = template_of c.in-Some.template.now in
     let mid = c.unfold.new.arena in
     let start = c.in_ok-start-in-App.start in
     let body = c.in_ok-start-in-App.ensures.body in
@@ -102,7 +102,7 @@ derive_anew-derive-requires g t c κs within =
 
 pub derive_anew-returns-in_ok-when-in-Transmit-clause-derived : goal.derive_anew-returns-in_ok-when-in-Transmit-clause-derived
 derive_anew-returns-in_ok-when-in-Transmit-clause-derived g t c =
-    let book = definitions_of c.args.studied.now.book in
+    let book = book_of c.args.studied.now.book in
     let marks = marks_of c.args.studied.now in
     let old = c.args.arena.now in
     let whole = transmit_is old c.args.place c.node.ensures.contract c.in-Transmit.is (c.deref.ensures ∙ c.in_ok-when-in-Transmit.ensures) in
@@ -112,24 +112,24 @@ derive_anew-returns-in_ok-when-in-Transmit-clause-derived g t c =
 
 pub derive_anew-returns-in_ok-start-in-App-clause-derived : goal.derive_anew-returns-in_ok-start-in-App-clause-derived
 derive_anew-returns-in_ok-start-in-App-clause-derived g t c =
-    let book = definitions_of c.args.studied.now.book in
+    let book = book_of c.args.studied.now.book in
     let marks = marks_of c.args.studied.now in
     let here = contract_at c.args.arena.now c.args.place in
     let args = map expression_of c.as_slice.result.now in
     let whole = app_is c.args.arena.now c.args.place c.node.ensures.contract c.in-App.is c.as_slice.result.now (c.as_slice.ensures ∙ ap (λ l. l.items) (c.deref-in-App.ensures ∙ c.in_ok-args-in-App.ensures)) in
-    let template = definition_of c.in-Some.template.now in
+    let template = template_of c.in-Some.template.now in
     app_derived book marks c.requires.studied here c.in-App.name args whole c.requires.fits template (sym c.in-Some.ensures.template)
     (contract_at c.unfold.new.arena c.in_ok-start-in-App.start) c.in_ok-start-in-App.ensures.body.contract
     c.args.event.now c.derive.new.arena (noted c.derive.new.memo) c.derive.result c.derive.ensures.derived
 
 pub derive_anew-returns-in_ok-start-in-App-clause-asks : goal.derive_anew-returns-in_ok-start-in-App-clause-asks
 derive_anew-returns-in_ok-start-in-App-clause-asks g t c =
-    let book = definitions_of c.args.studied.now.book in
+    let book = book_of c.args.studied.now.book in
     let marks = marks_of c.args.studied.now in
     let here = contract_at c.args.arena.now c.args.place in
     let args = map expression_of c.as_slice.result.now in
     let whole = app_is c.args.arena.now c.args.place c.node.ensures.contract c.in-App.is c.as_slice.result.now (c.as_slice.ensures ∙ ap (λ l. l.items) (c.deref-in-App.ensures ∙ c.in_ok-args-in-App.ensures)) in
-    let template = definition_of c.in-Some.template.now in
+    let template = template_of c.in-Some.template.now in
     app_asked book marks c.requires.studied here c.in-App.name args whole c.requires.fits template (sym c.in-Some.ensures.template)
     (contract_at c.unfold.new.arena c.in_ok-start-in-App.start) c.in_ok-start-in-App.ensures.body.contract
     c.args.asks.now c.unfold.new.asks c.derive.new.asks c.in_ok-start-in-App.ensures.questions c.derive.ensures.asks
@@ -137,12 +137,12 @@ derive_anew-returns-in_ok-start-in-App-clause-asks g t c =
 pub derive_par-returns-in_err-after_a-clause-asks : goal.derive_par-returns-in_err-after_a-clause-asks
 derive_par-returns-in_err-after_a-clause-asks g t c =
     let old = c.args.arena.now in
-    par_first (definitions_of c.args.studied.now.book) (marks_of c.args.studied.now) (contract_at old c.args.a) (contract_at old c.args.b)
+    par_first (book_of c.args.studied.now.book) (marks_of c.args.studied.now) (contract_at old c.args.a) (contract_at old c.args.b)
     c.args.asks.now c.derive.new.asks c.in_err-after_a.ensures.asks
 
 pub derive_par-derive-requires-2 : goal.derive_par-derive-requires-2
 derive_par-derive-requires-2 g t c κs within =
-    let book = definitions_of c.args.studied.now.book in
+    let book = book_of c.args.studied.now.book in
     let marks = marks_of c.args.studied.now in
     let old = c.args.arena.now in
     let mid = c.derive.new.arena in
@@ -156,7 +156,7 @@ derive_par-derive-requires-2 g t c κs within =
 
 pub derive_par-returns-in_err-after_b-clause-asks : goal.derive_par-returns-in_err-after_b-clause-asks
 derive_par-returns-in_err-after_b-clause-asks g t c =
-    let book = definitions_of c.args.studied.now.book in
+    let book = book_of c.args.studied.now.book in
     let marks = marks_of c.args.studied.now in
     let old = c.args.arena.now in
     par_asked book marks (contract_at old c.args.a) (contract_at old c.args.b) c.args.asks.now c.derive.new.asks c.in_ok-after_a.ensures.asks c.derive-2.new.asks
@@ -164,14 +164,14 @@ derive_par-returns-in_err-after_b-clause-asks g t c =
 
 pub derive_par-returns-clause-derived : goal.derive_par-returns-clause-derived
 derive_par-returns-clause-derived g t c =
-    par_derived (definitions_of c.args.studied.now.book) (marks_of c.args.studied.now) c.args.event.now c.args.arena.now c.derive.new.arena c.derive-2.new.arena c.sides.new.arena
+    par_derived (book_of c.args.studied.now.book) (marks_of c.args.studied.now) c.args.event.now c.args.arena.now c.derive.new.arena c.derive-2.new.arena c.sides.new.arena
     c.in_ok-after_a.ensures.grows c.in_ok-after_b.ensures.grows c.sides.ensures.grows (noted c.derive-2.new.memo) c.args.a c.args.b
     c.in_ok-after_a.after_a c.in_ok-after_b.after_b c.requires.first c.requires.second c.in_ok-after_a.ensures.derived.stands c.in_ok-after_b.ensures.derived
     c.sides.result c.sides.ensures.stands
 
 pub derive_par-returns-clause-asks : goal.derive_par-returns-clause-asks
 derive_par-returns-clause-asks g t c =
-    let book = definitions_of c.args.studied.now.book in
+    let book = book_of c.args.studied.now.book in
     let marks = marks_of c.args.studied.now in
     let old = c.args.arena.now in
     par_asked book marks (contract_at old c.args.a) (contract_at old c.args.b) c.args.asks.now c.derive.new.asks c.in_ok-after_a.ensures.asks c.derive-2.new.asks
@@ -180,12 +180,12 @@ derive_par-returns-clause-asks g t c =
 pub derive_plus-returns-in_err-after_a-clause-asks : goal.derive_plus-returns-in_err-after_a-clause-asks
 derive_plus-returns-in_err-after_a-clause-asks g t c =
     let old = c.args.arena.now in
-    plus_first (definitions_of c.args.studied.now.book) (marks_of c.args.studied.now) (contract_at old c.args.a) (contract_at old c.args.b)
+    plus_first (book_of c.args.studied.now.book) (marks_of c.args.studied.now) (contract_at old c.args.a) (contract_at old c.args.b)
     c.args.asks.now c.derive.new.asks c.in_err-after_a.ensures.asks
 
 pub derive_plus-derive-requires-2 : goal.derive_plus-derive-requires-2
 derive_plus-derive-requires-2 g t c κs within =
-    let book = definitions_of c.args.studied.now.book in
+    let book = book_of c.args.studied.now.book in
     let marks = marks_of c.args.studied.now in
     let old = c.args.arena.now in
     let mid = c.derive.new.arena in
@@ -199,7 +199,7 @@ derive_plus-derive-requires-2 g t c κs within =
 
 pub derive_plus-returns-in_err-after_b-clause-asks : goal.derive_plus-returns-in_err-after_b-clause-asks
 derive_plus-returns-in_err-after_b-clause-asks g t c =
-    let book = definitions_of c.args.studied.now.book in
+    let book = book_of c.args.studied.now.book in
     let marks = marks_of c.args.studied.now in
     let old = c.args.arena.now in
     plus_asked book marks (contract_at old c.args.a) (contract_at old c.args.b) c.args.asks.now c.derive.new.asks c.in_ok-after_a.ensures.asks c.derive-2.new.asks
@@ -207,26 +207,26 @@ derive_plus-returns-in_err-after_b-clause-asks g t c =
 
 pub derive_plus-either-requires-clause-first : goal.derive_plus-either-requires-clause-first
 derive_plus-either-requires-clause-first g t c = λ h.
-    first_joined (definitions_of c.args.studied.now.book) (marks_of c.args.studied.now) c.args.event.now c.args.arena.now c.derive.new.arena c.derive-2.new.arena
+    first_joined (book_of c.args.studied.now.book) (marks_of c.args.studied.now) c.args.event.now c.args.arena.now c.derive.new.arena c.derive-2.new.arena
     c.in_ok-after_a.ensures.grows c.in_ok-after_b.ensures.grows c.args.a c.args.b c.in_ok-after_a.after_a c.in_ok-after_b.after_b c.requires.first c.requires.second
     c.in_ok-after_a.ensures.derived.stands c.in_ok-after_b.ensures.derived.stands ((rw c.nodes.ensures.nodes at c.is_joined-is_a_known.ensures) h)
 
 pub derive_plus-either-requires-clause-second : goal.derive_plus-either-requires-clause-second
 derive_plus-either-requires-clause-second g t c = λ h.
-    second_joined (definitions_of c.args.studied.now.book) (marks_of c.args.studied.now) c.args.event.now c.args.arena.now c.derive.new.arena c.derive-2.new.arena
+    second_joined (book_of c.args.studied.now.book) (marks_of c.args.studied.now) c.args.event.now c.args.arena.now c.derive.new.arena c.derive-2.new.arena
     c.in_ok-after_a.ensures.grows c.in_ok-after_b.ensures.grows c.args.a c.args.b c.in_ok-after_a.after_a c.in_ok-after_b.after_b c.requires.first c.requires.second
     c.in_ok-after_a.ensures.derived.stands c.in_ok-after_b.ensures.derived.stands ((rw c.nodes-2.ensures.nodes at c.is_joined-is_b_known.ensures) h)
 
 pub derive_plus-returns-clause-derived : goal.derive_plus-returns-clause-derived
 derive_plus-returns-clause-derived g t c =
-    plus_derived (definitions_of c.args.studied.now.book) (marks_of c.args.studied.now) c.args.event.now c.args.arena.now c.derive.new.arena c.derive-2.new.arena c.either.new.arena
+    plus_derived (book_of c.args.studied.now.book) (marks_of c.args.studied.now) c.args.event.now c.args.arena.now c.derive.new.arena c.derive-2.new.arena c.either.new.arena
     c.in_ok-after_a.ensures.grows c.in_ok-after_b.ensures.grows c.either.ensures.grows (noted c.derive-2.new.memo) c.args.a c.args.b
     c.in_ok-after_a.after_a c.in_ok-after_b.after_b c.requires.first c.requires.second c.in_ok-after_a.ensures.derived.stands c.in_ok-after_b.ensures.derived
     c.either.result c.either.ensures.stands
 
 pub derive_plus-returns-clause-asks : goal.derive_plus-returns-clause-asks
 derive_plus-returns-clause-asks g t c =
-    let book = definitions_of c.args.studied.now.book in
+    let book = book_of c.args.studied.now.book in
     let marks = marks_of c.args.studied.now in
     let old = c.args.arena.now in
     plus_asked book marks (contract_at old c.args.a) (contract_at old c.args.b) c.args.asks.now c.derive.new.asks c.in_ok-after_a.ensures.asks c.derive-2.new.asks
@@ -235,30 +235,30 @@ derive_plus-returns-clause-asks g t c =
 pub derive_seq-returns-in_err-after_a-clause-asks : goal.derive_seq-returns-in_err-after_a-clause-asks
 derive_seq-returns-in_err-after_a-clause-asks g t c =
     let old = c.args.arena.now in
-    seq_first (definitions_of c.args.studied.now.book) (marks_of c.args.studied.now) (contract_at old c.args.a) (contract_at old c.args.b)
+    seq_first (book_of c.args.studied.now.book) (marks_of c.args.studied.now) (contract_at old c.args.a) (contract_at old c.args.b)
     c.args.asks.now c.derive.new.asks c.in_err-after_a.ensures.asks
 
 pub derive_seq-returns-in_err-first-clause-asks : goal.derive_seq-returns-in_err-first-clause-asks
 derive_seq-returns-in_err-first-clause-asks g t c =
     let old = c.args.arena.now in
-    seq_first (definitions_of c.args.studied.now.book) (marks_of c.args.studied.now) (contract_at old c.args.a) (contract_at old c.args.b)
+    seq_first (book_of c.args.studied.now.book) (marks_of c.args.studied.now) (contract_at old c.args.a) (contract_at old c.args.b)
     c.args.asks.now c.derive.new.asks c.in_ok-after_a.ensures.asks
 
 pub derive_seq-returns-then-not-may_end_at-clause-derived : goal.derive_seq-returns-then-not-may_end_at-clause-derived
 derive_seq-returns-then-not-may_end_at-clause-derived g t c =
-    seq_derived (definitions_of c.args.studied.now.book) (marks_of c.args.studied.now) c.args.event.now c.args.arena.now c.derive.new.arena c.seq.new.arena
+    seq_derived (book_of c.args.studied.now.book) (marks_of c.args.studied.now) c.args.event.now c.args.arena.now c.derive.new.arena c.seq.new.arena
     c.in_ok-after_a.ensures.grows c.in_ok-first.ensures.grows c.args.a c.args.b c.in_ok-after_a.after_a c.in_ok-first.first c.requires.first c.requires.second
     (noted c.derive.new.memo) c.in_ok-after_a.ensures.derived c.in_ok-first.ensures.stands (sym (rw c.nodes.ensures.nodes at c.may_end_at.ensures) ∙ c.if-not-may_end_at.true)
 
 pub derive_seq-returns-then-not-may_end_at-clause-asks : goal.derive_seq-returns-then-not-may_end_at-clause-asks
 derive_seq-returns-then-not-may_end_at-clause-asks g t c =
     let old = c.args.arena.now in
-    seq_first (definitions_of c.args.studied.now.book) (marks_of c.args.studied.now) (contract_at old c.args.a) (contract_at old c.args.b)
+    seq_first (book_of c.args.studied.now.book) (marks_of c.args.studied.now) (contract_at old c.args.a) (contract_at old c.args.b)
     c.args.asks.now c.derive.new.asks c.in_ok-after_a.ensures.asks
 
 pub derive_seq-derive-requires-2 : goal.derive_seq-derive-requires-2
 derive_seq-derive-requires-2 g t c κs within =
-    let book = definitions_of c.args.studied.now.book in
+    let book = book_of c.args.studied.now.book in
     let marks = marks_of c.args.studied.now in
     let old = c.args.arena.now in
     let n₁ = c.derive.new.arena in
@@ -276,7 +276,7 @@ derive_seq-derive-requires-2 g t c κs within =
 
 pub derive_seq-returns-in_err-after_b-clause-asks : goal.derive_seq-returns-in_err-after_b-clause-asks
 derive_seq-returns-in_err-after_b-clause-asks g t c =
-    let book = definitions_of c.args.studied.now.book in
+    let book = book_of c.args.studied.now.book in
     let marks = marks_of c.args.studied.now in
     let old = c.args.arena.now in
     let mid = c.seq.new.arena in
@@ -287,14 +287,14 @@ derive_seq-returns-in_err-after_b-clause-asks g t c =
 
 pub derive_seq-either-requires-clause-second : goal.derive_seq-either-requires-clause-second
 derive_seq-either-requires-clause-second g t c = λ h.
-    over_joined (definitions_of c.args.studied.now.book) (marks_of c.args.studied.now) c.args.event.now c.args.arena.now c.derive.new.arena c.seq.new.arena
+    over_joined (book_of c.args.studied.now.book) (marks_of c.args.studied.now) c.args.event.now c.args.arena.now c.derive.new.arena c.seq.new.arena
     c.in_ok-after_a.ensures.grows c.in_ok-first.ensures.grows c.args.a c.args.b c.in_ok-after_a.after_a c.in_ok-first.first c.requires.first c.requires.second
     c.in_ok-after_a.ensures.derived.stands c.in_ok-first.ensures.stands c.derive-2.new.arena c.in_ok-after_b.ensures.grows c.in_ok-after_b.after_b
     c.in_ok-after_b.ensures.derived.stands ((rw c.nodes-2.ensures.nodes at c.is_joined-is_b_known.ensures) h)
 
 pub derive_seq-returns-clause-derived : goal.derive_seq-returns-clause-derived
 derive_seq-returns-clause-derived g t c =
-    over_derived (definitions_of c.args.studied.now.book) (marks_of c.args.studied.now) c.args.event.now c.args.arena.now c.derive.new.arena c.seq.new.arena
+    over_derived (book_of c.args.studied.now.book) (marks_of c.args.studied.now) c.args.event.now c.args.arena.now c.derive.new.arena c.seq.new.arena
     c.in_ok-after_a.ensures.grows c.in_ok-first.ensures.grows c.args.a c.args.b c.in_ok-after_a.after_a c.in_ok-first.first c.requires.first c.requires.second
     (noted c.derive.new.memo) c.in_ok-after_a.ensures.derived c.in_ok-first.ensures.stands c.derive-2.new.arena c.either.new.arena
     c.in_ok-after_b.ensures.grows c.either.ensures.grows c.in_ok-after_b.after_b (noted c.derive-2.new.memo) c.in_ok-after_b.ensures.derived
@@ -302,7 +302,7 @@ derive_seq-returns-clause-derived g t c =
 
 pub derive_seq-returns-clause-asks : goal.derive_seq-returns-clause-asks
 derive_seq-returns-clause-asks g t c =
-    let book = definitions_of c.args.studied.now.book in
+    let book = book_of c.args.studied.now.book in
     let marks = marks_of c.args.studied.now in
     let old = c.args.arena.now in
     let mid = c.seq.new.arena in
@@ -313,7 +313,7 @@ derive_seq-returns-clause-asks g t c =
 
 pub derive-returns-in-Some-clause-once : goal.derive-returns-in-Some-clause-once
 derive-returns-in-Some-clause-once g t c =
-    let book = definitions_of c.args.studied.now.book in
+    let book = book_of c.args.studied.now.book in
     let marks = marks_of c.args.studied.now in
     let old = c.args.arena.now in
     let memo = noted c.args.memo.now in
@@ -326,7 +326,7 @@ derive-returns-in_err-next-clause-once g t c =
     let new = c.derive_anew.new.arena in
     let more = noted c.derive_anew.new.memo in
     let here = contract_at old c.args.place in
-    part_failed (definitions_of c.args.studied.now.book) (marks_of c.args.studied.now) here here (IsNoted old (noted c.args.memo.now)) (IsNotedBut here new more) (IsNoted new more)
+    part_failed (book_of c.args.studied.now.book) (marks_of c.args.studied.now) here here (IsNoted old (noted c.args.memo.now)) (IsNotedBut here new more) (IsNoted new more)
     c.args.asks.now c.derive_anew.new.asks c.derive_anew.result c.from_residual.result c.from_residual.ensures.0 (λ d h. h) c.derive_anew.ensures.once
 
 pub derive-returns-clause-once : goal.derive-returns-clause-once
@@ -336,7 +336,7 @@ derive-returns-clause-once g t c =
     let mid = noted c.derive_anew.new.memo in
     let more = noted c.note.new.self in
     let here = contract_at old c.args.place in
-    part_spent (definitions_of c.args.studied.now.book) (marks_of c.args.studied.now) here here (IsNoted old (noted c.args.memo.now)) (IsNotedBut here new mid) (IsNoted new more)
+    part_spent (book_of c.args.studied.now.book) (marks_of c.args.studied.now) here here (IsNoted old (noted c.args.memo.now)) (IsNotedBut here new mid) (IsNoted new more)
     c.args.asks.now c.derive_anew.new.asks c.in_ok-next.next c.note.result (λ d h. h)
     (one_ok (λ _. (k : ℕ) → more k ≡ cond (nat_eq c.args.place k) (Some c.in_ok-next.next) (mid k)) (λ _. (d : Contract) → IsNotedBut here new mid d → IsNoted new more d) c.note.result
     (λ p m d h. noted_besides old new c.in_ok-next.ensures.grows c.args.place c.in_ok-next.next c.requires.within mid more m d h) c.note.ensures.notes)
@@ -344,22 +344,22 @@ derive-returns-clause-once g t c =
 
 pub derive_anew-returns-in-Success-clause-once : goal.derive_anew-returns-in-Success-clause-once
 derive_anew-returns-in-Success-clause-once g t c =
-    grown_spent (definitions_of c.args.studied.now.book) (marks_of c.args.studied.now) c.args.event.now c.args.arena.now (noted c.args.memo.now) c.requires.notes c.args.place
+    grown_spent (book_of c.args.studied.now.book) (marks_of c.args.studied.now) c.args.event.now c.args.arena.now (noted c.args.memo.now) c.requires.notes c.args.place
     c.failure.new.arena c.failure.ensures.grows c.failure.result c.args.asks.now
 
 pub derive_anew-returns-in_default-clause-once : goal.derive_anew-returns-in_default-clause-once
 derive_anew-returns-in_default-clause-once g t c =
-    grown_spent (definitions_of c.args.studied.now.book) (marks_of c.args.studied.now) c.args.event.now c.args.arena.now (noted c.args.memo.now) c.requires.notes c.args.place
+    grown_spent (book_of c.args.studied.now.book) (marks_of c.args.studied.now) c.args.event.now c.args.arena.now (noted c.args.memo.now) c.requires.notes c.args.place
     c.failure-in_default.new.arena c.failure-in_default.ensures.grows c.failure-in_default.result c.args.asks.now
 
 pub derive_anew-returns-in_err-when-in-Transmit-clause-once : goal.derive_anew-returns-in_err-when-in-Transmit-clause-once
 derive_anew-returns-in_err-when-in-Transmit-clause-once g t c =
-    grown_spent (definitions_of c.args.studied.now.book) (marks_of c.args.studied.now) c.args.event.now c.args.arena.now (noted c.args.memo.now) c.requires.notes c.args.place
+    grown_spent (book_of c.args.studied.now.book) (marks_of c.args.studied.now) c.args.event.now c.args.arena.now (noted c.args.memo.now) c.requires.notes c.args.place
     c.args.arena.now (extends_not c.args.arena.now) _ c.args.asks.now
 
 pub derive_anew-returns-in_ok-when-in-Transmit-clause-once : goal.derive_anew-returns-in_ok-when-in-Transmit-clause-once
 derive_anew-returns-in_ok-when-in-Transmit-clause-once g t c =
-    transmit_spent (definitions_of c.args.studied.now.book) (marks_of c.args.studied.now) c.args.event.now c.args.arena.now (noted c.args.memo.now) c.requires.notes c.args.place
+    transmit_spent (book_of c.args.studied.now.book) (marks_of c.args.studied.now) c.args.event.now c.args.arena.now (noted c.args.memo.now) c.requires.notes c.args.place
     c.transmit_at.new.arena c.transmit_at.ensures.grows c.transmit_at.result c.node.ensures.table c.requires.within c.requires.new
     c.in-Transmit.binders (expression_of c.deref.result.now) (contract_at c.args.arena.now c.in-Transmit.then)
     (transmit_is c.args.arena.now c.args.place c.node.ensures.contract c.in-Transmit.is (c.deref.ensures ∙ c.in_ok-when-in-Transmit.ensures))
@@ -368,37 +368,37 @@ derive_anew-returns-in_ok-when-in-Transmit-clause-once g t c =
 pub derive_anew-returns-in-Plus-clause-once : goal.derive_anew-returns-in-Plus-clause-once
 derive_anew-returns-in-Plus-clause-once g t c =
     let old = c.args.arena.now in
-    over_spent (definitions_of c.args.studied.now.book) (marks_of c.args.studied.now) (contract_at old c.args.place) (Plus (contract_at old c.in-Plus.a) (contract_at old c.in-Plus.b))
+    over_spent (book_of c.args.studied.now.book) (marks_of c.args.studied.now) (contract_at old c.args.place) (Plus (contract_at old c.in-Plus.a) (contract_at old c.in-Plus.b))
     (row_is old c.args.place c.node.ensures.contract c.in-Plus.is) (IsNoted old (noted c.args.memo.now)) c.derive_plus.new.arena (noted c.derive_plus.new.memo)
     c.args.asks.now c.derive_plus.new.asks c.derive_plus.result c.derive_plus.ensures.once
 
 pub derive_anew-returns-in-Par-clause-once : goal.derive_anew-returns-in-Par-clause-once
 derive_anew-returns-in-Par-clause-once g t c =
     let old = c.args.arena.now in
-    over_spent (definitions_of c.args.studied.now.book) (marks_of c.args.studied.now) (contract_at old c.args.place) (Par (contract_at old c.in-Par.a) (contract_at old c.in-Par.b))
+    over_spent (book_of c.args.studied.now.book) (marks_of c.args.studied.now) (contract_at old c.args.place) (Par (contract_at old c.in-Par.a) (contract_at old c.in-Par.b))
     (row_is old c.args.place c.node.ensures.contract c.in-Par.is) (IsNoted old (noted c.args.memo.now)) c.derive_par.new.arena (noted c.derive_par.new.memo)
     c.args.asks.now c.derive_par.new.asks c.derive_par.result c.derive_par.ensures.once
 
 pub derive_anew-returns-in-Seq-clause-once : goal.derive_anew-returns-in-Seq-clause-once
 derive_anew-returns-in-Seq-clause-once g t c =
     let old = c.args.arena.now in
-    over_spent (definitions_of c.args.studied.now.book) (marks_of c.args.studied.now) (contract_at old c.args.place) (Seq (contract_at old c.in-Seq.a) (contract_at old c.in-Seq.b))
+    over_spent (book_of c.args.studied.now.book) (marks_of c.args.studied.now) (contract_at old c.args.place) (Seq (contract_at old c.in-Seq.a) (contract_at old c.in-Seq.b))
     (row_is old c.args.place c.node.ensures.contract c.in-Seq.is) (IsNoted old (noted c.args.memo.now)) c.derive_seq.new.arena (noted c.derive_seq.new.memo)
     c.args.asks.now c.derive_seq.new.asks c.derive_seq.result c.derive_seq.ensures.once
 
 pub derive_anew-returns-in_err-args-in-App-clause-once : goal.derive_anew-returns-in_err-args-in-App-clause-once
 derive_anew-returns-in_err-args-in-App-clause-once g t c =
-    grown_spent (definitions_of c.args.studied.now.book) (marks_of c.args.studied.now) c.args.event.now c.args.arena.now (noted c.args.memo.now) c.requires.notes c.args.place
+    grown_spent (book_of c.args.studied.now.book) (marks_of c.args.studied.now) c.args.event.now c.args.arena.now (noted c.args.memo.now) c.requires.notes c.args.place
     c.args.arena.now (extends_not c.args.arena.now) _ c.args.asks.now
 
 pub derive_anew-returns-in_err-start-in-App-clause-once : goal.derive_anew-returns-in_err-start-in-App-clause-once
 derive_anew-returns-in_err-start-in-App-clause-once g t c =
-    let book = definitions_of c.args.studied.now.book in
+    let book = book_of c.args.studied.now.book in
     let marks = marks_of c.args.studied.now in
     let here = contract_at c.args.arena.now c.args.place in
     let args = map expression_of c.as_slice.result.now in
     let whole = app_is c.args.arena.now c.args.place c.node.ensures.contract c.in-App.is c.as_slice.result.now (c.as_slice.ensures ∙ ap (λ l. l.items) (c.deref-in-App.ensures ∙ c.in_ok-args-in-App.ensures)) in
-    let template = definition_of c.in-Some.template.now in
+    let template = template_of c.in-Some.template.now in
     let found = sym c.in-Some.ensures.template in
     let paid = app_paid book marks c.requires.studied here c.in-App.name args whole c.requires.fits template found in
     row_spent book marks c.args.event.now c.args.arena.now (noted c.args.memo.now) c.requires.notes c.args.place
@@ -408,12 +408,12 @@ derive_anew-returns-in_err-start-in-App-clause-once g t c =
 
 pub derive_anew-returns-in_ok-start-in-App-clause-once : goal.derive_anew-returns-in_ok-start-in-App-clause-once
 derive_anew-returns-in_ok-start-in-App-clause-once g t c =
-    let book = definitions_of c.args.studied.now.book in
+    let book = book_of c.args.studied.now.book in
     let marks = marks_of c.args.studied.now in
     let here = contract_at c.args.arena.now c.args.place in
     let args = map expression_of c.as_slice.result.now in
     let whole = app_is c.args.arena.now c.args.place c.node.ensures.contract c.in-App.is c.as_slice.result.now (c.as_slice.ensures ∙ ap (λ l. l.items) (c.deref-in-App.ensures ∙ c.in_ok-args-in-App.ensures)) in
-    let template = definition_of c.in-Some.template.now in
+    let template = template_of c.in-Some.template.now in
     let old = c.args.arena.now in
     let memo = noted c.args.memo.now in
     let mid = c.unfold.new.arena in
@@ -427,7 +427,7 @@ derive_anew-returns-in_ok-start-in-App-clause-once g t c =
 
 pub derive_plus-returns-in_err-after_a-clause-once : goal.derive_plus-returns-in_err-after_a-clause-once
 derive_plus-returns-in_err-after_a-clause-once g t c =
-    let book = definitions_of c.args.studied.now.book in
+    let book = book_of c.args.studied.now.book in
     let marks = marks_of c.args.studied.now in
     let old = c.args.arena.now in
     let a = contract_at old c.args.a in
@@ -438,7 +438,7 @@ derive_plus-returns-in_err-after_a-clause-once g t c =
 
 pub derive_plus-returns-in_err-after_b-clause-once : goal.derive_plus-returns-in_err-after_b-clause-once
 derive_plus-returns-in_err-after_b-clause-once g t c =
-    let book = definitions_of c.args.studied.now.book in
+    let book = book_of c.args.studied.now.book in
     let marks = marks_of c.args.studied.now in
     let old = c.args.arena.now in
     let a = contract_at old c.args.a in
@@ -450,7 +450,7 @@ derive_plus-returns-in_err-after_b-clause-once g t c =
 
 pub derive_plus-returns-clause-once : goal.derive_plus-returns-clause-once
 derive_plus-returns-clause-once g t c =
-    let book = definitions_of c.args.studied.now.book in
+    let book = book_of c.args.studied.now.book in
     let marks = marks_of c.args.studied.now in
     let old = c.args.arena.now in
     let a = contract_at old c.args.a in
@@ -462,7 +462,7 @@ derive_plus-returns-clause-once g t c =
 
 pub derive_par-returns-in_err-after_a-clause-once : goal.derive_par-returns-in_err-after_a-clause-once
 derive_par-returns-in_err-after_a-clause-once g t c =
-    let book = definitions_of c.args.studied.now.book in
+    let book = book_of c.args.studied.now.book in
     let marks = marks_of c.args.studied.now in
     let old = c.args.arena.now in
     let a = contract_at old c.args.a in
@@ -473,7 +473,7 @@ derive_par-returns-in_err-after_a-clause-once g t c =
 
 pub derive_par-returns-in_err-after_b-clause-once : goal.derive_par-returns-in_err-after_b-clause-once
 derive_par-returns-in_err-after_b-clause-once g t c =
-    let book = definitions_of c.args.studied.now.book in
+    let book = book_of c.args.studied.now.book in
     let marks = marks_of c.args.studied.now in
     let old = c.args.arena.now in
     let a = contract_at old c.args.a in
@@ -485,7 +485,7 @@ derive_par-returns-in_err-after_b-clause-once g t c =
 
 pub derive_par-returns-clause-once : goal.derive_par-returns-clause-once
 derive_par-returns-clause-once g t c =
-    let book = definitions_of c.args.studied.now.book in
+    let book = book_of c.args.studied.now.book in
     let marks = marks_of c.args.studied.now in
     let old = c.args.arena.now in
     let a = contract_at old c.args.a in
@@ -497,7 +497,7 @@ derive_par-returns-clause-once g t c =
 
 pub derive_seq-returns-in_err-after_a-clause-once : goal.derive_seq-returns-in_err-after_a-clause-once
 derive_seq-returns-in_err-after_a-clause-once g t c =
-    let book = definitions_of c.args.studied.now.book in
+    let book = book_of c.args.studied.now.book in
     let marks = marks_of c.args.studied.now in
     let old = c.args.arena.now in
     let a = contract_at old c.args.a in
@@ -508,7 +508,7 @@ derive_seq-returns-in_err-after_a-clause-once g t c =
 
 pub derive_seq-returns-in_err-first-clause-once : goal.derive_seq-returns-in_err-first-clause-once
 derive_seq-returns-in_err-first-clause-once g t c =
-    let book = definitions_of c.args.studied.now.book in
+    let book = book_of c.args.studied.now.book in
     let marks = marks_of c.args.studied.now in
     let old = c.args.arena.now in
     let a = contract_at old c.args.a in
@@ -520,7 +520,7 @@ derive_seq-returns-in_err-first-clause-once g t c =
 
 pub derive_seq-returns-then-not-may_end_at-clause-once : goal.derive_seq-returns-then-not-may_end_at-clause-once
 derive_seq-returns-then-not-may_end_at-clause-once g t c =
-    let book = definitions_of c.args.studied.now.book in
+    let book = book_of c.args.studied.now.book in
     let marks = marks_of c.args.studied.now in
     let old = c.args.arena.now in
     let a = contract_at old c.args.a in
@@ -531,7 +531,7 @@ derive_seq-returns-then-not-may_end_at-clause-once g t c =
 
 pub derive_seq-returns-in_err-after_b-clause-once : goal.derive_seq-returns-in_err-after_b-clause-once
 derive_seq-returns-in_err-after_b-clause-once g t c =
-    let book = definitions_of c.args.studied.now.book in
+    let book = book_of c.args.studied.now.book in
     let marks = marks_of c.args.studied.now in
     let old = c.args.arena.now in
     let a = contract_at old c.args.a in
@@ -550,7 +550,7 @@ derive_seq-returns-in_err-after_b-clause-once g t c =
 
 pub derive_seq-returns-clause-once : goal.derive_seq-returns-clause-once
 derive_seq-returns-clause-once g t c =
-    let book = definitions_of c.args.studied.now.book in
+    let book = book_of c.args.studied.now.book in
     let marks = marks_of c.args.studied.now in
     let old = c.args.arena.now in
     let a = contract_at old c.args.a in

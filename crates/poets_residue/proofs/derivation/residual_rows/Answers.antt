@@ -1,7 +1,7 @@
 use Rattle.std.proofs.Common.{◌≡◌, ◌∙◌, ℕ, List, [], arith, ap, sym, subst, length}
 use Rattle.std.proofs.lemmas.List.{length-map}
 use Rattle.poets_syntax.specs.Applied.{CountsFit}
-use Rattle.poets_syntax.specs.Book.{definitions_of}
+use Rattle.poets_syntax.specs.Book.{book_of}
 use Rattle.poets_syntax.specs.Residual.{after}
 use Rattle.poets_syntax.specs.Studied.{marks_of}
 use Rattle.poets_syntax.specs.Width.{width}
@@ -26,7 +26,7 @@ same_length old new q = omega (arith, ap length q, length-map old row_of, length
 
 pub derive-requires-clause-studied : goal.derive-requires-clause-studied
 derive-requires-clause-studied g c =
-    IsStudied-book (definitions_of c.args.studied.now.book) c.args.studied.now.marks c.book-book.ensures.studied
+    IsStudied-book (book_of c.args.studied.now.book) c.args.studied.now.marks c.book-book.ensures.studied
 
 pub derive-requires-clause-within : goal.derive-requires-clause-within
 derive-requires-clause-within g c =
@@ -35,17 +35,17 @@ derive-requires-clause-within g c =
 pub derive-requires-clause-fits : goal.derive-requires-clause-fits
 derive-requires-clause-fits g c =
     let here = same_contract_at c.args.rows.now c.in_ok-arena.arena c.in_ok-arena.ensures c.root-start.result ∙ c.root-start.ensures.contract in
-    subst (CountsFit (definitions_of c.args.studied.now.book)) (sym here) c.requires
+    subst (CountsFit (book_of c.args.studied.now.book)) (sym here) c.requires
 
 pub returns-in_err-place-clause-asks : goal.returns-in_err-place-clause-asks
 returns-in_err-place-clause-asks g c =
     let here = same_contract_at c.args.rows.now c.in_ok-arena.arena c.in_ok-arena.ensures c.root-start.result ∙ c.root-start.ensures.contract in
-    let width_here = ap (width (definitions_of c.args.studied.now.book) (marks_of c.args.studied.now)) here in
+    let width_here = ap (width (book_of c.args.studied.now.book) (marks_of c.args.studied.now)) here in
     omega (arith, c.in_err-place.ensures.asks, questions-le (contract_at c.in_ok-arena.arena c.root-start.result), width_here)
 
 pub returns-clause-residual : goal.returns-clause-residual
 returns-clause-residual g c =
-    let book = definitions_of c.args.studied.now.book in
+    let book = book_of c.args.studied.now.book in
     let marks = marks_of c.args.studied.now in
     let here = same_contract_at c.args.rows.now c.in_ok-arena.arena c.in_ok-arena.ensures c.root-start.result ∙ c.root-start.ensures.contract in
     rw (c.nodes.ensures.nodes, c.in_ok-place.ensures.derived.stands.contract ∙ ap (after book marks c.args.event.now) here) at c.rows_at.ensures
@@ -53,12 +53,12 @@ returns-clause-residual g c =
 pub returns-clause-asks : goal.returns-clause-asks
 returns-clause-asks g c =
     let here = same_contract_at c.args.rows.now c.in_ok-arena.arena c.in_ok-arena.ensures c.root-start.result ∙ c.root-start.ensures.contract in
-    let width_here = ap (width (definitions_of c.args.studied.now.book) (marks_of c.args.studied.now)) here in
+    let width_here = ap (width (book_of c.args.studied.now.book) (marks_of c.args.studied.now)) here in
     omega (arith, c.in_ok-place.ensures.asks, questions-le (contract_at c.in_ok-arena.arena c.root-start.result), width_here)
 
 pub returns-in_err-place-clause-once : goal.returns-in_err-place-clause-once
 returns-in_err-place-clause-once g c =
-    let book = definitions_of c.args.studied.now.book in
+    let book = book_of c.args.studied.now.book in
     let marks = marks_of c.args.studied.now in
     let arena = c.in_ok-arena.arena in
     let start = c.root-start.result in
@@ -69,7 +69,7 @@ returns-in_err-place-clause-once g c =
 
 pub returns-clause-once : goal.returns-clause-once
 returns-clause-once g c =
-    let book = definitions_of c.args.studied.now.book in
+    let book = book_of c.args.studied.now.book in
     let marks = marks_of c.args.studied.now in
     let arena = c.in_ok-arena.arena in
     let start = c.root-start.result in

@@ -1,5 +1,5 @@
 use Rattle.std.proofs.Common.{◌∙◌, [], refl, sym}
-use Rattle.poets_syntax.specs.Book.{definitions_of}
+use Rattle.poets_syntax.specs.Book.{book_of}
 use Rattle.poets_syntax.specs.Contract.{contract_of}
 use Rattle.poets_syntax.specs.Studied.{marks_of}
 use Rattle.poets_syntax.proofs.Nullability.{nullable_in, nullable_performed, EachExposed-fits}
@@ -8,7 +8,7 @@ use Rattle.poets_residue.proofs.endings.may_end.Goals as goal
 
 pub returns : goal.returns
 returns c =
-    let book = definitions_of c.args.studied.now.book in
+    let book = book_of c.args.studied.now.book in
     let marks = marks_of c.args.studied.now in
     let term = contract_of c.args.term.now in
     let right = AreRight-studied book c.args.studied.now.marks c.book-book.ensures.studied in (

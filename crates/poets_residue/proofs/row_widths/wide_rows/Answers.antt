@@ -1,5 +1,5 @@
 use Rattle.std.proofs.Common.{◌≡◌, ◌∙◌, ap, arith}
-use Rattle.poets_syntax.specs.Book.{definitions_of, template_in}
+use Rattle.poets_syntax.specs.Book.{book_of, template_in}
 use Rattle.poets_syntax.specs.Studied.{marks_of}
 use Rattle.poets_syntax.specs.Width.{body_in, wide_by, width}
 use Rattle.poets_norm.proofs.StudiedBooks.{width-studied}
@@ -9,7 +9,7 @@ use Rattle.poets_residue.proofs.row_widths.wide_rows.Goals as goal
 pub returns : goal.returns
 returns c =
     let studied = c.args.studied.now in
-    let book = definitions_of studied.book in
+    let book = book_of studied.book in
     let marks = marks_of studied in
     let here : contract_at c.nodes-nodes.result.now c.root-root.result ≡ contract_of_rows c.args.rows.now =
     ap (λ nodes. contract_at nodes c.root-root.result) c.nodes-nodes.ensures.nodes ∙ c.root-root.ensures.contract in

@@ -1,5 +1,5 @@
 use Rattle.std.proofs.Common.{◌≡◌, ◌∙◌, ℕ, length, ap, refl}
-use Rattle.poets_syntax.specs.Book.{definitions_of}
+use Rattle.poets_syntax.specs.Book.{book_of}
 use Rattle.poets_syntax.specs.Contract.{Contract, Seq}
 use Rattle.poets_syntax.specs.Marks.{Marks}
 use Rattle.poets_syntax.specs.Studied.{marks_of}
@@ -16,7 +16,7 @@ joined_of marks part _ h = tt
 
 pub returns-in-Seq : goal.returns-in-Seq
 returns-in-Seq c = λ h e.
-    let book = definitions_of c.args.studied.now.book in
+    let book = book_of c.args.studied.now.book in
     let nodes = c.args.nodes.now in
     let whole = c.node_at.ensures.contract ∙ ap (λ n. contract_by (contract_at nodes) (row_of n)) c.in-Seq.is in
     rw whole (distinct-after_at book (marks_of c.args.studied.now) e (length book.templates)
@@ -24,7 +24,7 @@ returns-in-Seq c = λ h e.
 
 pub returns-in_default : goal.returns-in_default
 returns-in_default c = λ _ e.
-    let book = definitions_of c.args.studied.now.book in
+    let book = book_of c.args.studied.now.book in
     let nodes = c.args.nodes.now in
     rw c.node_at.ensures.contract (distinct-after_at book (marks_of c.args.studied.now) e (length book.templates)
     (contract_by (contract_at nodes) (row_of c.node_at.result.now)) (joined_of (marks_of c.args.studied.now) (contract_at nodes) c.node_at.result.now (λ a b k. c.in_default.not-Seq a b k)))

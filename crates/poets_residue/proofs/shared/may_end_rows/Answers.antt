@@ -1,5 +1,5 @@
 use Rattle.std.proofs.Common.{◌≡◌, ◌∙◌, [], refl, sym, ap}
-use Rattle.poets_syntax.specs.Book.{definitions_of}
+use Rattle.poets_syntax.specs.Book.{book_of}
 use Rattle.poets_syntax.specs.Marks.{nullable}
 use Rattle.poets_syntax.specs.Studied.{marks_of}
 use Rattle.poets_syntax.proofs.Nullability.{nullable_in, nullable_performed, EachExposed-fits}
@@ -9,7 +9,7 @@ use Rattle.poets_residue.proofs.shared.may_end_rows.Goals as goal
 
 pub returns : goal.returns
 returns c =
-    let book = definitions_of c.args.studied.now.book in
+    let book = book_of c.args.studied.now.book in
     let marks = marks_of c.args.studied.now in
     let term = contract_of_rows c.args.rows.now in
     let right = AreRight-studied book c.args.studied.now.marks c.book-book.ensures.studied in

@@ -1,6 +1,6 @@
 use Rattle.std.proofs.Common.{length, sym, subst}
 use Rattle.poets_syntax.specs.Applied.{CountsFit, BodiesCountsFit}
-use Rattle.poets_syntax.specs.Book.{definitions_of}
+use Rattle.poets_syntax.specs.Book.{book_of}
 use Rattle.poets_syntax.specs.Contract.{contract_of}
 use Rattle.poets_syntax.specs.Studied.{marks_of}
 use Rattle.poets_residue.proofs.Kept.{CountsFit-after_at}
@@ -9,7 +9,7 @@ use Rattle.poets_residue.proofs.tests.after.Goals as goal
 
 pub returns : goal.returns
 returns c =
-    let book = definitions_of c.in_ok-studied.studied.book in
+    let book = book_of c.in_ok-studied.studied.book in
     let same = c.in_ok-studied.ensures in
     let term = contract_of c.args.term.now in
     let kept = CountsFit-after_at book (marks_of c.in_ok-studied.studied) (subst BodiesCountsFit (sym same) bodies_fit) c.given.result (length book.templates) term

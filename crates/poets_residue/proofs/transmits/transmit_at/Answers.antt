@@ -2,7 +2,7 @@ use Rattle.std.proofs.Common.{◌≡◌, true, false, [], sym, ◌∙◌, arith}
 use Rattle.poets_expr.specs.Env.{declared_of}
 use Rattle.poets_expr.specs.Expression.{expression_of}
 use Rattle.poets_expr.specs.Val.{val}
-use Rattle.poets_syntax.specs.Book.{definitions_of, taken}
+use Rattle.poets_syntax.specs.Book.{book_of, taken}
 use Rattle.poets_syntax.specs.Residual.{is_true}
 use Rattle.poets_syntax.specs.Studied.{marks_of}
 use Rattle.poets_cons.specs.Table.{contract_at}
@@ -14,7 +14,7 @@ returns-then-not-holds-clause-residual g c =
     let k : is_true (val (declared_of c.args.studied.now.book.decls.names) (taken c.args.binders.now c.args.event.now []) (expression_of c.args.when.now)) ≡ false =
     sym (rw c.book.ensures.book at c.holds.ensures.value) ∙ c.if-not-holds.true in
     rw (
-      after-transmit (definitions_of c.args.studied.now.book) (marks_of c.args.studied.now) c.args.event.now
+      after-transmit (book_of c.args.studied.now.book) (marks_of c.args.studied.now) c.args.event.now
           c.args.binders.now (expression_of c.args.when.now) (contract_at c.args.arena.now c.args.then),
       k,
     )
@@ -25,7 +25,7 @@ returns-clause-residual g c =
     let k : is_true (val (declared_of c.args.studied.now.book.decls.names) (taken c.args.binders.now c.args.event.now []) (expression_of c.args.when.now)) ≡ true =
     sym (rw c.book.ensures.book at c.holds.ensures.value) ∙ c.if-not-holds.false in
     rw (
-      after-transmit (definitions_of c.args.studied.now.book) (marks_of c.args.studied.now) c.args.event.now
+      after-transmit (book_of c.args.studied.now.book) (marks_of c.args.studied.now) c.args.event.now
           c.args.binders.now (expression_of c.args.when.now) (contract_at c.args.arena.now c.args.then),
       k,
     )

@@ -1,9 +1,9 @@
 use Rattle.std.proofs.Common.{◌≡◌, All, false, take}
-use Rattle.poets_call.specs.Sentences.{sentence_of}
+use Rattle.poets_call.specs.Statements.{statement_of}
 use Rattle.poets_call.specs.declared.statement.Statement.{Statement}
 use Rattle.poets_session.specs.Checking.{declares}
 use Rattle.poets_session.proofs.checking.number_of.Given as goal
 
 -- no statement so far declares the template
 abbrev pub invariant-loop-place : goal.invariant-loop-place
-invariant-loop-place l = All {X = Statement} (λ s. declares l.name (sentence_of s) ≡ false) (take l.place l.statements)
+invariant-loop-place l = All {X = Statement} (λ s. declares l.name (statement_of s) ≡ false) (take l.place l.statements)

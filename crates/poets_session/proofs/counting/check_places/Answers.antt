@@ -1,5 +1,5 @@
 use Rattle.std.proofs.Common.{◌+◌, Some, refl, ap, ◌∙◌, arith, take, drop}
-use Rattle.poets_call.specs.Sentences.{sentence_of, sentences_of}
+use Rattle.poets_call.specs.Statements.{statement_of, statements_of}
 use Rattle.poets_session.specs.Places.{Misplaced, TooMany}
 use Rattle.poets_session.proofs.Placing.{placed_more, misplaced, too_many, before_length, at_place, past_place}
 use Rattle.poets_session.proofs.counting.check_places.Goals as goal
@@ -16,7 +16,7 @@ loop-place-init c = (
 pub returns-in_default-clause-out : goal.returns-in_default-clause-out
 returns-in_default-clause-out c =
     let l = c.args.statements.now in let i = c.loop-place.place in let s = c.index-statements-place.result in
-    misplaced c.args.form (sentences_of l) c.loop-place.part c.loop-place.counts (sentences_of (take i l)) (sentences_of (drop (i + 1) l)) (sentence_of s)
+    misplaced c.args.form (statements_of l) c.loop-place.part c.loop-place.counts (statements_of (take i l)) (statements_of (drop (i + 1) l)) (statement_of s)
     (at_place c.args.form c.loop-place.part c.loop-place.counts l i s c.loop-place-test.true c.index-statements-place.is c.loop-place.invariant.0) c.in_default.ensures
     ∙ ap (λ n. Some (Misplaced (n + 1))) (before_length l i (omega (arith, c.loop-place-test.true)))
 
@@ -26,9 +26,9 @@ with-requires c = let i = c.loop-place.invariant in (i.1, i.2, i.3, i.4)
 pub returns-in_default-with-clause-out : goal.returns-in_default-with-clause-out
 returns-in_default-with-clause-out c =
     let l = c.args.statements.now in let i = c.loop-place.place in let s = c.index-statements-place.result in let p = c.loop-place.invariant.0 in
-    too_many c.args.form (sentences_of l) c.loop-place.part c.in-Some.next c.loop-place.counts (sentences_of (take i l)) (sentences_of (drop (i + 1) l)) (sentence_of s)
+    too_many c.args.form (statements_of l) c.loop-place.part c.in-Some.next c.loop-place.counts (statements_of (take i l)) (statements_of (drop (i + 1) l)) (statement_of s)
     (at_place c.args.form c.loop-place.part c.loop-place.counts l i s c.loop-place-test.true c.index-statements-place.is p) c.in-Some.ensures
-    (c.in_default-with.ensures.many (sentences_of (take i l)) p.counting)
+    (c.in_default-with.ensures.many (statements_of (take i l)) p.counting)
     ∙ ap (λ n. Some (TooMany (n + 1))) (before_length l i (omega (arith, c.loop-place-test.true)))
 
 pub loop-place-preserved : goal.loop-place-preserved
@@ -36,9 +36,9 @@ loop-place-preserved c =
     let l = c.args.statements.now in let i = c.loop-place.place in let s = c.index-statements-place.result in let p = c.loop-place.invariant.0 in
     let b = c.in-Some-with.ensures.bound in (
       past_place c.args.form c.in-Some.next c.in-Some-with.more l i s c.loop-place-test.true c.index-statements-place.is
-          (placed_more c.args.form (sentences_of l) c.loop-place.part c.in-Some.next c.loop-place.counts c.in-Some-with.more (sentences_of (take i l)) (sentences_of (drop (i + 1) l)) (sentence_of s)
+          (placed_more c.args.form (statements_of l) c.loop-place.part c.in-Some.next c.loop-place.counts c.in-Some-with.more (statements_of (take i l)) (statements_of (drop (i + 1) l)) (statement_of s)
           (at_place c.args.form c.loop-place.part c.loop-place.counts l i s c.loop-place-test.true c.index-statements-place.is p) c.in-Some.ensures
-          (c.in-Some-with.ensures.few (sentences_of (take i l)) p.counting) (c.in-Some-with.ensures.counted (sentences_of (take i l)) p.counting)),
+          (c.in-Some-with.ensures.few (statements_of (take i l)) p.counting) (c.in-Some-with.ensures.counted (statements_of (take i l)) p.counting)),
       b.0,
       b.1,
       b.2,

@@ -1,10 +1,10 @@
 use Rattle.std.proofs.Common.{◌≤◌, take, drop}
-use Rattle.poets_call.specs.Sentences.{sentences_of}
+use Rattle.poets_call.specs.Statements.{statements_of}
 use Rattle.poets_session.proofs.Placing.{Placed}
 use Rattle.poets_session.proofs.counting.check_places.Given as goal
 
 -- the statements so far stand in their places, and are counted
 abbrev pub invariant-loop-place : goal.invariant-loop-place
 invariant-loop-place l =
-    Placed l.form (sentences_of l.statements) l.part l.counts (sentences_of (take l.place l.statements)) (sentences_of (drop l.place l.statements))
+    Placed l.form (statements_of l.statements) l.part l.counts (statements_of (take l.place l.statements)) (statements_of (drop l.place l.statements))
     × (l.counts.clerks ≤ 64) × (l.counts.templates ≤ 256) × (l.counts.reports ≤ 256) × (l.counts.commands ≤ 65_536)

@@ -1,6 +1,6 @@
 use Rattle.std.proofs.Common.{◌≡◌, Some, append_assoc, string_bytes, sym, ap}
 use Rattle.poets_session.specs.Texts.{fault_text}
-use Rattle.poets_syntax.specs.TypeOf.{WrongCount}
+use Rattle.poets_syntax.specs.Plain.{WrongCount}
 use Rattle.poets_session.proofs.lines.type_fault_text.Goals as goal
 
 pub returns-in_ok-format-in-WrongCount : goal.returns-in_ok-format-in-WrongCount

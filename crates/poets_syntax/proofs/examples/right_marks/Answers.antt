@@ -6,7 +6,8 @@ use Rattle.poets_expr.proofs.SameTrees.{name_one}
 use Rattle.poets_expr.specs.Expression.{Expression}
 use Rattle.poets_syntax.specs.declared.term.Binders.{Binders}
 use Rattle.poets_syntax.specs.Contract.{Contract}
-use Rattle.poets_syntax.specs.Book.{Definition, template_in}
+use Rattle.poets_syntax.specs.Plain.{Template}
+use Rattle.poets_syntax.specs.Book.{template_in}
 use Rattle.poets_syntax.specs.Perf.{Perf}
 use Rattle.poets_syntax.specs.May.{May}
 use Rattle.poets_syntax.specs.Marks.{BodySatisfies, Nullable, Hopeful}
@@ -15,7 +16,7 @@ use Rattle.poets_syntax.proofs.Replacing.{truth}
 use Rattle.poets_syntax.proofs.examples.right_marks.Goals as goal
 
 -- a template of the book is one of the two
-one_of_two : (f : Name) (t : Definition) → template_in book.templates f ≡ Some t →
+one_of_two : (f : Name) (t : Template) → template_in book.templates f ≡ Some t →
     ((sale ≡ f) × (sale_template ≡ t)) ⊎ ((again ≡ f) × (again_template ≡ t))
 one_of_two f t q = elim (truth (same_name sale f)) [
   | inl e ↦ inl (name_one sale f e, some_one (rw e at q))
@@ -25,7 +26,7 @@ one_of_two f t q = elim (truth (same_name sale f)) [
   ]
 ]
   where
-    some_one : {x y : Definition} → Some x ≡ Some y → x ≡ y
+    some_one : {x y : Template} → Some x ≡ Some y → x ≡ y
     some_one e = cc
 
 -- no transmit is performed by the empty trace

@@ -1,6 +1,6 @@
 use Rattle.std.proofs.Common.{[], refl, sym, ◌∙◌, ap, subst}
 use Rattle.poets_call.specs.Calls.{calls_of, history_of}
-use Rattle.poets_call.specs.Rules.{book_of, reports_of}
+use Rattle.poets_call.specs.Rules.{book_of_rules, reports_of_rules}
 use Rattle.poets_call.specs.Histories.{IsLegal}
 use Rattle.poets_top.specs.Scripts.{AreNoted}
 use Rattle.poets_top.proofs.Making.{calls_more}
@@ -12,7 +12,7 @@ use Rattle.poets_top.proofs.work.make_calls.Goals as goal
 pub loop-numbered-init : goal.loop-numbered-init
 loop-numbered-init g c = record {
   noted = subst (λ es. AreNoted c.new-engine.result (history_of es)) (sym c.new-entries.ensures)
-      (AreNoted-none c.new-engine.result (subst (λ r. IsLegal (book_of r) (reports_of r) []) (sym c.new-engine.ensures.rules) c.new-engine.ensures.legal) c.new-engine.ensures.calls);
+      (AreNoted-none c.new-engine.result (subst (λ r. IsLegal (book_of_rules r) (reports_of_rules r) []) (sym c.new-engine.ensures.rules) c.new-engine.ensures.legal) c.new-engine.ensures.calls);
   calls = ap (λ es. calls_of (history_of es)) c.new-entries.ensures;
   rules = refl;
 }

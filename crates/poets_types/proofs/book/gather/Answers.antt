@@ -1,10 +1,10 @@
 use Rattle.std.proofs.Common.{◌++◌, List, sym, ap, ◌∙◌}
 use Rattle.std.proofs.lemmas.List.{take_all}
-use Rattle.poets_syntax.specs.Book.{Definition}
-use Rattle.poets_report.specs.Query.{Query}
-use Rattle.poets_call.specs.Sentences.{sentence_of}
+use Rattle.poets_syntax.specs.Plain.{Template}
+use Rattle.poets_report.specs.Plain.{Report}
+use Rattle.poets_call.specs.Statements.{statement_of}
 use Rattle.poets_call.specs.Declarations.{template_in_statement, report_in_statement}
-use Rattle.poets_types.proofs.Declaring.{flat_map-more, declared_by-more, same_definitions}
+use Rattle.poets_types.proofs.Declaring.{flat_map-more, declared_by-more, same_books}
 use Rattle.poets_types.proofs.book.gather.Goals as goal
 
 pub loop-statement-preserved : goal.loop-statement-preserved
@@ -18,14 +18,14 @@ loop-statement-preserved c =
           let kept = c.loop-statement.invariant.declared x in
           rw (more, ← kept) (c.in_ok-add.ensures.declared x);
       templates =
-          c.in_ok-add.ensures.templates ∙ ap (λ (ts : List Definition). ts ++ template_in_statement (sentence_of s)) c.loop-statement.invariant.templates
+          c.in_ok-add.ensures.templates ∙ ap (λ (ts : List Template). ts ++ template_in_statement (statement_of s)) c.loop-statement.invariant.templates
           ∙ sym (flat_map-more template_in_statement statements i s c.loop-statement-test.true c.statement-item.is);
       reports =
-          c.in_ok-add.ensures.reports ∙ ap (λ (qs : List Query). qs ++ report_in_statement (sentence_of s)) c.loop-statement.invariant.reports
+          c.in_ok-add.ensures.reports ∙ ap (λ (qs : List Report). qs ++ report_in_statement (statement_of s)) c.loop-statement.invariant.reports
           ∙ sym (flat_map-more report_in_statement statements i s c.loop-statement-test.true c.statement-item.is);
     }
 
 pub returns-clause-book : goal.returns-clause-book
 returns-clause-book c =
     let all = take_all c.loop-statement.statement-index c.args.statements.now c.loop-statement-test.false in
-    same_definitions _ _ (rw all at c.loop-statement.invariant.declared) (rw all at c.loop-statement.invariant.templates)
+    same_books _ _ (rw all at c.loop-statement.invariant.declared) (rw all at c.loop-statement.invariant.templates)

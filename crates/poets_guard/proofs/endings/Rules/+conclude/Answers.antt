@@ -5,7 +5,7 @@ use Rattle.std.proofs.lemmas.Result.{on_ok_weaker}
 use Rattle.poets_value.specs.declared.value.Name.{Name}
 use Rattle.poets_value.specs.Names.{name_cmp}
 use Rattle.poets_syntax.specs.Applied.{ApplicationsFit}
-use Rattle.poets_syntax.specs.Book.{Definitions}
+use Rattle.poets_syntax.specs.Plain.{Book}
 use Rattle.poets_syntax.specs.Contract.{Contract, contract_of}
 use Rattle.poets_guard.specs.Endings.{ends, MayEnd}
 use Rattle.poets_guard.proofs.Marking.{MayEnd-par, MayEnd-seq}
@@ -49,7 +49,7 @@ returns-in_ok-conclude-in-Par t c = elim c.in-Par.is [
 ]
   where
     both : (d : Contract) → ((says : Name → Bool) → ends c.args.granted says d ≡ true → (ends c.args.granted says (contract_of c.in-Par.a.value) && ends c.args.granted says (contract_of c.in-Par.b.value)) ≡ true) →
-        ((book : Definitions) → ApplicationsFit book d → ApplicationsFit book (contract_of c.in-Par.a.value) × ApplicationsFit book (contract_of c.in-Par.b.value)
+        ((book : Book) → ApplicationsFit book d → ApplicationsFit book (contract_of c.in-Par.a.value) × ApplicationsFit book (contract_of c.in-Par.b.value)
         × (MayEnd book c.args.granted (contract_of c.in-Par.a.value) → MayEnd book c.args.granted (contract_of c.in-Par.b.value) → MayEnd book c.args.granted d)) →
         OnOk c.conclude-in-Par-2.result (AreAdded c.args.granted (get name_cmp c.args.facts.now) d c.args.given c.args.goal c.args.self.now c.conclude-in-Par-2.new.self)
     both d splits joins =

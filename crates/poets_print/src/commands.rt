@@ -1,8 +1,10 @@
 //! The texts of commands.
 ghost use Rattle.std.specs.Prelude.{◌≡◌, ◌++◌, OnOk, IfOk, string_bytes, map};
-ghost use Rattle.poets_call.specs.Calls.{request_of};
-ghost use Rattle.poets_print.specs.Texts.{behind_commas, listed as listed_lem, name_text};
-ghost use Rattle.poets_print.specs.Lines.{amount_text, event_text, request_text};
+ghost use Rattle.poets_call.specs.Calls.{command_of};
+ghost use Rattle.poets_print.specs.Texts.{behind_commas, name_text};
+ghost use Rattle.poets_print.specs.Texts as texts;
+ghost use Rattle.poets_print.specs.Lines.{amount_text, event_text};
+ghost use Rattle.poets_print.specs.Lines as lines;
 
 use crate::contracts::{put_call, put_contract};
 use crate::pieces::{put, put_counted, put_day, put_name, put_named, put_number};
@@ -46,7 +48,7 @@ fn put_rest(out: &mut String, names: &Names, listed: &[Name]) -> Result<(), Memo
 
 // Puts names with commas between them.
 fn put_names(out: &mut String, names: &Names, listed: &List<Name>) -> Result<(), Memory>
-    ensures { OnOk result (string_bytes out.new ≡ string_bytes out.old ++ listed_lem (name_text names.now) listed.now.items) }
+    ensures { OnOk result (string_bytes out.new ≡ string_bytes out.old ++ texts.listed (name_text names.now) listed.now.items) }
 {
     if let [first, rest @ ..] = listed.as_slice() {
         put_name(out, names, *first)?;
@@ -57,7 +59,7 @@ fn put_names(out: &mut String, names: &Names, listed: &List<Name>) -> Result<(),
 
 /// Puts a command.
 pub(crate) fn put_command(out: &mut String, names: &Names, command: &Command) -> Result<(), Memory>
-    ensures { OnOk result (string_bytes out.new ≡ string_bytes out.old ++ request_text names.now (request_of command.now)) }
+    ensures { OnOk result (string_bytes out.new ≡ string_bytes out.old ++ lines.command_text names.now (command_of command.now)) }
 {
     match command {
         Command::Register { name, term } => {
@@ -94,7 +96,7 @@ pub(crate) fn put_command(out: &mut String, names: &Names, command: &Command) ->
 ///
 /// A name that the table does not have prints as nothing.
 pub fn command_text(alloc: Global, names: &Names, command: &Command) -> Result<String, Memory>
-    ensures { IfOk result (λ text. string_bytes text ≡ request_text names.now (request_of command.now)) }
+    ensures { IfOk result (λ text. string_bytes text ≡ lines.command_text names.now (command_of command.now)) }
 {
     let mut text = String::new(alloc);
     put_command(&mut text, names, command)?;

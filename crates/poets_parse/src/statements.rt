@@ -1,9 +1,10 @@
 //! Statements.
 ghost use Rattle.std.specs.Prelude.{◌≡◌, ◌≤◌, length, IfOk, Err};
-ghost use Rattle.poets_call.specs.Sentences.{Sentence, sentence_of};
+ghost use Rattle.poets_call.specs.Statements.{statement_of};
+ghost use Rattle.poets_call.specs.Said as said;
 ghost use Rattle.poets_grammar.specs.Tokens.{toks, AreNatural};
 ghost use Rattle.poets_grammar.specs.StatementReading as reading;
-ghost use Rattle.poets_grammar.specs.Statements.{IsSentence};
+ghost use Rattle.poets_grammar.specs.Statements.{IsStatement};
 ghost use Rattle.poets_grammar.specs.TooDeep.{IsTooDeep};
 ghost use Rattle.poets_parse.specs.Gives.{Gives};
 
@@ -19,8 +20,8 @@ use poets_value::Memory;
 use std::alloc::Global;
 
 // statement, after the word that is its first token
-fn sentence_word(alloc: Global, word: Word, tokens: &[Token]) -> Result<Statement, ReadFault>
-    ensures { Gives sentence_of result (reading.sentence_word word (toks tokens.now)) }
+fn statement_word(alloc: Global, word: Word, tokens: &[Token]) -> Result<Statement, ReadFault>
+    ensures { Gives statement_of result (reading.statement_word word (toks tokens.now)) }
 {
     match word {
         Word::Agents => Ok(Statement::Agents(whole_names(alloc, tokens)?)),
@@ -36,7 +37,7 @@ fn sentence_word(alloc: Global, word: Word, tokens: &[Token]) -> Result<Statemen
 // NUMBER ":" command
 #[tactic(auto, unfolding(poets_grammar::specs::StatementReading::numbered))]
 fn numbered(alloc: Global, tokens: &[Token]) -> Result<Statement, ReadFault>
-    ensures { Gives sentence_of result (reading.numbered (toks tokens.now)) }
+    ensures { Gives statement_of result (reading.numbered (toks tokens.now)) }
 {
     let (clerk, rest) = natural(tokens)?;
     let rest = sign(Sign::Colon, rest)?;
@@ -45,12 +46,12 @@ fn numbered(alloc: Global, tokens: &[Token]) -> Result<Statement, ReadFault>
 }
 
 // statement, by its first token
-#[tactic(auto, unfolding(poets_grammar::specs::StatementReading::sentence))]
-fn sentence(alloc: Global, tokens: &[Token]) -> Result<Statement, ReadFault>
-    ensures { Gives sentence_of result (reading.sentence (toks tokens.now)) }
+#[tactic(auto, unfolding(poets_grammar::specs::StatementReading::statement))]
+fn read_statement(alloc: Global, tokens: &[Token]) -> Result<Statement, ReadFault>
+    ensures { Gives statement_of result (reading.statement (toks tokens.now)) }
 {
     match first(tokens) {
-        Some((Tok::Word(word), rest)) => sentence_word(alloc, word, rest),
+        Some((Tok::Word(word), rest)) => statement_word(alloc, word, rest),
         Some((Tok::Number(_), _)) => numbered(alloc, tokens),
         _ => Err(ReadFault::at(tokens)),
     }
@@ -62,15 +63,15 @@ fn sentence(alloc: Global, tokens: &[Token]) -> Result<Statement, ReadFault>
 /// read: the readers call themselves only after brackets, `not`, `-`, `if` and the dot of a transmit.
 pub fn statement(alloc: Global, tokens: &[Token]) -> Result<Statement, SyntaxFault>
     requires natural { AreNatural tokens.now }
-    ensures found { IfOk result (λ s. IsSentence (toks tokens.now) (sentence_of s)) }
+    ensures found { IfOk result (λ s. IsStatement (toks tokens.now) (statement_of s)) }
     ensures shallow { IfOk result (λ _. ¬ (IsTooDeep (toks tokens.now))) }
-    ensures none { result ≡ Err SyntaxFault.NoSentence → ¬ (IsTooDeep (toks tokens.now)) × ((s : Sentence) → ¬ (IsSentence (toks tokens.now) s)) }
+    ensures none { result ≡ Err SyntaxFault.NoSentence → ¬ (IsTooDeep (toks tokens.now)) × ((s : said.Statement) → ¬ (IsStatement (toks tokens.now) s)) }
     ensures deep { result ≡ Err SyntaxFault.TooDeep → IsTooDeep (toks tokens.now) }
 {
     if is_too_deep(tokens) {
         return Err(SyntaxFault::TooDeep);
     }
-    Ok(sentence(alloc, tokens)?)
+    Ok(read_statement(alloc, tokens)?)
 }
 
 /// How many of the tokens, which stand before a `;;`, begin a sentence: all, or those ahead of the first one that cannot stand
@@ -79,12 +80,12 @@ pub fn statement(alloc: Global, tokens: &[Token]) -> Result<Statement, SyntaxFau
 /// The readers look at one token, take it or give up, and never go back.
 pub fn begun(alloc: Global, tokens: &[Token]) -> Result<usize, Memory>
     ensures within { IfOk result (λ count. count ≤ length tokens.now) }
-    ensures whole { ¬ (IsTooDeep (toks tokens.now)) → (s : Sentence) → IsSentence (toks tokens.now) s → IfOk result (λ count. count ≡ length tokens.now) }
+    ensures whole { ¬ (IsTooDeep (toks tokens.now)) → (s : said.Statement) → IsStatement (toks tokens.now) s → IfOk result (λ count. count ≡ length tokens.now) }
 {
     if is_too_deep(tokens) {
         return Ok(0);
     }
-    match sentence(alloc, tokens).err() {
+    match read_statement(alloc, tokens).err() {
         None => Ok(tokens.len()),
         Some(ReadFault::Unfit { left }) => Ok(tokens.len().saturating_sub(left)),
         Some(ReadFault::Memory) => Err(Memory),

@@ -8,24 +8,25 @@ use Rattle.poets_value.specs.declared.value.Name.{Name}
 use Rattle.poets_value.specs.Civil.{day_text}
 use Rattle.poets_value.proofs.EachDay.{IsDayText-day_text}
 use Rattle.poets_call.specs.Calls as R
-use Rattle.poets_call.specs.Calls.{Request}
+use Rattle.poets_call.specs.Plain.{Command}
 use Rattle.poets_lex.specs.declared.token.Word.TheVariants as W
 use Rattle.poets_lex.specs.declared.token.Sign.TheVariants as S
 use Rattle.poets_lex.specs.declared.token.Tok.{Tok}
 use Rattle.poets_lex.specs.declared.token.Tok.TheVariants as K
 use Rattle.poets_lex.specs.Table.{Table, IsTable}
 use Rattle.poets_lex.proofs.CutTexts.{IsCutInto, cut_end, cut_space, cut_word, cut_name, cut_number, cut_day, cut_spaced}
-use Rattle.poets_grammar.specs.Statements.{IsCommand, IsSentence}
+use Rattle.poets_grammar.specs.Statements.{IsCommand, IsStatement}
 use Rattle.poets_print.specs.Texts.{call_text, listed, name_text}
-use Rattle.poets_print.specs.Lines.{request_text}
-use Rattle.poets_call.specs.Taken.{IsWholeRequest}
-use Rattle.poets_print.specs.Laws.{CanWriteRequest, ContractReadsBack, CommandReadsBack}
+use Rattle.poets_print.specs.Lines.{command_text}
+use Rattle.poets_call.specs.Taken.{IsWholeCommand}
+use Rattle.poets_call.specs.Plain as plain
+use Rattle.poets_print.specs.Laws.{CanWriteCommand, ContractReadsBack, CommandReadsBack}
 use Rattle.poets_print.proofs.Writing.{IsTextOf}
 use Rattle.poets_print.proofs.WritingContracts.{writes_call, writes_names, writes_contract}
 
 -- the tokens are a command, and nothing is after
-Says : List Tok → Request → List Tok → Type 0
-Says ts request rest = IsCommand ts request
+Says : List Tok → Command → List Tok → Type 0
+Says ts command rest = IsCommand ts command
 
 -- the pieces of a text, one after the other
 transmission_shape : (t p q x s r n k d rest : List ℕ) →
@@ -37,8 +38,8 @@ portfolio_shape a b rest = simp append_assoc
 
 module _ (table : Table) (all : IsTable table) where
   writes_transmission : (x s r k : Name) (z d : ℤ) →
-      let request = R.Transmit x (record { sender = s; receiver = r; what = record { kind = k; amount = z }; day = d }) in
-      IsWholeRequest request → CanWriteRequest table request → IsTextOf table Says (request_text table request ++ []) request []
+      let command = plain.Transmit x (record { sender = s; receiver = r; what = record { kind = k; amount = z }; day = d }) in
+      IsWholeCommand command → CanWriteCommand table command → IsTextOf table Says (command_text table command ++ []) command []
   unfolding Says
   writes_transmission x s r k (pos n) d whole can =
       let on : IsCutInto table (64 ∷ (day_text d ++ [])) (K.Day d ∷ []) = cut_day (day_text d) d (IsDayText-day_text d (grind (arith, ints), grind (arith, ints))) cut_end in
@@ -48,28 +49,28 @@ module _ (table : Table) (all : IsTable table) where
       (record { tokens = _; cut = cut_word W.Transmit (cut_space (cut_name x all can.0 (cut_space event) refl)) refl; reads = IsCommand.Transmit })
   writes_transmission x s r k (negsuc n) d whole can = absurd (omega (arith, ints))
 
-  writes_request : (request : Request) → IsWholeRequest request → CanWriteRequest table request → IsTextOf table Says (request_text table request ++ []) request []
+  writes_command : (command : Command) → IsWholeCommand command → CanWriteCommand table command → IsTextOf table Says (command_text table command ++ []) command []
   unfolding Says
-  writes_request (R.Register x c) whole can =
+  writes_command (plain.Register x c) whole can =
       let p = writes_contract table all c whole can.1 [] [] cut_end tt in
       simp append_assoc (record { tokens = _; cut = cut_word W.Register (cut_space (cut_name x all can.0 (cut_space (cut_spaced S.Equal p.cut)) refl)) refl; reads = IsCommand.Register p.reads })
-  writes_request (R.Transmit x e) whole can =
+  writes_command (plain.Transmit x e) whole can =
       writes_transmission x e.sender e.receiver e.what.kind e.what.amount e.day whole can
-  writes_request (R.End x) whole can = record { tokens = _; cut = cut_word W.End (cut_space (cut_name x all can cut_end tt)) refl; reads = IsCommand.End }
-  writes_request (R.Show x) whole can = record { tokens = _; cut = cut_word W.Show (cut_space (cut_name x all can cut_end tt)) refl; reads = IsCommand.Show }
-  writes_request (R.Tally q args) whole can =
+  writes_command (plain.End x) whole can = record { tokens = _; cut = cut_word W.End (cut_space (cut_name x all can cut_end tt)) refl; reads = IsCommand.End }
+  writes_command (plain.Show x) whole can = record { tokens = _; cut = cut_word W.Show (cut_space (cut_name x all can cut_end tt)) refl; reads = IsCommand.Show }
+  writes_command (plain.Tally q args) whole can =
       let p = writes_call table all q args can.0 whole can.1 [] [] cut_end tt in
       record { tokens = _; cut = cut_word W.Tally (cut_space p.cut) refl; reads = rw p.reads.1 (IsCommand.Tally p.reads.2) }
-  writes_request (R.Portfolio q args []) whole can = absurd (can.3 refl)
-  writes_request (R.Portfolio q args (x ∷ xs)) whole can =
+  writes_command (plain.Portfolio q args []) whole can = absurd (can.3 refl)
+  writes_command (plain.Portfolio q args (x ∷ xs)) whole can =
       let over = writes_names table all x xs can.2 [] [] cut_end tt in
       let p = writes_call table all q args can.0 whole can.1 _ _ (cut_space (cut_word W.Over (cut_space over.cut) refl)) refl in
       rw (portfolio_shape (call_text table q args) (listed (name_text table) (x ∷ xs)) [])
       (record { tokens = _; cut = cut_word W.Portfolio (cut_space p.cut) refl; reads = rw p.reads.1 (IsCommand.Portfolio p.reads.2 over.reads) })
-  writes_request (R.Watch q args) whole can =
+  writes_command (plain.Watch q args) whole can =
       let p = writes_call table all q args can.0 whole can.1 [] [] cut_end tt in
       record { tokens = _; cut = cut_word W.Watch (cut_space p.cut) refl; reads = rw p.reads.1 (IsCommand.Watch p.reads.2) }
-  writes_request (R.Read n) whole can = record { tokens = _; cut = cut_word W.Read (cut_space (cut_number n whole cut_end tt)) refl; reads = IsCommand.Read }
+  writes_command (plain.Read n) whole can = record { tokens = _; cut = cut_word W.Read (cut_space (cut_number n whole cut_end tt)) refl; reads = IsCommand.Read }
 
 pub contract_reads_back : ContractReadsBack
 contract_reads_back names c all whole can =
@@ -79,7 +80,7 @@ contract_reads_back names c all whole can =
 
 pub command_reads_back : CommandReadsBack
 unfolding Says
-command_reads_back names request all whole can =
-    let p = writes_request names all request whole can in
+command_reads_back names command all whole can =
+    let p = writes_command names all command whole can in
     let read = (rw append-nil at p.cut).at 0 in
-    (read.0, read.1, rw read.2 (IsSentence.Command p.reads))
+    (read.0, read.1, rw read.2 (IsStatement.Command p.reads))

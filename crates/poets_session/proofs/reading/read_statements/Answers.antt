@@ -7,7 +7,7 @@ use Rattle.poets_session.specs.Pieces.{pieces_of}
 use Rattle.poets_session.specs.Refusals.{IsStopped, IsUnreadable}
 use Rattle.poets_session.specs.Causes.{IsCauseOf}
 use Rattle.poets_session.proofs.Refusing.{lex_unreadable, stopped_unreadable}
-use Rattle.poets_session.proofs.reading.statements_of.Goals as goal
+use Rattle.poets_session.proofs.reading.read_statements.Goals as goal
 
 pub returns-in_err-tokens-clause-unreadable : goal.returns-in_err-tokens-clause-unreadable
 returns-in_err-tokens-clause-unreadable c =

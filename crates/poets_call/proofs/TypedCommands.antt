@@ -9,16 +9,17 @@ use Rattle.poets_expr.specs.Expression.{Expression}
 use Rattle.poets_expr.specs.Env.{Declared}
 use Rattle.poets_expr.specs.Same.{ty_place}
 use Rattle.poets_expr.proofs.SameTrees.{ty_one}
-use Rattle.poets_syntax.specs.TypeOf.{Fault, WrongType, WrongCount, Verdict, Passes, Fails, ◌>>=◌, name_type, must_be, same_type}
+use Rattle.poets_syntax.specs.Plain.{TypeCause, WrongType, WrongCount}
+use Rattle.poets_syntax.specs.TypeOf.{Verdict, Passes, Fails, ◌>>=◌, name_type, must_be, same_type}
 use Rattle.poets_syntax.specs.Typed.{check_args}
 use Rattle.poets_syntax.proofs.Nullability.{CountsFit-fit}
 use Rattle.poets_syntax.proofs.Typedness.{passed, ApplicationsFit-typed, IsWellFormed-typed}
-use Rattle.poets_report.specs.Query.{Query}
+use Rattle.poets_report.specs.Plain.{Report}
 use Rattle.poets_call.specs.Laws.{TypedRegistration, TypedEvent, TypedReport, IsReportOf}
 use Rattle.poets_call.specs.Replies.{report_in}
-use Rattle.poets_call.specs.TypedSentences.{report_names, check_declared, check_report_arguments}
+use Rattle.poets_call.specs.TypedStatements.{report_names, check_declared, check_report_arguments}
 
-unfailed : (b : Bool) (next : Verdict (Unit {0})) (f : Fault) → (if b then next else Fails f) ≡ Passes tt → b ≡ true
+unfailed : (b : Bool) (next : Verdict (Unit {0})) (f : TypeCause) → (if b then next else Fails f) ≡ Passes tt → b ≡ true
 unfailed true next f h = refl
 unfailed false next f h = absurd cc
 
@@ -44,7 +45,7 @@ pub typed_registration : TypedRegistration
 typed_registration book reports x c h =
     (IsWellFormed-typed book (report_names reports) [] c h, CountsFit-fit book c (ApplicationsFit-typed book (report_names reports) [] c h))
 
-report_found : (declared : Declared) (reports : List Query) (x : Name) (args : List Expression) (o : Option Query) → report_in reports x ≡ o →
+report_found : (declared : Declared) (reports : List Report) (x : Name) (args : List Expression) (o : Option Report) → report_in reports x ≡ o →
     check_report_arguments declared x o args ≡ Passes tt → IsReportOf reports x args
 report_found declared reports x args None e h = absurd cc
 report_found declared reports x args (Some q) e h =
