@@ -13,11 +13,11 @@ use Rattle.poets_call.specs.Frame.{Frame}
 use Rattle.poets_call.specs.Replies.{Replies, Legal, Answers}
 
 -- it holds in a frame of the book and the reports
-pub record InFrame (b : Book) (queries : List Report) (Holds : Frame → Type 0) : Type 0 where
+pub record InFrame (b : Book) (queries : List Report) (Property : Frame → Type 0) : Type 0 where
   pub frame : Frame
   pub book : frame.book ≡ b
   pub reports : frame.reports ≡ queries
-  pub holds : Holds frame
+  pub holds : Property frame
 
 -- each entry has the right reply
 abbrev pub IsLegal : Book → List Report → List Entry → Type 0

@@ -5,7 +5,7 @@ use Rattle.std.proofs.lemmas.List.{length-map}
 use Rattle.std.proofs.lemmas.List.Elements.{All-contains, All-map, Contains-append_right, Contains-push}
 use Rattle.std.proofs.lemmas.Option.{slice_get-get_or}
 use Rattle.poets_machine.specs.Histories.{own_calls}
-use Rattle.poets_turn.specs.Turnstile.{OnlyClerks}
+use Rattle.poets_turn.specs.code.Turnstile.{OnlyClerks}
 use Rattle.poets_clerks.specs.Histories.{HasScripts}
 
 module _ {C : Type 0} where

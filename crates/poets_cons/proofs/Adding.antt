@@ -12,7 +12,7 @@ use Rattle.poets_syntax.proofs.Replacing.{truth}
 use Rattle.poets_cons.specs.declared.node.Node.{Node}
 use Rattle.poets_cons.specs.Row.{Row, Success, row_of, contract_by, AreBelow}
 use Rattle.poets_cons.specs.Same.{same_row}
-use Rattle.poets_cons.specs.SameRows.{row_one}
+use Rattle.poets_cons.specs.code.SameRows.{row_one}
 use Rattle.poets_cons.specs.Table.{rows_of, contract_at, AreEarlier, AreDistinct, IsTable, with_row, Reached, Extends, AddsReached}
 use Rattle.poets_cons.proofs.Places.{place_of_row, contract-at}
 

@@ -14,10 +14,10 @@ use Rattle.poets_syntax.specs.declared.term.Binders.{Binders}
 use Rattle.poets_syntax.specs.Contract as C
 use Rattle.poets_syntax.proofs.Replacing.{truth}
 use Rattle.poets_cons.specs.declared.node.Node.{Node}
-use Rattle.poets_cons.specs.Copies.{AreCopies, AreBothCopied, ArePartsCopied, IsAppended, IsCopied}
+use Rattle.poets_cons.specs.code.Copies.{AreCopies, AreBothCopied, ArePartsCopied, IsAppended, IsCopied}
 use Rattle.poets_cons.specs.Row.{Row, Success, Transmit, row_of, contract_by, IsPart, AreBelow}
 use Rattle.poets_cons.specs.Same.{same_row}
-use Rattle.poets_cons.specs.SameRows.{row_one, row_laws}
+use Rattle.poets_cons.specs.code.SameRows.{row_one, row_laws}
 use Rattle.poets_cons.specs.Table.{rows_of, contract_at, AreEarlier, AreDistinct, IsTable, Reached, Stands}
 use Rattle.poets_cons.proofs.Adding.{earlier-push}
 use Rattle.poets_cons.proofs.Places.{contract-at, one_place}

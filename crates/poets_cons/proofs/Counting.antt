@@ -15,7 +15,7 @@ use Rattle.poets_syntax.proofs.Replacing.{truth}
 use Rattle.poets_syntax.proofs.SameContracts.{contract_one, contract_itself}
 use Rattle.poets_cons.specs.declared.node.Node.{Node}
 use Rattle.poets_cons.specs.Row.{Row, Success, Failure, Transmit, Plus, Par, Seq, App, row_of, contract_by, IsPart, AreBelow}
-use Rattle.poets_cons.specs.SameRows.{contract_laws}
+use Rattle.poets_cons.specs.code.SameRows.{contract_laws}
 use Rattle.poets_cons.specs.Parts.{subterms, subterm_count}
 use Rattle.poets_cons.specs.Table.{rows_of, contracts_of, contract_at, contract_of_rows, IsTable, IsRooted, Reached}
 use Rattle.poets_cons.proofs.Places.{contract-at, one_place}

@@ -7,7 +7,7 @@ use Rattle.std.proofs.lemmas.Map.Views.{Contains-from_any}
 use Rattle.poets_syntax.proofs.Replacing.{truth}
 use Rattle.poets_cons.specs.Row.{Row, AreBelow}
 use Rattle.poets_cons.specs.Same.{same_row}
-use Rattle.poets_cons.specs.SameRows.{row_one}
+use Rattle.poets_cons.specs.code.SameRows.{row_one}
 use Rattle.poets_cons.specs.Table.{AreEarlier, AreDistinct, with_row}
 use Rattle.poets_cons.proofs.Places.{place_of_row}
 

@@ -6,7 +6,7 @@ use Rattle.std.proofs.lemmas.Map.Keys.{apart_from_distinct}
 use Rattle.poets_syntax.specs.Contract.{Contract}
 use Rattle.poets_cons.specs.Row.{Row, Success, Failure, Transmit, Plus, Par, Seq, App, contract_by, IsPart}
 use Rattle.poets_cons.specs.Same.{same_row}
-use Rattle.poets_cons.specs.SameRows.{row_itself}
+use Rattle.poets_cons.specs.code.SameRows.{row_itself}
 use Rattle.poets_cons.specs.Table.{nth, grown, AreEarlier, AreDistinct}
 use Rattle.poets_cons.proofs.Belows.{part_below}
 use Rattle.poets_cons.proofs.Growing.{grown-at}

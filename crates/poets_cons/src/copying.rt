@@ -1,7 +1,7 @@
 //! Rows copied from one table to another.
 ghost use Rattle.std.specs.Prelude.{◌≡◌, ◌<◌, IfOk, false, length};
 ghost use Rattle.std.specs.List.{list_any};
-ghost use Rattle.poets_cons.specs.Copies.{AreCopies, AreBothCopied, ArePartsCopied, IsAppended, IsCopied};
+ghost use Rattle.poets_cons.specs.code.Copies.{AreCopies, AreBothCopied, ArePartsCopied, IsAppended, IsCopied};
 ghost use Rattle.poets_cons.specs.Notes.{noted};
 ghost use Rattle.poets_cons.specs.Row.{row_of, AreBelow};
 ghost use Rattle.poets_cons.specs.Same.{same_row};

@@ -6,8 +6,8 @@ ghost use Rattle.poets_expr.specs.Expression.{expression_of};
 ghost use Rattle.poets_syntax.specs.Same as spec;
 ghost use Rattle.poets_cons.specs.Row.{row_of};
 ghost use Rattle.poets_cons.specs.Same.{same_row};
-ghost use Rattle.poets_cons.specs.Hashing.{row_writes};
-ghost use Rattle.poets_cons.specs.SameRows.{row_laws, row_fed};
+ghost use Rattle.poets_cons.specs.code.Hashing.{row_writes};
+ghost use Rattle.poets_cons.specs.code.SameRows.{row_laws, row_fed};
 
 use crate::hashing::feed;
 use crate::node::Node;

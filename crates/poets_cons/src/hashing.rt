@@ -4,7 +4,7 @@ ghost use Rattle.std.specs.Hash as fed;
 ghost use Rattle.poets_expr.specs.Expression.{expression_of};
 ghost use Rattle.poets_expr.specs.Same.{op_place};
 ghost use Rattle.poets_cons.specs.Row.{row_of};
-ghost use Rattle.poets_cons.specs.Hashing.{expression_writes, args_writes, row_writes};
+ghost use Rattle.poets_cons.specs.code.Hashing.{expression_writes, args_writes, row_writes};
 
 use crate::node::Node;
 use poets_expr::{Expr, Op};

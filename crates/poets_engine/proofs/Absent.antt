@@ -4,7 +4,7 @@ use Rattle.poets_value.specs.declared.value.Name.{Name}
 use Rattle.poets_syntax.specs.declared.term.Term.{Term}
 use Rattle.poets_cons.specs.declared.node.Node.{Node}
 use Rattle.poets_table.specs.TableView.{RowView, number_named}
-use Rattle.poets_engine.specs.Parts.{absent_or_later, absent_from}
+use Rattle.poets_engine.specs.code.Parts.{absent_or_later, absent_from}
 
 module _ (rows : List (RowView Term (List Node))) where
   -- one name more

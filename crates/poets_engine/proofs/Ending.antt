@@ -16,7 +16,7 @@ use Rattle.poets_call.specs.Plain.{Command, Reply}
 use Rattle.poets_call.specs.Ledger.{Ledger, with_entry, number_in, trace, is_ended}
 use Rattle.poets_engine.specs.Store.{StoreView}
 use Rattle.poets_engine.specs.Rows.{IsLedger, RowsAre}
-use Rattle.poets_engine.specs.Makes.{Makes}
+use Rattle.poets_engine.specs.code.Makes.{Makes}
 use Rattle.poets_engine.proofs.Named.{named}
 use Rattle.poets_engine.proofs.Rows.{with_end, place_below, rows_ended, named-changed_at, length-changed_at}
 use Rattle.poets_engine.proofs.Standing.{Stood, study, leaves, changes, stood, absent, told_end}

@@ -27,9 +27,10 @@ use Rattle.poets_call.specs.Calls.{Call, folio_row_of, reply_of}
 use Rattle.poets_call.specs.Ledger.{Ledger, ledger_of, contract_named, number_in, number_of, trace, absent_or, first_absent}
 use Rattle.poets_call.specs.Replies.{report_in, total_of, argument_values, AreFolioRows, Replies}
 use Rattle.poets_engine.specs.Store.{StoreView}
-use Rattle.poets_engine.specs.Parts.{absent_or_later, absent_from, IsPart}
+use Rattle.poets_engine.specs.code.Parts.{absent_or_later, absent_from, IsPart}
 use Rattle.poets_engine.specs.Rows.{IsLedger, Stands}
-use Rattle.poets_engine.specs.Makes.{Makes, Prepares, MakesBody, has_changed}
+use Rattle.poets_engine.specs.Accepted.{has_changed}
+use Rattle.poets_engine.specs.code.Makes.{Makes, Prepares, MakesBody}
 use Rattle.poets_engine.specs.State.{Fulfils}
 use Rattle.poets_engine.specs.Works.{IsPartIn, HoldsPortfolio, OwesReply}
 use Rattle.poets_engine.specs.declared.kept.FolioWork.{FolioWork}

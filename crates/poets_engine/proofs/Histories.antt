@@ -24,7 +24,7 @@ use Rattle.poets_call.proofs.OneFrames.{one_frame}
 use Rattle.poets_engine.specs.Store.{StoreView}
 use Rattle.poets_engine.specs.State.{commands_of, plain_calls}
 use Rattle.poets_engine.specs.Rows.{IsLedger, RowsAre, WatchIs, Stands}
-use Rattle.poets_engine.specs.Makes.{Makes}
+use Rattle.poets_engine.specs.code.Makes.{Makes}
 use Rattle.poets_engine.proofs.Standing.{frame_by}
 
 -- no call is a legal history

@@ -18,7 +18,7 @@ use Rattle.poets_norm.proofs.Hope.{IsFailureOrHopeful-normal, failure_is_hopeles
 use Rattle.poets_residue.specs.Unfolding.{IsStudied}
 use Rattle.poets_residue.proofs.Traces.{trace_in, trace_hopeless, trace_hopeful, trace_performed}
 use Rattle.poets_call.specs.Replies.{widest}
-use Rattle.poets_engine.specs.Choices.{is_failure}
+use Rattle.poets_engine.specs.code.Judgements.{is_failure}
 
 pub failure_is : (c : Contract) → is_failure c ≡ true → c ≡ Failure
 failure_is Failure e = refl

@@ -22,10 +22,11 @@ use Rattle.poets_call.specs.Ledger.{Ledger, contract_named}
 use Rattle.poets_call.specs.Replies.{widest}
 use Rattle.poets_call.specs.Taken.{IsTaken}
 use Rattle.poets_call.proofs.TypedCommands.{typed_registration}
-use Rattle.poets_engine.specs.Store.{StoreView, AddsRow}
+use Rattle.poets_engine.specs.Store.{StoreView}
+use Rattle.poets_engine.specs.code.Changes.{AddsRow}
 use Rattle.poets_engine.specs.Rows.{IsLedger, RowsAre, RowIs}
-use Rattle.poets_engine.specs.Choices.{Refused, Kept, is_failure, judge, judged}
-use Rattle.poets_engine.specs.Makes.{Makes}
+use Rattle.poets_engine.specs.code.Judgements.{Refused, Owed, is_failure, judge, judged}
+use Rattle.poets_engine.specs.code.Makes.{Makes}
 use Rattle.poets_engine.proofs.Named.{named}
 use Rattle.poets_engine.proofs.Rows.{with_contract, rows_added, new_row_is}
 use Rattle.poets_engine.proofs.Standing.{study, leaves, changes, absent, taken}
@@ -97,7 +98,7 @@ module _ (rules : Rules) (x : Name) (c : Contract) (old : StoreView) where
           }
 
       registers_kept : (failed large : Bool) → is_failure form ≡ failed → nat_lt widest size ≡ large →
-          Kept (contract_of_rows current) ≡ judged Reply.Hopeless failed large form → Makes rules (Command.Register x c) old new (Reply.Registered (length old.rows + 1))
+          Owed (contract_of_rows current) ≡ judged Reply.Hopeless failed large form → Makes rules (Command.Register x c) old new (Reply.Registered (length old.rows + 1))
       registers_kept true large e k q = absurd cc
       registers_kept false true e k q = absurd cc
       registers_kept false false e k q =
@@ -109,7 +110,7 @@ module _ (rules : Rules) (x : Name) (c : Contract) (old : StoreView) where
           rw (none l h) (inr (hopeful l h e, inr ((λ lt. absurd (omega (arith, narrow, lt))), ap (λ n. Reply.Registered (n + 1)) count))))
           (adds same e narrow)
 
-      pub register_kept : (made : Contract) (n : ℕ) → made ≡ form → Kept (contract_of_rows current) ≡ judge rules.studied Reply.Hopeless made → n ≡ length old.rows + 1 →
+      pub register_kept : (made : Contract) (n : ℕ) → made ≡ form → Owed (contract_of_rows current) ≡ judge rules.studied Reply.Hopeless made → n ≡ length old.rows + 1 →
           Makes rules (Command.Register x c) old new (Reply.Registered n)
       register_kept made n same q number =
           subst (λ m. Makes rules (Command.Register x c) old new (Reply.Registered m)) (sym number)

@@ -34,7 +34,7 @@ use Rattle.poets_table.specs.TableView.{RowView, changed_at, with_event, finishe
 use Rattle.poets_call.specs.Ledger.{Ledger, trace, is_ended, late_day, if_after}
 use Rattle.poets_call.specs.Replies.{widest}
 use Rattle.poets_engine.specs.Rows.{NeverFall, RowIs, RowsAre}
-use Rattle.poets_engine.specs.Choices.{IsKept, AreKept}
+use Rattle.poets_engine.specs.code.Judgements.{IsKept, AreKept}
 use Rattle.poets_engine.proofs.Named.{truth, named}
 
 -- the book that was studied

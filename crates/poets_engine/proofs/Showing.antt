@@ -15,7 +15,7 @@ use Rattle.poets_call.specs.Rules.{book_of_rules}
 use Rattle.poets_call.specs.Plain.{Command, Reply}
 use Rattle.poets_call.specs.Ledger.{trace}
 use Rattle.poets_engine.specs.Store.{StoreView}
-use Rattle.poets_engine.specs.Makes.{Makes}
+use Rattle.poets_engine.specs.code.Makes.{Makes}
 use Rattle.poets_engine.proofs.Standing.{study, leaves, stood, absent, told_end}
 
 module _ (rules : Rules) (x : Name) (t : StoreView) where

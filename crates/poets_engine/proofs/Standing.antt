@@ -23,7 +23,8 @@ use Rattle.poets_call.specs.Histories.{RepliesIn}
 use Rattle.poets_call.specs.Replies.{Replies}
 use Rattle.poets_engine.specs.Store.{StoreView}
 use Rattle.poets_engine.specs.Rows.{IsLedger, RowIs}
-use Rattle.poets_engine.specs.Makes.{Makes, is_accepted}
+use Rattle.poets_engine.specs.Accepted.{is_accepted}
+use Rattle.poets_engine.specs.code.Makes.{Makes}
 use Rattle.poets_engine.proofs.Named.{has_name, contract_from-none, contract_from-found, contract_from-some, row_is}
 use Rattle.poets_engine.proofs.Owed.{residual_performed}
 use Rattle.poets_engine.proofs.Rows.{book_in}

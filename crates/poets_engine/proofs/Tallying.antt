@@ -18,9 +18,10 @@ use Rattle.poets_call.specs.Rules.{book_of_rules, reports_of_rules}
 use Rattle.poets_call.specs.Plain.{Command, Reply}
 use Rattle.poets_call.specs.Ledger.{Ledger, events, watch_at}
 use Rattle.poets_call.specs.Replies.{report_in}
-use Rattle.poets_engine.specs.Store.{StoreView, AddsWatch}
+use Rattle.poets_engine.specs.Store.{StoreView}
+use Rattle.poets_engine.specs.code.Changes.{AddsWatch}
 use Rattle.poets_engine.specs.Rows.{RowsAre, WatchIs}
-use Rattle.poets_engine.specs.Makes.{Makes}
+use Rattle.poets_engine.specs.code.Makes.{Makes}
 use Rattle.poets_engine.proofs.Named.{named}
 use Rattle.poets_engine.proofs.Standing.{leaves, changes}
 use Rattle.poets_engine.proofs.WatchLedgers.{with_watch, watches_begun, as_many, WatchAt, watch_there}

@@ -27,10 +27,11 @@ use Rattle.poets_call.specs.Ledger.{Ledger, contract_named, number_in, trace, is
 use Rattle.poets_call.specs.Replies.{Transmits, Records, widest}
 use Rattle.poets_call.specs.Taken.{IsTaken}
 use Rattle.poets_call.proofs.TypedCommands.{typed_event}
-use Rattle.poets_engine.specs.Store.{StoreView, RecordsEvent}
+use Rattle.poets_engine.specs.Store.{StoreView}
+use Rattle.poets_engine.specs.code.Changes.{RecordsEvent}
 use Rattle.poets_engine.specs.Rows.{IsLedger, RowsAre}
-use Rattle.poets_engine.specs.Choices.{Refused, Kept, is_failure, judged, unless_over, choice_by}
-use Rattle.poets_engine.specs.Makes.{Makes}
+use Rattle.poets_engine.specs.code.Judgements.{Refused, Owed, is_failure, judged, unless_over, judgement_by}
+use Rattle.poets_engine.specs.code.Makes.{Makes}
 use Rattle.poets_engine.proofs.Named.{named}
 use Rattle.poets_engine.proofs.Rows.{with_log, IsNext, place_below, rows_recorded, named-changed_at, length-changed_at}
 use Rattle.poets_engine.proofs.Standing.{frame_by, marks_by, study, Stood, leaves, changes, stood, absent}
@@ -151,14 +152,14 @@ module _ (rules : Rules) (x : Name) (e : Event) (old : StoreView) where
         (inr (hope l h fe, inl (subst (λ c. widest < width (book_of_rules rules) (marks_of rules.studied) c) (next_is l h) (past_limit size le), refl)))))
     transmits_refused false None false false n d fe le refusal q = absurd cc
 
-    pub transmit_refused : (refusal : Reply) → Refused refusal ≡ choice_by rules.studied r e → Makes rules (Command.Transmit x e) old old refusal
+    pub transmit_refused : (refusal : Reply) → Refused refusal ≡ judgement_by rules.studied r e → Makes rules (Command.Transmit x e) old old refusal
     transmit_refused refusal q = transmits_refused r.ended (late_day r.events e.day) (is_failure next) (nat_lt widest size) refl refl refl refl refusal q
 
     module _ (owed : List Node) (may_end : Bool) (tells : IsTrue may_end ↔ Perf (book_of_rules rules) [] (contract_of_rows owed) []) (new : StoreView)
         (recorded : RecordsEvent (book_of_rules rules).declared n e owed old new) where
       transmits_kept : (ended : Bool) (late : Option ℤ) (failed large : Bool) →
           r.ended ≡ ended → late_day r.events e.day ≡ late → is_failure next ≡ failed → nat_lt widest size ≡ large →
-          Kept (contract_of_rows owed) ≡ unless_over ended late (judged Reply.Unmatched failed large next) →
+          Owed (contract_of_rows owed) ≡ unless_over ended late (judged Reply.Unmatched failed large next) →
           Makes rules (Command.Transmit x e) old new (Reply.Recorded (length r.events + 1) may_end)
       transmits_kept true late failed large n d fe le q = absurd cc
       transmits_kept false (Some day) failed large n d fe le q = absurd cc
@@ -177,5 +178,5 @@ module _ (rules : Rules) (x : Name) (e : Event) (old : StoreView) where
           )))
           (λ l h. records l h owed (kept l h owed same d fe narrow) new recorded)
 
-      pub transmit_kept : Kept (contract_of_rows owed) ≡ choice_by rules.studied r e → Makes rules (Command.Transmit x e) old new (Reply.Recorded (length r.events + 1) may_end)
+      pub transmit_kept : Owed (contract_of_rows owed) ≡ judgement_by rules.studied r e → Makes rules (Command.Transmit x e) old new (Reply.Recorded (length r.events + 1) may_end)
       transmit_kept q = transmits_kept r.ended (late_day r.events e.day) (is_failure next) (nat_lt widest size) refl refl refl refl q

@@ -5,15 +5,18 @@ use Rattle.poets_syntax.specs.declared.term.Term.{Term}
 use Rattle.poets_syntax.specs.Book.{book_of}
 use Rattle.poets_syntax.specs.Contract.{Contract}
 use Rattle.poets_syntax.specs.Studied.{StudiedBook, marks_of}
-use Rattle.poets_syntax.specs.Width.{size}
+use Rattle.poets_syntax.specs.Width.{size, width}
 use Rattle.poets_cons.specs.declared.node.Node.{Node}
 use Rattle.poets_cons.specs.Table.{contract_of_rows}
 use Rattle.poets_residue.specs.Once.{once}
 use Rattle.poets_table.specs.TableView.{RowView, number_named}
 use Rattle.poets_call.specs.declared.rules.Rules.{Rules}
 use Rattle.poets_call.specs.Plain.{Command}
-use Rattle.poets_engine.specs.Choices.{width_in}
 use Rattle.poets_engine.specs.Store.{StoreView}
+
+-- how wide the contract is
+abbrev pub width_in : StudiedBook → Contract → ℕ
+width_in s c = width (book_of s.book) (marks_of s) c
 
 -- the most evaluations that the residual of a contract takes: no more than it is wide, and no more than where each different
 -- part is derived once

@@ -3,8 +3,7 @@ pub mod Copies
 pub mod Works
 pub mod State
 pub mod Rows
-pub mod Choices
-pub mod Makes
+pub mod Accepted
 pub mod Evaluations
-pub mod Parts
 pub mod Laws
+pub mod code

@@ -15,23 +15,3 @@ pub record StoreView : Type 0 where
   pub rows : List (RowView Term (List Node))
   pub log : List (ℕ × Event)
   pub watches : List WatchView
-
--- one contract more
-pub record AddsRow (row : RowView Term (List Node)) (old new : StoreView) : Type 0 where
-  pub rows : new.rows ≡ old.rows ++ row ∷ []
-  pub log : new.log ≡ old.log
-  pub watches : new.watches ≡ old.watches
-
--- the event is in the row with the number, of which the current contract is then owed, in the log, and in each watch
-pub record RecordsEvent (declared : Declared) (number : ℕ) (e : Event) (current : List Node) (old new : StoreView) : Type 0 where
-  pub rows : new.rows ≡ changed_at (with_event e current) (number - 1) old.rows
-  pub log : new.log ≡ old.log ++ (number, e) ∷ []
-  pub changes : List Change
-  pub brought : AllBrought declared e old.watches changes
-  pub moved : AllMoved old.watches changes new.watches
-
--- one watch more, which begins with the log
-pub record AddsWatch (declared : Declared) (report : Report) (args : List (Option Value)) (old new : StoreView) : Type 0 where
-  pub begins : Begins declared report args old.log old.watches new.watches
-  pub rows : new.rows ≡ old.rows
-  pub log : new.log ≡ old.log

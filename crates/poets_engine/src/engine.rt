@@ -7,7 +7,7 @@ ghost use Rattle.poets_call.specs.Histories.{IsLegal};
 ghost use Rattle.poets_call.specs.Rules.{book_of_rules, reports_of_rules};
 ghost use Rattle.poets_call.specs.Taken.{IsTaken};
 ghost use Rattle.poets_engine.specs.Evaluations.{most_evaluations};
-ghost use Rattle.poets_engine.specs.Makes.{has_changed};
+ghost use Rattle.poets_engine.specs.Accepted.{has_changed};
 ghost use Rattle.poets_engine.specs.State.{commands_of, Fulfils, OwesNext};
 
 use crate::copies::Copies;

@@ -6,8 +6,9 @@ ghost use Rattle.poets_call.specs.Calls.{reply_of};
 ghost use Rattle.poets_call.specs.Replies.{widest};
 ghost use Rattle.poets_cons.specs.Row.{contract_by, row_of};
 ghost use Rattle.poets_cons.specs.Table.{contract_at, contract_of_rows};
-ghost use Rattle.poets_engine.specs.Choices.{KeptFits, choice_of, width_in};
-ghost use Rattle.poets_engine.specs.Choices as choices;
+ghost use Rattle.poets_engine.specs.code.Judgements.{KeptFits, judgement_of};
+ghost use Rattle.poets_engine.specs.Evaluations.{width_in};
+ghost use Rattle.poets_engine.specs.code.Judgements as judgements;
 
 use poets_call::Reply;
 use poets_cons::{Node, Rows};
@@ -21,7 +22,8 @@ const WIDEST: u64 = 1000;
 #[derive(Drop)]
 pub(crate) enum Decision {
     Refused(Reply),
-    Kept(Rows),
+    /// The rows of what is owed from then on.
+    Owed(Rows),
 }
 
 // The node of the root.
@@ -33,7 +35,7 @@ fn root_node(rows: &Rows) -> &Node
 
 // Whether the contract is `Failure`.
 fn is_failure(rows: &Rows) -> bool
-    ensures { result ≡ choices.is_failure (contract_of_rows rows.now) }
+    ensures { result ≡ judgements.is_failure (contract_of_rows rows.now) }
 {
     match root_node(rows) {
         Node::Failure => true,
@@ -52,8 +54,8 @@ fn is_large(studied: &Studied, rows: &Rows) -> bool
 /// Refuses a contract that no number of granted steps performs by the given reply, and one that is too large.
 pub(crate) fn judge(studied: &Studied, refusal: Reply, rows: Rows) -> Decision
     requires { CountsFit (book_of studied.now.book) (contract_of_rows rows) }
-    ensures choice { choice_of result ≡ choices.judge studied.now (reply_of refusal) (contract_of_rows rows) }
-    ensures fits { KeptFits (book_of studied.now.book) (choice_of result) }
+    ensures choice { judgement_of result ≡ judgements.judge studied.now (reply_of refusal) (contract_of_rows rows) }
+    ensures fits { KeptFits (book_of studied.now.book) (judgement_of result) }
 {
     if is_failure(&rows) {
         return Decision::Refused(refusal);
@@ -61,5 +63,5 @@ pub(crate) fn judge(studied: &Studied, refusal: Reply, rows: Rows) -> Decision
     if is_large(studied, &rows) {
         return Decision::Refused(Reply::TooLarge);
     }
-    Decision::Kept(rows)
+    Decision::Owed(rows)
 }

@@ -2,8 +2,8 @@
 ghost use Rattle.std.specs.Prelude.{IfOk};
 ghost use Rattle.poets_call.specs.Calls.{reply_of};
 ghost use Rattle.poets_call.specs.Plain.{Command};
-ghost use Rattle.poets_engine.specs.Choices.{AreKept};
-ghost use Rattle.poets_engine.specs.Makes.{Makes};
+ghost use Rattle.poets_engine.specs.code.Judgements.{AreKept};
+ghost use Rattle.poets_engine.specs.code.Makes.{Makes};
 
 use crate::store::Store;
 use poets_call::{Reply, Rules};

@@ -7,8 +7,8 @@ ghost use Rattle.poets_call.specs.Plain.{Command};
 ghost use Rattle.poets_call.specs.Rules.{book_of_rules, reports_of_rules};
 ghost use Rattle.poets_call.specs.Taken.{IsTaken};
 ghost use Rattle.poets_engine.specs.Copies.{AreCopies};
-ghost use Rattle.poets_engine.specs.Makes.{MakesBody};
-ghost use Rattle.poets_engine.specs.Parts.{absent_from, IsPart};
+ghost use Rattle.poets_engine.specs.code.Makes.{MakesBody};
+ghost use Rattle.poets_engine.specs.code.Parts.{absent_from, IsPart};
 
 use crate::copies::Copies;
 use crate::kept::{Body, FolioWork};

@@ -7,7 +7,7 @@ ghost use Rattle.poets_call.specs.Calls.{reply_of};
 ghost use Rattle.poets_call.specs.Plain.{Command};
 ghost use Rattle.poets_call.specs.Rules.{book_of_rules, reports_of_rules};
 ghost use Rattle.poets_call.specs.Taken.{IsTaken};
-ghost use Rattle.poets_engine.specs.Makes.{Makes};
+ghost use Rattle.poets_engine.specs.code.Makes.{Makes};
 
 use crate::judging::{Decision, judge};
 use crate::store::Store;
@@ -43,7 +43,7 @@ pub(crate) fn register<T>(
     let current = normal_rows(alloc, &rules.studied, term, asks)?;
     match judge(&rules.studied, Reply::Hopeless, current) {
         Decision::Refused(reply) => Ok(reply),
-        Decision::Kept(current) => {
+        Decision::Owed(current) => {
             let original = Arc::try_clone(term)?;
             let number = store.add(name, original, current)?;
             Ok(Reply::Registered(number))

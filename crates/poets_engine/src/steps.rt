@@ -3,10 +3,10 @@ ghost use Rattle.std.specs.Prelude.{◌≡◌, ◌+◌, ◌≤◌, IfOk, OnErr};
 ghost use Rattle.poets_call.specs.Calls.{command_of};
 ghost use Rattle.poets_call.specs.Rules.{book_of_rules, reports_of_rules};
 ghost use Rattle.poets_call.specs.Taken.{IsTaken};
-ghost use Rattle.poets_engine.specs.Choices.{AreKept};
+ghost use Rattle.poets_engine.specs.code.Judgements.{AreKept};
 ghost use Rattle.poets_engine.specs.Evaluations.{most_evaluations};
 ghost use Rattle.poets_engine.specs.Copies.{AreCopies};
-ghost use Rattle.poets_engine.specs.Makes.{MakesBody};
+ghost use Rattle.poets_engine.specs.code.Makes.{MakesBody};
 
 use crate::copies::Copies;
 use crate::ends::end;

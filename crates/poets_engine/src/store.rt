@@ -4,7 +4,7 @@ ghost use Rattle.std.specs.Arc.{arc_value};
 ghost use Rattle.poets_expr.specs.Env.{declared_of};
 ghost use Rattle.poets_report.specs.Answers.{answer_of};
 ghost use Rattle.poets_table.specs.TableView.{IsLive, changed_at, finished, new_row, number_named, row_view};
-ghost use Rattle.poets_engine.specs.Store.{AddsRow, AddsWatch, RecordsEvent};
+ghost use Rattle.poets_engine.specs.code.Changes.{AddsRow, AddsWatch, RecordsEvent};
 
 use poets_cons::Rows;
 use poets_expr::{Asks, Decls};

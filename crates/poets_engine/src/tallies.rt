@@ -8,7 +8,7 @@ ghost use Rattle.poets_call.specs.Laws.{IsReportOf};
 ghost use Rattle.poets_call.specs.Replies.{report_in};
 ghost use Rattle.poets_call.specs.Rules.{book_of_rules, reports_of_rules};
 ghost use Rattle.poets_call.specs.Taken.{IsTaken};
-ghost use Rattle.poets_engine.specs.Makes.{Makes};
+ghost use Rattle.poets_engine.specs.code.Makes.{Makes};
 
 use crate::store::Store;
 use poets_call::{Reply, Rules};

@@ -9,9 +9,9 @@ ghost use Rattle.poets_call.specs.Plain.{Command};
 ghost use Rattle.poets_call.specs.Ledger.{last_day, late_day};
 ghost use Rattle.poets_call.specs.Rules.{book_of_rules, reports_of_rules};
 ghost use Rattle.poets_call.specs.Taken.{IsTaken};
-ghost use Rattle.poets_engine.specs.Choices.{AreKept, KeptFits, choice_of, choice_by};
+ghost use Rattle.poets_engine.specs.code.Judgements.{AreKept, KeptFits, judgement_of, judgement_by};
 ghost use Rattle.poets_engine.specs.Evaluations.{asked_in, asked_owed};
-ghost use Rattle.poets_engine.specs.Makes.{Makes};
+ghost use Rattle.poets_engine.specs.code.Makes.{Makes};
 
 use crate::judging::{Decision, judge};
 use crate::store::Store;
@@ -55,8 +55,8 @@ fn decide<T>(
     asks: &mut Asks<T>,
 ) -> Result<Decision, Memory>
     requires { CountsFit (book_of studied.now.book) (contract_of_rows row.now.current) }
-    ensures choice { IfOk result (λ d. choice_of d ≡ choice_by studied.now (row_view row.now) event.now) }
-    ensures fits { IfOk result (λ d. KeptFits (book_of studied.now.book) (choice_of d)) }
+    ensures choice { IfOk result (λ d. judgement_of d ≡ judgement_by studied.now (row_view row.now) event.now) }
+    ensures fits { IfOk result (λ d. KeptFits (book_of studied.now.book) (judgement_of d)) }
     ensures asks { asks.new ≤ asks.old + asked_in studied.now (contract_of_rows row.now.current) }
     ensures rises { asks.old ≤ asks.new }
 {
@@ -96,7 +96,7 @@ pub(crate) fn transmit<T>(
     let count = row.events.len() as u64 + 1;
     match decide(alloc, &rules.studied, row, event, asks)? {
         Decision::Refused(reply) => Ok(reply),
-        Decision::Kept(next) => {
+        Decision::Owed(next) => {
             let may_end = may_end_rows(&rules.studied, &next);
             store.record(&rules.studied.book().decls, number, event, next, asks)?;
             Ok(Reply::Recorded { count, may_end })

@@ -5,7 +5,7 @@ ghost use Rattle.poets_call.specs.Calls.{reply_of};
 ghost use Rattle.poets_call.specs.Plain.{Command};
 ghost use Rattle.poets_call.specs.Rules.{book_of_rules, reports_of_rules};
 ghost use Rattle.poets_call.specs.Taken.{IsTaken};
-ghost use Rattle.poets_engine.specs.Makes.{Makes};
+ghost use Rattle.poets_engine.specs.code.Makes.{Makes};
 
 use crate::store::Store;
 use crate::tallies::report_called;

@@ -22,9 +22,9 @@ use Rattle.poets_syntax.specs.Plain as plain
 use Rattle.poets_syntax.proofs.Typedness.{BodiesFit-typed}
 use Rattle.poets_guard.specs.declared.rules.Rule.{Rule}
 use Rattle.poets_guard.specs.declared.endings.Rules.{Rules}
-use Rattle.poets_guard.specs.Endings.{ends, MayEnd, IsExact}
-use Rattle.poets_guard.specs.Rules.{Follows, is_known, Concludes, AllFollow}
-use Rattle.poets_guard.specs.Facts.{known_of, says, AllMayEnd, Holds, IsRight, AreMeant, GoOn, AreAdded, AreFacts, bodies, first_templates, IsBuilt, IsTold}
+use Rattle.poets_guard.specs.code.Endings.{ends, MayEnd, IsExact}
+use Rattle.poets_guard.specs.code.Rules.{Follows, is_known, Concludes, AllFollow}
+use Rattle.poets_guard.specs.code.Facts.{known_of, says, AllMayEnd, FactHolds, IsRight, AreMeant, GoOn, AreAdded, AreFacts, bodies, first_templates, IsBuilt, IsTold}
 use Rattle.poets_guard.proofs.Places.{StandsAt, own_template, template_in-take}
 use Rattle.poets_guard.proofs.Marking.{either_true, one_template, ends-complete, MayEnd-transmit, MayEnd-left, MayEnd-right, MayEnd-app}
 
@@ -40,11 +40,11 @@ GoOn-trans xs ys zs g h = record {
 }
 
 module _ (book : plain.Book) (granted : Bool) where
-  Holds-on : (old new : List (List Contract)) → GoOn old new → (k : ℕ) → k < length old → Holds book granted old k → Holds book granted new k
-  Holds-on old new g k l h = subst (AllMayEnd book granted) (sym (g.same k l)) h
+  FactHolds-on : (old new : List (List Contract)) → GoOn old new → (k : ℕ) → k < length old → FactHolds book granted old k → FactHolds book granted new k
+  FactHolds-on old new g k l h = subst (AllMayEnd book granted) (sym (g.same k l)) h
 
-  Holds-back : (old new : List (List Contract)) → GoOn old new → (k : ℕ) → k < length old → Holds book granted new k → Holds book granted old k
-  Holds-back old new g k l h = subst (AllMayEnd book granted) (g.same k l) h
+  FactHolds-back : (old new : List (List Contract)) → GoOn old new → (k : ℕ) → k < length old → FactHolds book granted new k → FactHolds book granted old k
+  FactHolds-back old new g k l h = subst (AllMayEnd book granted) (g.same k l) h
 
   -- one fact more
   AreMeant-more : (facts : Name → Option ℕ) (meant : List (List Contract)) (cs : List Contract) (old new : Rules) → new.count ≡ old.count + 1 → new.rules.items ≡ old.rules.items →
@@ -54,11 +54,11 @@ module _ (book : plain.Book) (granted : Bool) where
     record {
       many = longer ∙ (let n = m.many in omega (arith, n, count));
       some = (let l = m.some in omega (arith, l, longer));
-      given = Holds-on meant (meant ++ cs ∷ []) on 0 m.some m.given;
+      given = FactHolds-on meant (meant ++ cs ∷ []) on 0 m.some m.given;
       named = λ f k t e i. (let n = m.named f k t e i in ((let l = n.0 in omega (arith, l, longer)), on.same k n.0 ∙ n.1));
       right = rw rules (λ k d l. let r = m.right k d l in record {
         within = record { first = (let w = r.within.first in omega (arith, w, longer)); second = (let w = r.within.second in omega (arith, w, longer)); conclusion = (let w = r.within.conclusion in omega (arith, w, longer)) };
-        sound = λ f s. Holds-on meant (meant ++ cs ∷ []) on _ r.within.conclusion (r.sound (Holds-back meant (meant ++ cs ∷ []) on _ r.within.first f) (Holds-back meant (meant ++ cs ∷ []) on _ r.within.second s));
+        sound = λ f s. FactHolds-on meant (meant ++ cs ∷ []) on _ r.within.conclusion (r.sound (FactHolds-back meant (meant ++ cs ∷ []) on _ r.within.first f) (FactHolds-back meant (meant ++ cs ∷ []) on _ r.within.second s));
       });
     },
   )
@@ -76,7 +76,7 @@ module _ (granted : Bool) (facts : Name → Option ℕ) where
   pub AreAdded-by : (c : Contract) (given second goal : ℕ) (old new : Rules) → new.count ≡ old.count →
       new.rules.items ≡ old.rules.items ++ record { first = given; second = second; conclusion = goal } ∷ [] →
       ((known : ℕ → Bool) → known 0 ≡ true → ends granted (says known facts) c ≡ true → known second ≡ true) →
-      ((book : plain.Book) (meant : List (List Contract)) → ApplicationsFit book c → AreMeant book granted facts meant old → (second < length meant) × (Holds book granted meant second → MayEnd book granted c)) →
+      ((book : plain.Book) (meant : List (List Contract)) → ApplicationsFit book c → AreMeant book granted facts meant old → (second < length meant) × (FactHolds book granted meant second → MayEnd book granted c)) →
       AreAdded granted facts c given goal old new
   AreAdded-by c given second goal old new count rules tells means = record {
     complete = λ known closed. (
@@ -135,7 +135,7 @@ module _ (granted : Bool) (facts : Name → Option ℕ) where
     ));
     sound = λ book meant fit m l n to. (let x = i.sound book meant fit.0 m l n (λ h e. to h (MayEnd-left book granted e)) in
         let y = j.sound book x.0 fit.1 x.2 (let w = x.1.longer in omega (arith, w, l)) (let w = x.1.longer in omega (arith, w, n))
-        (λ h e. Holds-on book granted meant x.0 x.1 goal n (to (Holds-back book granted meant x.0 x.1 given l h) (MayEnd-right book granted e))) in
+        (λ h e. FactHolds-on book granted meant x.0 x.1 goal n (to (FactHolds-back book granted meant x.0 x.1 given l h) (MayEnd-right book granted e))) in
         (y.0, GoOn-trans meant x.0 y.0 x.1 y.1, y.2));
   }
 
@@ -159,10 +159,10 @@ module _ (granted : Bool) (facts : Name → Option ℕ) where
         let top : slice_index_or more first [] ≡ a ∷ gs = get_or_push meant (a ∷ gs) [] first place in
         let long = length-append meant ((a ∷ gs) ∷ []) in
         let x = i.sound book more part.0 s.1 (omega (arith, l, long)) (omega (arith, place, long))
-        (λ h e. subst (AllMayEnd book granted) (sym top) (e, Holds-back book granted meant more s.0 given l h)) in
+        (λ h e. subst (AllMayEnd book granted) (sym top) (e, FactHolds-back book granted meant more s.0 given l h)) in
         let y = j.sound book x.0 part.1 x.2 (let w = x.1.longer in omega (arith, w, place, long)) (let w = x.1.longer in omega (arith, w, n, long))
         (λ h e. let k = subst (AllMayEnd book granted) (x.1.same first (omega (arith, place, long)) ∙ top) h in
-        Holds-on book granted meant x.0 (GoOn-trans meant more x.0 s.0 x.1) goal n (to k.1 (part.2 k.0 e))) in
+        FactHolds-on book granted meant x.0 (GoOn-trans meant more x.0 s.0 x.1) goal n (to k.1 (part.2 k.0 e))) in
         (y.0, GoOn-trans meant more y.0 s.0 (GoOn-trans more x.0 y.0 x.1 y.1), y.2));
   }
 
@@ -252,7 +252,7 @@ module _ (book : Book) (checked : IsChecked (book_of book)) (granted : Bool) (fa
       step known f u false e goal g i may here there = there i may
 
   -- what follows may end
-  follows_may : (meant : List (List Contract)) (s : Rules) → AreMeant (book_of book) granted facts meant s → {i : ℕ} → Follows s.rules.items i → Holds (book_of book) granted meant i
+  follows_may : (meant : List (List Contract)) (s : Rules) → AreMeant (book_of book) granted facts meant s → {i : ℕ} → Follows s.rules.items i → FactHolds (book_of book) granted meant i
   follows_may meant s m Follows.Given = m.given
   follows_may meant s m (Follows.By {r = r} c f g) =
       (All-contains (IsRight (book_of book) granted meant) s.rules.items r m.right c).sound (follows_may meant s m f) (follows_may meant s m g)

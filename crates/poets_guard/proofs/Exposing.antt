@@ -17,8 +17,8 @@ use Rattle.poets_syntax.specs.Typed.{is_among}
 use Rattle.poets_syntax.proofs.Granting.{May-Perf, Perf-May}
 use Rattle.poets_syntax.proofs.Replacing.{truth}
 use Rattle.poets_guard.specs.declared.graph.Node.{Node}
-use Rattle.poets_guard.specs.Endings.{ends, MayEnd, IsExact}
-use Rattle.poets_guard.specs.Graph.{exposures, held, holding, IsGraph, HasEdge}
+use Rattle.poets_guard.specs.code.Endings.{ends, MayEnd, IsExact}
+use Rattle.poets_guard.specs.code.Graph.{exposures, held, holding, IsGraph, HasEdge}
 use Rattle.poets_guard.proofs.Places.{same_name-self}
 use Rattle.poets_guard.proofs.Marking.{either_true, or_second, ends-sound, ends-complete}
 

@@ -14,10 +14,10 @@ use Rattle.poets_syntax.specs.declared.term.Template.{Template}
 use Rattle.poets_syntax.specs.Guarded.{IsCycle}
 use Rattle.poets_syntax.specs.Typed.{is_among}
 use Rattle.poets_guard.specs.declared.graph.Node.{Node}
-use Rattle.poets_guard.specs.Graph.{HasEdge}
-use Rattle.poets_guard.specs.Walks.{HasCycle}
+use Rattle.poets_guard.specs.code.Graph.{HasEdge}
+use Rattle.poets_guard.specs.code.Walks.{HasCycle}
 use Rattle.poets_guard.specs.FirstCycle.{LiesOnCycle, IsFirstOf}
-use Rattle.poets_guard.specs.Searched.{IsPassed, IsSearched, HasNodesOf}
+use Rattle.poets_guard.specs.code.Searched.{IsPassed, IsSearched, HasNodesOf}
 use Rattle.poets_guard.proofs.Places.{StandsAt}
 use Rattle.poets_guard.proofs.Marking.{either_true}
 use Rattle.poets_guard.proofs.Walking.{path_node}

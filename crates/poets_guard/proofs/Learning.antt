@@ -9,7 +9,7 @@ use Rattle.std.proofs.lemmas.List.Elements.{All-nil, All-contains, All-contains_
 use Rattle.std.proofs.lemmas.List.Sums.{sum_by-set}
 use Rattle.poets_guard.specs.declared.rules.Rule.{Rule}
 use Rattle.poets_guard.specs.declared.rules.Known.{Known}
-use Rattle.poets_guard.specs.Rules.{Follows, IsWithin, is_known, Concludes, lists, list_at, Waits, IsPlaced, IsLearning, work, IsStep}
+use Rattle.poets_guard.specs.code.Rules.{Follows, IsWithin, is_known, Concludes, lists, list_at, Waits, IsPlaced, IsLearning, work, IsStep}
 
 -- a fact that is read
 pub known_at : (facts : List Bool) (k : ℕ) (a b : Bool) → k < length facts → a ≡ get_or facts k a → a ≡ b → is_known facts k ≡ b

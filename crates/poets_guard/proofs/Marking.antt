@@ -19,7 +19,7 @@ use Rattle.poets_syntax.proofs.Granting.{May-anywhere}
 use Rattle.poets_syntax.proofs.Lists.{Between-nil, parts_of_nil}
 use Rattle.poets_syntax.specs.Between.{Between}
 use Rattle.poets_syntax.proofs.Replacing.{truth}
-use Rattle.poets_guard.specs.Endings.{ends, MayEnd, IsSound}
+use Rattle.poets_guard.specs.code.Endings.{ends, MayEnd, IsSound}
 use Rattle.poets_guard.proofs.Places.{name_cmp-same, same_name-self}
 
 pub either_true : (a b : Bool) → (a || b) ≡ true → (a ≡ true) ⊎ (b ≡ true)

@@ -13,8 +13,8 @@ use Rattle.poets_value.proofs.Orders.{name_cmp_total}
 use Rattle.poets_syntax.specs.Guarded.{IsPath}
 use Rattle.poets_syntax.specs.Typed.{is_among}
 use Rattle.poets_guard.specs.declared.graph.Node.{Node}
-use Rattle.poets_guard.specs.Graph.{HasEdge}
-use Rattle.poets_guard.specs.Searched.{HaveNodes, IsSeen, IsPassed, IsSearching, IsSearched, LeadsOn}
+use Rattle.poets_guard.specs.code.Graph.{HasEdge}
+use Rattle.poets_guard.specs.code.Searched.{HaveNodes, IsSeen, IsPassed, IsSearching, IsSearched, LeadsOn}
 use Rattle.poets_guard.proofs.Marking.{said, still_said, now_said}
 use Rattle.poets_guard.proofs.Walking.{among_more, edges-all}
 

@@ -27,12 +27,12 @@ use Rattle.poets_syntax.proofs.Nullability.{CountsFit-fit}
 use Rattle.poets_syntax.proofs.Typedness.{BodiesFit-typed}
 use Rattle.poets_syntax.proofs.Unfolded.{width-unfolded}
 use Rattle.poets_guard.specs.declared.graph.Node.{Node}
-use Rattle.poets_guard.specs.Endings.{ends, MayEnd, IsExact}
+use Rattle.poets_guard.specs.code.Endings.{ends, MayEnd, IsExact}
 use Rattle.poets_guard.specs.FirstCycle.{IsFirstOf, IsFirstCycle}
-use Rattle.poets_guard.specs.Graph.{cut, own, exposures, held, holding, IsGraph, HasEdge}
-use Rattle.poets_guard.specs.Marked.{IsMarked}
-use Rattle.poets_guard.specs.Searched.{HasNodesOf}
-use Rattle.poets_guard.specs.Walks.{PathsEnd, width_at, IsWidthOf, HasWidth}
+use Rattle.poets_guard.specs.code.Graph.{cut, own, exposures, held, holding, IsGraph, HasEdge}
+use Rattle.poets_guard.specs.code.Marked.{IsMarked}
+use Rattle.poets_guard.specs.code.Searched.{HasNodesOf}
+use Rattle.poets_guard.specs.code.Walks.{PathsEnd, width_at, IsWidthOf, HasWidth}
 use Rattle.poets_guard.proofs.Places.{same_name-self, own_template, StandsAt}
 use Rattle.poets_guard.proofs.Marking.{one_template, or_second}
 use Rattle.poets_guard.proofs.Walking.{no_cycle}

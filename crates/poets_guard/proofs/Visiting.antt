@@ -25,10 +25,10 @@ use Rattle.poets_syntax.proofs.Guarding.{further}
 use Rattle.poets_syntax.proofs.Replacing.{truth}
 use Rattle.poets_guard.specs.declared.graph.Node.{Node}
 use Rattle.poets_guard.specs.declared.visits.Visits.{Visits}
-use Rattle.poets_guard.specs.Graph.{HasEdge}
-use Rattle.poets_guard.specs.Walks.{Reaches}
+use Rattle.poets_guard.specs.code.Graph.{HasEdge}
+use Rattle.poets_guard.specs.code.Walks.{Reaches}
 use Rattle.poets_guard.specs.FirstCycle.{LiesOnCycle}
-use Rattle.poets_guard.specs.Visited.{IsOpenAt, AllLead, IsFrom, LeadsFrom, IsClosed, IsDone, AreRight, AreGrown, AreOpened, IsVisited, IsPushed}
+use Rattle.poets_guard.specs.code.Visited.{IsOpenAt, AllLead, IsFrom, LeadsFrom, IsClosed, IsDone, AreRight, AreGrown, AreOpened, IsVisited, IsPushed}
 use Rattle.poets_guard.proofs.Places.{name_cmp-same, same_name-self, same_name-one}
 use Rattle.poets_guard.proofs.Walking.{among_more, path_node}
 

@@ -1,11 +1,4 @@
-pub mod Endings
-pub mod Rules
-pub mod Facts
-pub mod Graph
-pub mod Walks
-pub mod Marked
 pub mod FirstCycle
-pub mod Searched
-pub mod Visited
 pub mod Fault
 pub mod Examples
+pub mod code

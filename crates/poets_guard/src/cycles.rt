@@ -2,11 +2,11 @@
 ghost use Rattle.std.specs.Prelude.{◌≡◌, List as Names, ◌∷◌, IfOk, Ok, true, false, map};
 ghost use Rattle.std.specs.BTreeSet.{contains};
 ghost use Rattle.poets_value.specs.Names.{name_cmp};
-ghost use Rattle.poets_guard.specs.Graph.{HasEdge};
+ghost use Rattle.poets_guard.specs.code.Graph.{HasEdge};
 ghost use Rattle.poets_syntax.specs.Guarded.{IsCycle};
-ghost use Rattle.poets_guard.specs.Walks.{HasCycle};
+ghost use Rattle.poets_guard.specs.code.Walks.{HasCycle};
 ghost use Rattle.poets_guard.specs.FirstCycle.{IsFirstOf, LiesOnCycle};
-ghost use Rattle.poets_guard.specs.Searched.{HaveNodes, IsSearched, LeadsOn, HasNodesOf};
+ghost use Rattle.poets_guard.specs.code.Searched.{HaveNodes, IsSearched, LeadsOn, HasNodesOf};
 
 use crate::graph::Graph;
 use crate::visits::names_on_cycles;

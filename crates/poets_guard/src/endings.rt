@@ -7,9 +7,9 @@ ghost use Rattle.poets_expr.specs.Env.{same_name};
 ghost use Rattle.poets_syntax.specs.Contract.{contract_of};
 ghost use Rattle.poets_syntax.specs.Book.{book_of};
 ghost use Rattle.poets_syntax.specs.Checked.{IsChecked};
-ghost use Rattle.poets_guard.specs.Endings.{IsExact};
-ghost use Rattle.poets_guard.specs.Rules.{is_known};
-ghost use Rattle.poets_guard.specs.Facts.{says, AreAdded, AreFacts, IsBuilt};
+ghost use Rattle.poets_guard.specs.code.Endings.{IsExact};
+ghost use Rattle.poets_guard.specs.code.Rules.{is_known};
+ghost use Rattle.poets_guard.specs.code.Facts.{says, AreAdded, AreFacts, IsBuilt};
 
 use crate::rules::{GIVEN, Rule, consequences};
 use poets_syntax::{Book, Template, Term};

@@ -5,9 +5,9 @@ ghost use Rattle.poets_value.specs.Names.{name_cmp};
 ghost use Rattle.poets_syntax.specs.Contract.{contract_of};
 ghost use Rattle.poets_syntax.specs.Book.{book_of};
 ghost use Rattle.poets_syntax.specs.Checked.{IsChecked};
-ghost use Rattle.poets_guard.specs.Endings.{ends};
-ghost use Rattle.poets_guard.specs.Graph.{cut, exposures, IsGraph};
-ghost use Rattle.poets_guard.specs.Graph as spec;
+ghost use Rattle.poets_guard.specs.code.Endings.{ends};
+ghost use Rattle.poets_guard.specs.code.Graph.{cut, exposures, IsGraph};
+ghost use Rattle.poets_guard.specs.code.Graph as spec;
 
 use poets_syntax::{Book, Term, size};
 use poets_value::{List, Memory, Name, push};

@@ -1,6 +1,6 @@
 //! What follows from facts by rules of two premises.
 ghost use Rattle.std.specs.Prelude.{◌≡◌, ℕ, ◌<◌, ◌++◌, [], ◌∷◌, true, length, All, IfOk, OnOk, slice_set};
-ghost use Rattle.poets_guard.specs.Rules.{IsWithin, is_known, Concludes, AllFollow, lists, list_at, IsStep};
+ghost use Rattle.poets_guard.specs.code.Rules.{IsWithin, is_known, Concludes, AllFollow, lists, list_at, IsStep};
 
 use poets_value::Memory;
 use std::alloc::Global;

@@ -2,10 +2,10 @@
 ghost use Rattle.std.specs.Prelude.{◌≡◌, ◌↔◌, ◌≤◌, ◌⊎◌, true, IfOk, OnOk, IsTrue};
 ghost use Rattle.std.specs.BTreeSet.{contains};
 ghost use Rattle.poets_value.specs.Names.{name_cmp};
-ghost use Rattle.poets_guard.specs.Graph.{HasEdge};
+ghost use Rattle.poets_guard.specs.code.Graph.{HasEdge};
 ghost use Rattle.poets_guard.specs.FirstCycle.{LiesOnCycle};
-ghost use Rattle.poets_guard.specs.Searched.{HasNodesOf};
-ghost use Rattle.poets_guard.specs.Visited.{IsOpenAt, AllLead, AreRight, IsVisited};
+ghost use Rattle.poets_guard.specs.code.Searched.{HasNodesOf};
+ghost use Rattle.poets_guard.specs.code.Visited.{IsOpenAt, AllLead, AreRight, IsVisited};
 
 use crate::endings::insert_if;
 use crate::graph::Graph;

@@ -3,8 +3,8 @@ ghost use Rattle.std.specs.Prelude.{◌≡◌, IfOk, IfSome, IsSome, Ok, None};
 ghost use Rattle.std.specs.List.{AllZip};
 ghost use Rattle.std.specs.BTreeSet.{contains};
 ghost use Rattle.poets_value.specs.Names.{name_cmp};
-ghost use Rattle.poets_guard.specs.Walks.{HasCycle, HasWidth, HaveWidths, AllReach, HaveSameNames};
-ghost use Rattle.poets_guard.specs.Marked.{IsMarked};
+ghost use Rattle.poets_guard.specs.code.Walks.{HasCycle, HasWidth, HaveWidths, AllReach, HaveSameNames};
+ghost use Rattle.poets_guard.specs.code.Marked.{IsMarked};
 
 use crate::graph::{Graph, add};
 use poets_syntax::{Book, Mark};

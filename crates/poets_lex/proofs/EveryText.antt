@@ -18,7 +18,7 @@ use Rattle.poets_lex.specs.Bytes.{is_blank, begins_name, is_in_name, decimal, Be
 use Rattle.poets_lex.specs.Texts.{word_text, sign_text}
 use Rattle.poets_lex.specs.Table.{Table, place_of, with_text}
 use Rattle.poets_lex.specs.Lexes.{IsTextOf, IsLongest, IsLongestSign, table_with, Piece, Reads, Lexes, IsFaultAt, FirstFault}
-use Rattle.poets_lex.specs.Front.{FirstToken, TakesPiece}
+use Rattle.poets_lex.specs.code.Front.{FirstToken, TakesPiece}
 use Rattle.poets_lex.specs.Laws.{EveryTextIsCut}
 use Rattle.poets_lex.proofs.FirstBytes.{BeginsClass, class_of_token, token-class}
 use Rattle.poets_lex.proofs.Found.{known, unknown, position-push}

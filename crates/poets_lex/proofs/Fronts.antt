@@ -8,7 +8,7 @@ use Rattle.std.proofs.lemmas.Bool.Decides.{nat_tests}
 use Rattle.poets_lex.specs.Bytes.{BeginsWithout, begins_name, is_in_name}
 use Rattle.poets_lex.specs.Table.{HasNameShape}
 use Rattle.poets_lex.specs.Lexes.{IsNumber}
-use Rattle.poets_lex.specs.Front.{BeginsWith}
+use Rattle.poets_lex.specs.code.Front.{BeginsWith}
 
 pub both : (a b : Bool) → (a && b) ≡ true → (a ≡ true) × (b ≡ true)
 both true b h = (refl, h)

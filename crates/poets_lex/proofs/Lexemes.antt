@@ -16,7 +16,7 @@ use Rattle.poets_lex.specs.Bytes.{is_blank, begins_name, is_in_name, is_in_line,
 use Rattle.poets_lex.specs.Texts.{word_text}
 use Rattle.poets_lex.specs.Table.{Table, IsName, place_of, with_text}
 use Rattle.poets_lex.specs.Lexes.{IsDay, Piece, IsTextOf, IsLongest, IsLongNumber, IsLongName, table_with}
-use Rattle.poets_lex.specs.Front.{BeginsWith, FirstToken, TakesPiece}
+use Rattle.poets_lex.specs.code.Front.{BeginsWith, FirstToken, TakesPiece}
 use Rattle.poets_lex.proofs.Fronts.{front-passes, front-ends, number-front, name-front, name-ascii}
 
 -- the token that ends where the bytes end that pass

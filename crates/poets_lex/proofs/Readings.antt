@@ -8,7 +8,7 @@ use Rattle.poets_lex.specs.declared.token.Tok.TheVariants as K
 use Rattle.poets_lex.specs.declared.token.Token.{Token}
 use Rattle.poets_lex.specs.Table.{Table, HasNameShape, Extends}
 use Rattle.poets_lex.specs.Lexes.{IsTextOf, table_with, Piece, Reads}
-use Rattle.poets_lex.specs.Front.{TakesPiece}
+use Rattle.poets_lex.specs.code.Front.{TakesPiece}
 
 -- one piece more
 pub Reads-push : {before between after : Table} {text middle bytes rest : List ℕ} {place there : ℕ} {tokens here : List Token} → Reads before text place tokens between middle → there + length middle ≡ place + length text → middle ≡ bytes ++ rest → Piece between there bytes rest here after → Reads before text place (tokens ++ here) after rest

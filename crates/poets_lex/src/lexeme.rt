@@ -5,7 +5,7 @@ ghost use Rattle.poets_lex.specs.Table.{Table};
 ghost use Rattle.poets_lex.specs.Texts.{sign_text};
 ghost use Rattle.poets_lex.specs.Bytes.{begins_name, Begins};
 ghost use Rattle.poets_lex.specs.Lexes.{IsDay, IsFaultAt};
-ghost use Rattle.poets_lex.specs.Front.{BeginsWith, FirstToken, is_in_lexeme};
+ghost use Rattle.poets_lex.specs.code.Front.{BeginsWith, FirstToken, is_in_lexeme};
 ghost use Rattle.poets_lex.specs.declared.token.Sign.{Sign};
 
 use crate::front::{begins_name, decimal, digit_count, name_length};

@@ -2,7 +2,7 @@
 ghost use Rattle.std.specs.Prelude.{◌≡◌, ◌≢◌, ◌+◌, ◌<◌, ◌^◌, ◌≤◌, length, IfOk, IfErr};
 ghost use Rattle.poets_lex.specs.Table.{Extends};
 ghost use Rattle.poets_lex.specs.Lexes.{IsFaultAt};
-ghost use Rattle.poets_lex.specs.Front.{TakesPiece};
+ghost use Rattle.poets_lex.specs.code.Front.{TakesPiece};
 
 use crate::front::{is_blank, line_length};
 use crate::lexeme::first_token;

@@ -1,3 +1,3 @@
-pub mod Adders
 pub mod Adding
 pub mod Histories
+pub mod code

@@ -2,7 +2,7 @@
 use Rattle.std.specs.Prelude.{◌≡◌, ℕ, List, ◌++◌, Option, Some, IfSome}
 
 -- a source that keeps what it gave
-pub record Kept : Type 0 where
+pub record KeptView : Type 0 where
   -- the bytes that are left, where they are told
   pub left : Option (List ℕ)
   -- how many faults there were

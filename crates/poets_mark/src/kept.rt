@@ -19,9 +19,9 @@ pub struct KeptSource<S: Source> {
 
 impl<S: Source> Model for KeptSource<S> {
     ghost use Rattle.std.specs.Prelude.{option_map};
-    ghost use Rattle.poets_mark.specs.Keeping.{Kept};
+    ghost use Rattle.poets_mark.specs.Keeping.{KeptView};
 
-    ghost Value = { Kept };
+    ghost Value = { KeptView };
 
     ghost view = { λ s. record {
       left = S.left s.source;

@@ -1,5 +1,5 @@
-pub mod Applications
 pub mod Choices
 pub mod Examples
 pub mod Laws
 pub mod Questions
+pub mod code

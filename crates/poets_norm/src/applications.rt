@@ -8,7 +8,7 @@ ghost use Rattle.poets_syntax.specs.Book.{book_of};
 ghost use Rattle.poets_syntax.specs.Contract.{contract_of};
 ghost use Rattle.poets_syntax.specs.Normal as normal;
 ghost use Rattle.poets_syntax.specs.Studied.{marks_of};
-ghost use Rattle.poets_norm.specs.Applications.{applied};
+ghost use Rattle.poets_norm.specs.code.Applications.{applied};
 ghost use Rattle.poets_norm.specs.Questions.{operated, questions};
 
 use poets_expr::{Asks, Decls, Expr, copy, fold_closed};

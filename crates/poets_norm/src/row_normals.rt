@@ -7,7 +7,7 @@ ghost use Rattle.poets_syntax.specs.Contract.{contract_of};
 ghost use Rattle.poets_syntax.specs.Normal as spec;
 ghost use Rattle.poets_syntax.specs.Studied.{marks_of};
 ghost use Rattle.poets_syntax.specs.Width.{size};
-ghost use Rattle.poets_norm.specs.Applications as spec_of_applications;
+ghost use Rattle.poets_norm.specs.code.Applications as spec_of_applications;
 ghost use Rattle.poets_norm.specs.Questions.{questions};
 ghost use Rattle.poets_cons.specs.Table.{contract_at, contract_of_rows, Stands, Extends};
 

@@ -9,7 +9,7 @@ use Rattle.poets_call.specs.Said as said
 use Rattle.poets_grammar.specs.Statements.{IsStatement}
 use Rattle.poets_grammar.specs.StatementReading.{statement}
 use Rattle.poets_grammar.proofs.Statements.{statement_sound, statement_complete}
-use Rattle.poets_parse.specs.Gives.{Gives, Refuses, syntax_fault}
+use Rattle.poets_parse.specs.code.Gives.{Gives, Refuses, syntax_fault}
 use Rattle.poets_parse.specs.declared.fault.SyntaxFault.{SyntaxFault}
 use Rattle.poets_parse.specs.declared.fault.SyntaxFault.TheVariants as F
 use Rattle.poets_parse.specs.declared.fault.ReadFault.{ReadFault}

@@ -4,7 +4,7 @@ ghost use Rattle.poets_expr.specs.Expression.{expression_of};
 ghost use Rattle.poets_call.specs.Calls.{command_of};
 ghost use Rattle.poets_grammar.specs.Tokens.{toks};
 ghost use Rattle.poets_grammar.specs.StatementReading as reading;
-ghost use Rattle.poets_parse.specs.Gives.{Gives};
+ghost use Rattle.poets_parse.specs.code.Gives.{Gives};
 
 use crate::build::registration;
 use crate::contract::whole_contract;

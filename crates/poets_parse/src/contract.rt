@@ -3,7 +3,7 @@ ghost use Rattle.std.specs.Prelude.{◌≡◌};
 ghost use Rattle.poets_syntax.specs.Contract.{contract_of};
 ghost use Rattle.poets_grammar.specs.Tokens.{toks};
 ghost use Rattle.poets_grammar.specs.ContractReading as reading;
-ghost use Rattle.poets_parse.specs.Gives.{Gives, GivesFront, LeavesLess};
+ghost use Rattle.poets_parse.specs.code.Gives.{Gives, GivesFront, LeavesLess};
 
 use crate::expression::expression;
 use crate::fault::ReadFault;

@@ -5,7 +5,7 @@ ghost use Rattle.poets_call.specs.Statements.{statement_of};
 ghost use Rattle.poets_grammar.specs.Tokens.{toks};
 ghost use Rattle.poets_grammar.specs.Reading as expressions;
 ghost use Rattle.poets_grammar.specs.StatementReading as reading;
-ghost use Rattle.poets_parse.specs.Gives.{Gives, GivesFront};
+ghost use Rattle.poets_parse.specs.code.Gives.{Gives, GivesFront};
 
 use crate::contract::whole_contract;
 use crate::expression::expression;

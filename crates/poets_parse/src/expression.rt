@@ -3,7 +3,7 @@ ghost use Rattle.std.specs.Prelude.{◌≡◌, ◌≤◌, length, IfOk};
 ghost use Rattle.poets_expr.specs.Expression.{expression_of, AmountOf, KindOf};
 ghost use Rattle.poets_grammar.specs.Tokens.{toks};
 ghost use Rattle.poets_grammar.specs.Reading as reading;
-ghost use Rattle.poets_parse.specs.Gives.{GivesFront, LeavesLess};
+ghost use Rattle.poets_parse.specs.code.Gives.{GivesFront, LeavesLess};
 
 use crate::build;
 use crate::fault::ReadFault;

@@ -63,7 +63,7 @@ impl From<Memory> for ReadFault {
 
 impl From<ReadFault> for SyntaxFault {
     ghost use Rattle.std.specs.Prelude.{◌≡◌};
-    ghost use Rattle.poets_parse.specs.Gives.{syntax_fault};
+    ghost use Rattle.poets_parse.specs.code.Gives.{syntax_fault};
 
     ghost from_gives = { λ fault e. e ≡ syntax_fault fault };
 

@@ -5,7 +5,7 @@ ghost use Rattle.poets_grammar.specs.Tokens.{toks};
 ghost use Rattle.poets_grammar.specs.Reading as reading;
 ghost use Rattle.poets_grammar.specs.ContractReading as contracts;
 ghost use Rattle.poets_grammar.specs.StatementReading as statements;
-ghost use Rattle.poets_parse.specs.Gives.{GivesFront, LeavesLess};
+ghost use Rattle.poets_parse.specs.code.Gives.{GivesFront, LeavesLess};
 
 use crate::expression::expression;
 use crate::fault::ReadFault;

@@ -6,7 +6,7 @@ ghost use Rattle.poets_grammar.specs.Tokens.{toks, AreNatural};
 ghost use Rattle.poets_grammar.specs.StatementReading as reading;
 ghost use Rattle.poets_grammar.specs.Statements.{IsStatement};
 ghost use Rattle.poets_grammar.specs.TooDeep.{IsTooDeep};
-ghost use Rattle.poets_parse.specs.Gives.{Gives};
+ghost use Rattle.poets_parse.specs.code.Gives.{Gives};
 
 use crate::SyntaxFault;
 use crate::command::{command, command_word, whole_names};

@@ -4,7 +4,7 @@ ghost use Rattle.poets_grammar.specs.Tokens.{toks};
 ghost use Rattle.poets_grammar.specs.Tokens as spec;
 ghost use Rattle.poets_grammar.specs.Reading as reading;
 ghost use Rattle.poets_grammar.specs.StatementReading as statements;
-ghost use Rattle.poets_parse.specs.Gives.{Gives, GivesFront, LeavesLess};
+ghost use Rattle.poets_parse.specs.code.Gives.{Gives, GivesFront, LeavesLess};
 
 use crate::fault::ReadFault;
 use poets_expr::Op;

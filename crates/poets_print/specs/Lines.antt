@@ -6,7 +6,7 @@ use Rattle.poets_value.specs.declared.value.Resource.{Resource}
 use Rattle.poets_value.specs.declared.value.Value.{Value}
 use Rattle.poets_value.specs.declared.event.Event.{Event}
 use Rattle.poets_value.specs.Civil.{day_text}
-use Rattle.poets_report.specs.Plain.{Answer, Single, Rows, Row}
+use Rattle.poets_report.specs.Plain.{Answer, Single, Rows, KeyRow}
 use Rattle.poets_lex.specs.Table.{Table}
 use Rattle.poets_call.specs.Plain.{Command, Reply, Entry}
 use Rattle.poets_print.specs.Texts.{name_text, value_text, contract_text, call_text, listed}
@@ -42,11 +42,11 @@ optional_text names None = codes "undefined"
 optional_text names (Some v) = value_text names v
 
 -- `Oil: 5`
-abbrev pub row_text : Table → Row → List ℕ
+abbrev pub row_text : Table → KeyRow → List ℕ
 row_text names row = optional_text names row.0 ++ codes ": " ++ optional_text names row.1
 
 -- `{Oil: 5, USD: 7}`
-abbrev pub rows_text : Table → List Row → List ℕ
+abbrev pub rows_text : Table → List KeyRow → List ℕ
 rows_text names rows = codes "{" ++ listed (row_text names) rows ++ codes "}"
 
 -- a single value, or rows

@@ -6,7 +6,7 @@ use Rattle.poets_value.specs.declared.value.Value.{Value}
 use Rattle.poets_expr.specs.Env.{Declared}
 use Rattle.poets_expr.specs.Expression.{Expression}
 use Rattle.poets_report.specs.Keys.{Key, KeyPrecedes, same_key}
-use Rattle.poets_report.specs.Plain.{Report, Row, Answer, Single, Rows}
+use Rattle.poets_report.specs.Plain.{Report, KeyRow, Answer, Single, Rows}
 use Rattle.poets_report.specs.Reports.{start, stage, key_on}
 use Rattle.poets_report.specs.Answers.{Rising, IsAnswer_by, EveryAnswer}
 use Rattle.poets_report.specs.Keyed.{Sets, row_at}
@@ -17,7 +17,7 @@ use Rattle.poets_report.proofs.FoldsByKey.{rows_by_key}
 use Rattle.poets_report.proofs.Steps.{answer_step}
 
 -- rows with one row more stand behind a row that is before them and it
-starts_behind : (r : Row) (k : Key) (v : Option Value) (old new : List Row) → Rising (r ∷ old) → KeyPrecedes r.0 k → Sets k (Some v) old new → StartsAfter r.0 new
+starts_behind : (r : KeyRow) (k : Key) (v : Option Value) (old new : List KeyRow) → Rising (r ∷ old) → KeyPrecedes r.0 k → Sets k (Some v) old new → StartsAfter r.0 new
 starts_behind r k v old [] h p sets = tt
 starts_behind r k v old (s ∷ new) h p sets = by (same_key s.0 k) refl
   where
@@ -29,7 +29,7 @@ starts_behind r k v old (s ∷ new) h p sets = by (same_key s.0 k) refl
     by false e = behind r old s.0 s.1 h (rw e at found)
 
 -- rows with the row of a key
-pub set_one : (k : Key) (v : Option Value) (rows : List Row) → Rising rows → (new : List Row) × Sets k (Some v) rows new
+pub set_one : (k : Key) (v : Option Value) (rows : List KeyRow) → Rising rows → (new : List KeyRow) × Sets k (Some v) rows new
 set_one k v [] h = ((k, v) ∷ [], record { rising = tt; each = λ j. refl })
 set_one k v (r ∷ rows) h =
     let rest = rising_rest r rows h in
@@ -56,7 +56,7 @@ set_one k v (r ∷ rows) h =
     replaced j same true e = rw e refl
     replaced j same false e = let n : same_key j r.0 ≡ false = subst (λ i. same_key j i ≡ false) same e in rw (e, n) refl
 
-    passed : (j : Key) (new : List Row) → KeyPrecedes r.0 k → Sets k (Some v) rows new → (a b : Bool) → same_key j k ≡ a → same_key j r.0 ≡ b →
+    passed : (j : Key) (new : List KeyRow) → KeyPrecedes r.0 k → Sets k (Some v) rows new → (a b : Bool) → same_key j k ≡ a → same_key j r.0 ≡ b →
         (if same_key j r.0 then Some r.1 else row_at j new) ≡ (if same_key j k then Some v else (if same_key j r.0 then Some r.1 else row_at j rows))
     passed j new p sets true true e f =
         let same : r.0 ≡ k = sym ((key_same j r.0).0 f) ∙ (key_same j k).0 e in

@@ -6,7 +6,7 @@ use Rattle.poets_value.specs.declared.value.Value.{Value}
 use Rattle.poets_expr.specs.Env.{Declared}
 use Rattle.poets_expr.specs.Expression.{Expression}
 use Rattle.poets_report.specs.Keys.{Key, same_key}
-use Rattle.poets_report.specs.Plain.{Report, Row}
+use Rattle.poets_report.specs.Plain.{Report, KeyRow}
 use Rattle.poets_report.specs.Reports.{folded, key_on, with_key}
 use Rattle.poets_report.specs.Answers.{Rising, AreRows, IsFoldOfKey}
 use Rattle.poets_report.specs.Keyed.{row_at}
@@ -63,7 +63,7 @@ module _ (declared : Declared) (q : Report) (args : List (Option Value)) (key : 
       by (x ∷ xs) e = ap (if_any (folded declared q args)) e ∙ ap Some (sym (h.1 ∙ ap (folded declared q args) e))
 
   -- rows that have at each key the fold over its events
-  pub rows_by_key : (rows : List Row) → Rising rows → ((k : Key) → row_at k rows ≡ if_any (folded declared q args) (with_key (key_on declared q args key) k events)) →
+  pub rows_by_key : (rows : List KeyRow) → Rising rows → ((k : Key) → row_at k rows ≡ if_any (folded declared q args) (with_key (key_on declared q args key) k events)) →
       AreRows declared q args key events rows
   rows_by_key rows h each = record {
     rising = h;
@@ -73,7 +73,7 @@ module _ (declared : Declared) (q : Report) (args : List (Option Value)) (key : 
     );
   }
 
-  pub by_key : (rows : List Row) → AreRows declared q args key events rows → (k : Key) →
+  pub by_key : (rows : List KeyRow) → AreRows declared q args key events rows → (k : Key) →
       row_at k rows ≡ if_any (folded declared q args) (with_key (key_on declared q args key) k events)
   by_key rows h k = by (row_at k rows) (has k) refl refl
     where

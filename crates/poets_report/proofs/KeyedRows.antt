@@ -11,7 +11,7 @@ use Rattle.std.proofs.lemmas.Map.Keys.{sorted_head, sorted_tail}
 use Rattle.poets_value.specs.declared.value.Value.{Value}
 use Rattle.poets_value.specs.Order.{value_cmp}
 use Rattle.poets_report.specs.Keys.{Key, same_key}
-use Rattle.poets_report.specs.Plain.{Row}
+use Rattle.poets_report.specs.Plain.{KeyRow}
 use Rattle.poets_report.specs.Answers.{Rising}
 use Rattle.poets_report.specs.Keyed.{Cell, row_at, row_before, rows_of, HasRoom, Sets}
 use Rattle.poets_report.proofs.KeyOrder.{key_less, key_equal, key_same}
@@ -167,13 +167,13 @@ any_from_lookup v ((w, c) ∷ cells) = by (test_of v w) refl (any_from_lookup v 
     by false e rest = rw e rest
 
 -- what is read at a key that is known
-pub found_row : (key k : Key) (cells : Cells) (undefined : Cell) (rows : List Row) → IsSorted cells → rows_of cells undefined ≡ rows → key ≡ k →
+pub found_row : (key k : Key) (cells : Cells) (undefined : Cell) (rows : List KeyRow) → IsSorted cells → rows_of cells undefined ≡ rows → key ≡ k →
     cell_at k cells undefined ≡ row_at key rows
 found_row key k cells undefined rows h seen same =
     sym (row_of_cell k cells undefined h) ∙ ap (row_at k) seen ∙ ap (λ j. row_at j rows) (sym same)
 
 -- what is put at a key that is known
-pub put_row : (key k : Key) (cell : Cell) (old new seen : List Row) → old ≡ seen → key ≡ k → Sets k cell old new → Sets key cell seen new
+pub put_row : (key k : Key) (cell : Cell) (old new seen : List KeyRow) → old ≡ seen → key ≡ k → Sets k cell old new → Sets key cell seen new
 put_row key k cell old new seen e same h = subst (λ j. Sets j cell seen new) (sym same) (subst (λ r. Sets k cell r new) e h)
 
 -- there is room at a key that is known

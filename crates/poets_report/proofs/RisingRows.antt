@@ -6,7 +6,7 @@ use Rattle.std.specs.List.{Contains}
 use Rattle.std.proofs.lemmas.Map.Views.{Contains-from_lookup}
 use Rattle.poets_value.specs.declared.value.Value.{Value}
 use Rattle.poets_report.specs.Keys.{Key, KeyPrecedes, key_cmp, same_key}
-use Rattle.poets_report.specs.Plain.{Row}
+use Rattle.poets_report.specs.Plain.{KeyRow}
 use Rattle.poets_report.specs.Answers.{Rising}
 use Rattle.poets_report.specs.Keyed.{row_at}
 use Rattle.poets_report.proofs.KeyOrder.{key_less, key_equal, key_greater, key_same, key_total}
@@ -48,34 +48,34 @@ before_before : (j k l : Key) → KeyPrecedes j k → KeyPrecedes k l → KeyPre
 before_before j k l p q = (key_less j l).0 (key_total.trans j k l ((key_less j k).1 p) ((key_less k l).1 q))
 
 -- the first row's key is after
-abbrev pub StartsAfter : Key → List Row → Type 0
+abbrev pub StartsAfter : Key → List KeyRow → Type 0
 StartsAfter k [] = Unit {0}
 StartsAfter k (r ∷ rows) = KeyPrecedes k r.0
 
-pub rising_rest : (r : Row) (rows : List Row) → Rising (r ∷ rows) → StartsAfter r.0 rows × Rising rows
+pub rising_rest : (r : KeyRow) (rows : List KeyRow) → Rising (r ∷ rows) → StartsAfter r.0 rows × Rising rows
 rising_rest r [] h = (tt, tt)
 rising_rest r (r' ∷ rows) h = h
 
-pub rising_behind : (r : Row) (rows : List Row) → StartsAfter r.0 rows → Rising rows → Rising (r ∷ rows)
+pub rising_behind : (r : KeyRow) (rows : List KeyRow) → StartsAfter r.0 rows → Rising rows → Rising (r ∷ rows)
 rising_behind r [] a h = tt
 rising_behind r (r' ∷ rows) a h = (a, h)
 
-pub starts_after : (j k : Key) (rows : List Row) → KeyPrecedes j k → StartsAfter k rows → StartsAfter j rows
+pub starts_after : (j k : Key) (rows : List KeyRow) → KeyPrecedes j k → StartsAfter k rows → StartsAfter j rows
 starts_after j k [] p a = tt
 starts_after j k (r ∷ rows) p a = before_before j k r.0 p a
 
 -- no row has a key that stands before all rows
-pub absent_before : (k : Key) (rows : List Row) → StartsAfter k rows → Rising rows → row_at k rows ≡ None
+pub absent_before : (k : Key) (rows : List KeyRow) → StartsAfter k rows → Rising rows → row_at k rows ≡ None
 absent_before k [] a h = refl
 absent_before k (r ∷ rows) a h =
     let rest = rising_rest r rows h in
     rw (before_is_other k r.0 a) (absent_before k rows (starts_after k r.0 rows a rest.0) rest.1)
 
-pub head_row : (r : Row) (rows : List Row) → row_at r.0 (r ∷ rows) ≡ Some r.1
+pub head_row : (r : KeyRow) (rows : List KeyRow) → row_at r.0 (r ∷ rows) ≡ Some r.1
 head_row r rows = rw (same_itself r.0) refl
 
 -- a key with a row below a row stands behind it
-pub behind : (r : Row) (rows : List Row) (j : Key) (v : Option Value) → Rising (r ∷ rows) → row_at j rows ≡ Some v → KeyPrecedes r.0 j
+pub behind : (r : KeyRow) (rows : List KeyRow) (j : Key) (v : Option Value) → Rising (r ∷ rows) → row_at j rows ≡ Some v → KeyPrecedes r.0 j
 behind r rows j v h found =
     let rest = rising_rest r rows h in
     by_order r.0 j (λ less. less)
@@ -83,10 +83,10 @@ behind r rows j v h found =
     (λ greater. absurd (let none : row_at j rows ≡ None = absent_before j rows (starts_after j r.0 rows greater rest.0) rest.1 in let no = sym none ∙ found in cc))
 
 -- a row is what the rows have at its key
-pub found_contained : (rows : List Row) (k : Key) (v : Option Value) → row_at k rows ≡ Some v → Contains rows (k, v)
+pub found_contained : (rows : List KeyRow) (k : Key) (v : Option Value) → row_at k rows ≡ Some v → Contains rows (k, v)
 found_contained rows k v h = Contains-from_lookup (λ x y t. (key_same x y).0 t) k v rows h
 
-pub contained_found : (rows : List Row) (k : Key) (v : Option Value) → Rising rows → Contains rows (k, v) → row_at k rows ≡ Some v
+pub contained_found : (rows : List KeyRow) (k : Key) (v : Option Value) → Rising rows → Contains rows (k, v) → row_at k rows ≡ Some v
 contained_found [] k v h (i, lt, at) = absurd (omega (arith, lt))
 contained_found (r ∷ rows) k v h (zero, lt, at) = subst (λ x. row_at x.0 (r ∷ rows) ≡ Some x.1) at (head_row r rows)
 contained_found (r ∷ rows) k v h (suc i, lt, at) =
@@ -98,7 +98,7 @@ some_one : {A : Type 0} (x y : A) → Some x ≡ Some y → x ≡ y
 some_one x y e = cc
 
 -- rising rows are known by what they have at each key
-pub rows_one : (rs rs' : List Row) → Rising rs → Rising rs' → ((k : Key) → row_at k rs ≡ row_at k rs') → rs ≡ rs'
+pub rows_one : (rs rs' : List KeyRow) → Rising rs → Rising rs' → ((k : Key) → row_at k rs ≡ row_at k rs') → rs ≡ rs'
 rows_one [] [] h h' e = refl
 rows_one [] (r ∷ rs) h h' e = absurd (let k = e r.0 ∙ head_row r rs in cc)
 rows_one (r ∷ rs) [] h h' e = absurd (let k = sym (e r.0) ∙ head_row r rs in cc)
@@ -114,7 +114,7 @@ rows_one (r ∷ rs) (r' ∷ rs') h h' e =
     (λ g. absurd (let k = sym (head_row r' rs') ∙ sym (e r'.0) ∙ absent_before r'.0 (r ∷ rs) g h in cc))
   where
     -- what there is below the first rows, which have one key
-    below : (r r' : Row) (rs rs' : List Row) → r.0 ≡ r'.0 → StartsAfter r.0 rs × Rising rs → StartsAfter r'.0 rs' × Rising rs' →
+    below : (r r' : KeyRow) (rs rs' : List KeyRow) → r.0 ≡ r'.0 → StartsAfter r.0 rs × Rising rs → StartsAfter r'.0 rs' × Rising rs' →
         ((k : Key) → row_at k (r ∷ rs) ≡ row_at k (r' ∷ rs')) → (k : Key) → row_at k rs ≡ row_at k rs'
     below r r' rs rs' key t t' e k = by (same_key k r.0) refl
       where

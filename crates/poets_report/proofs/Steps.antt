@@ -8,7 +8,7 @@ use Rattle.poets_value.specs.declared.value.Value.{Value}
 use Rattle.poets_expr.specs.Env.{Declared, Env}
 use Rattle.poets_expr.specs.Expression.{Expression}
 use Rattle.poets_report.specs.Keys.{Key, same_key}
-use Rattle.poets_report.specs.Plain.{Report, Row, Answer, Single, Rows}
+use Rattle.poets_report.specs.Plain.{Report, KeyRow, Answer, Single, Rows}
 use Rattle.poets_report.specs.Reports.{given, start, stage, folded, key_on, with_key}
 use Rattle.poets_report.specs.Answers.{AreRows, IsAnswer, IsAnswer_by}
 use Rattle.poets_report.specs.Keyed.{Cell, KeyedView, Sets, row_at}
@@ -53,7 +53,7 @@ module _ (declared : Declared) (q : Report) (args : List (Option Value)) where
         last false s = rw s refl
 
     -- the rows with what the event brings
-    rows_step : (v : Option Value) (cell : Cell) (old new : List Row) → v ≡ start declared q args → AreRows declared q args key events old →
+    rows_step : (v : Option Value) (cell : Cell) (old new : List KeyRow) → v ≡ start declared q args → AreRows declared q args key events old →
         cell ≡ Some (stage declared q args (unwrap_or (row_at (of e) old) v) e) → Sets (of e) cell old new →
         AreRows declared q args key (events ++ e ∷ []) new
     rows_step v cell old new s h c sets = rows_by_key declared q args key (events ++ e ∷ []) new sets.rising (λ k. sets.each k ∙ each k (same_key k (of e)) refl)

@@ -6,7 +6,7 @@ use Rattle.poets_value.specs.declared.value.Value.{Value}
 use Rattle.poets_expr.specs.Env.{Declared}
 use Rattle.poets_expr.specs.Expression.{Expression}
 use Rattle.poets_report.specs.Keys.{Key, KeyPrecedes}
-use Rattle.poets_report.specs.Plain.{Report, Row, Single, Rows}
+use Rattle.poets_report.specs.Plain.{Report, KeyRow, Single, Rows}
 use Rattle.poets_report.specs.Reports.{folded, key_on, with_key}
 use Rattle.poets_report.specs.Plain as plain
 use Rattle.poets_report.specs.declared.report.Answer.{Answer}
@@ -18,7 +18,7 @@ answer_of (A.Single v) = Single v
 answer_of (A.Rows rows) = Rows rows.items
 
 -- the keys rise, so that no two rows have one key
-abbrev pub Rising : List Row → Type 0
+abbrev pub Rising : List KeyRow → Type 0
 Rising [] = Unit {0}
 Rising (r ∷ []) = Unit {0}
 Rising (r ∷ r' ∷ rows) = KeyPrecedes r.0 r'.0 × Rising (r' ∷ rows)
@@ -32,7 +32,7 @@ IsFoldOfKey declared q args key_of events k v =
 -- the rows of a report by a key
 pub record AreRows
     (declared : Declared) (q : Report) (args : List (Option Value)) (key : Expression) (events : List Event)
-    (rows : List Row) : Type 0 where
+    (rows : List KeyRow) : Type 0 where
   pub rising : Rising rows
   -- there is a row for each key that some event has, with the fold over the events with that key, and there is no other
   pub each : (k : Key) (v : Option Value) →

@@ -3,7 +3,7 @@ use Rattle.std.specs.Prelude.{◌≡◌, ℕ, List, map, [], ◌∷◌, ◌++◌
 use Rattle.poets_value.specs.declared.event.Event.{Event}
 use Rattle.poets_value.specs.declared.value.Value.{Value}
 use Rattle.poets_expr.specs.Env.{Declared, Env}
-use Rattle.poets_report.specs.Plain.{Report, Row, Answer, Single, Rows}
+use Rattle.poets_report.specs.Plain.{Report, KeyRow, Answer, Single, Rows}
 use Rattle.poets_report.specs.Reports.{given, start}
 use Rattle.poets_report.specs.Answers.{IsAnswer}
 use Rattle.poets_report.specs.Keyed.{Sets, HasRoom}
@@ -54,7 +54,7 @@ GoesOn declared q more old new = (args : List (Option Value)) (events : List Eve
 -- a change put in place in an answer
 abbrev pub Changes : Change → Answer → Answer → Type 0
 Changes c (Single v) new = new ≡ Single (unwrap_or c.row v)
-Changes c (Rows rows) new = (rows' : List Row) × (new ≡ Rows rows') × Sets c.key c.row rows rows'
+Changes c (Rows rows) new = (rows' : List KeyRow) × (new ≡ Rows rows') × Sets c.key c.row rows rows'
 
 -- the change is what an event brings to a fold: put in place, it makes the answer over the events so far and this one
 abbrev pub Brings : Declared → Report → Event → FoldView → Change → Type 0

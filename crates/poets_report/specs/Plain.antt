@@ -21,10 +21,10 @@ pub record Report : Type 0 where
   pub key : Option Expression
 
 -- a key and its value
-abbrev pub Row : Type 0
-Row = Key × Option Value
+abbrev pub KeyRow : Type 0
+KeyRow = Key × Option Value
 
 -- an answer
 pub data Answer : Type 0 where
   Single : Option Value → Answer
-  Rows : List Row → Answer
+  Rows : List KeyRow → Answer

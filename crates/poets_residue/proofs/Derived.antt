@@ -12,7 +12,7 @@ use Rattle.poets_cons.specs.declared.node.Node.{Node}
 use Rattle.poets_cons.specs.Table.{contract_at, Stands, Extends}
 use Rattle.poets_cons.proofs.Reaching.{both_ok, one_ok}
 use Rattle.poets_cons.proofs.Standing.{contract_at-later, length-extends}
-use Rattle.poets_residue.specs.Notes.{AreNotes, IsDerived, AsksInWidth}
+use Rattle.poets_residue.specs.code.Notes.{AreNotes, IsDerived, AsksInWidth}
 use Rattle.poets_residue.proofs.Kept.{after_at-failure}
 use Rattle.poets_residue.proofs.Noted.{notes_later, noted_stands, noted_notes, known_stands, plus_stands, par_stands, seq_stands, over_stands}
 use Rattle.poets_residue.proofs.Widths.{width-plus, width-par, width-seq, width-first, size-width}

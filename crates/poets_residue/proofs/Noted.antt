@@ -13,7 +13,7 @@ use Rattle.poets_cons.specs.declared.node.Node.{Node}
 use Rattle.poets_cons.specs.Table.{contract_at, Stands, Extends}
 use Rattle.poets_cons.proofs.Reaching.{one_ok}
 use Rattle.poets_cons.proofs.Standing.{contract_at-later, length-extends, stands_later}
-use Rattle.poets_residue.specs.Notes.{AreNotes}
+use Rattle.poets_residue.specs.code.Notes.{AreNotes}
 use Rattle.poets_residue.proofs.Equations.{after-plus, after-par, after-seq}
 
 module _ (book : Book) (marks : Marks) (e : Event) where

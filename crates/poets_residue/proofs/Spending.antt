@@ -2,7 +2,7 @@
 use Rattle.std.proofs.Common.{◌≡◌, ℕ, ◌+◌, ◌≤◌, ◌<◌, nat_eq, cond, arith, List, [], ◌∷◌, ◌++◌, length, refl, sym, ◌∙◌, ap, subst, Option, Some, None, inl, inr, ◌⊎◌, Result, Ok, Err, IfOk, IsErr}
 use Rattle.std.specs.List.{IsDistinct}
 use Rattle.poets_value.proofs.DistinctSums.{sum_by-le_unique_keys}
-use Rattle.poets_cons.specs.SameRows.{contract_laws}
+use Rattle.poets_cons.specs.code.SameRows.{contract_laws}
 use Rattle.poets_syntax.proofs.SameContracts.{contract_one}
 use Rattle.std.proofs.lemmas.List.Sums.{sum_by-cons, sum_by-append}
 use borrow.Author.Tests.{eq-eqb}
@@ -19,7 +19,8 @@ use Rattle.poets_cons.proofs.Places.{one_place}
 use Rattle.poets_cons.proofs.Reaching.{one_ok}
 use Rattle.poets_cons.proofs.Standing.{contract_at-later}
 use Rattle.poets_residue.specs.Once.{ready, asked_of, once}
-use Rattle.poets_residue.specs.Spent.{IsAmong, IsNoted, IsNotedBut, IsSpent}
+use Rattle.poets_residue.specs.code.Spent.{IsNoted, IsNotedBut, IsSpent}
+use Rattle.poets_residue.specs.Once.{IsAmong}
 use Rattle.poets_residue.proofs.Ready.{among_one, among_two, distinct_more, distinct_both, ReadyIn}
 
 -- what holds in any case

@@ -2,6 +2,5 @@ pub mod Unfolding
 pub mod Laws
 pub mod Examples
 pub mod TypedLaws
-pub mod Notes
 pub mod Once
-pub mod Spent
+pub mod code

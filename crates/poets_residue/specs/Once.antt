@@ -1,6 +1,7 @@
 -- What a residual asks at most where each different part is derived once.
-use Rattle.std.specs.Prelude.{ℕ, zero, suc, ◌+◌, List, [], ◌∷◌, ◌++◌, length, sum_by, if◌then◌else◌}
+use Rattle.std.specs.Prelude.{◌≡◌, ℕ, zero, suc, ◌+◌, true, List, [], ◌∷◌, ◌++◌, length, sum_by, if◌then◌else◌}
 use Rattle.std.specs.Set.{unique_keys}
+use Rattle.std.specs.List.{list_any}
 use Rattle.poets_value.specs.declared.value.Name.{Name}
 use Rattle.poets_expr.specs.Expression.{Expression}
 use Rattle.poets_syntax.specs.Contract.{Contract, Success, Failure, Transmit, Plus, Par, Seq, App}
@@ -42,3 +43,7 @@ asked_of book _ = 0
 -- what a residual of the contract asks at most: the sum over the different transmits and applications in its unguarded positions
 abbrev pub once : Book → Marks → Contract → ℕ
 once book marks c = sum_by (asked_of book) (unique_keys same_contract (ready book marks c))
+
+-- the contract is one of the list
+abbrev pub IsAmong : Contract → List Contract → Type 0
+IsAmong c cs = list_any (same_contract c) cs ≡ true

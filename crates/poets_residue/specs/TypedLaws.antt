@@ -16,7 +16,7 @@ use Rattle.poets_syntax.specs.Typed.{IsTyped, IsTypedBook}
 use Rattle.poets_syntax.specs.Width.{body_in}
 use Rattle.poets_norm.specs.Questions.{operated}
 use Rattle.poets_residue.specs.Once.{ready, asked_of}
-use Rattle.poets_residue.specs.Spent.{IsAmong}
+use Rattle.poets_residue.specs.Once.{IsAmong}
 
 -- in a typed book the residual of a closed typed contract by a declared event is closed and typed
 abbrev pub ResidualTyped : Type 0

@@ -8,9 +8,9 @@ ghost use Rattle.poets_syntax.specs.Studied.{marks_of};
 ghost use Rattle.poets_syntax.specs.Width.{width};
 ghost use Rattle.poets_cons.specs.Notes.{noted};
 ghost use Rattle.poets_cons.specs.Table.{contract_at, contract_of_rows, Extends};
-ghost use Rattle.poets_residue.specs.Notes.{AreNotes, IsDerived, AsksInWidth};
+ghost use Rattle.poets_residue.specs.code.Notes.{AreNotes, IsDerived, AsksInWidth};
 ghost use Rattle.poets_residue.specs.Once as spec;
-ghost use Rattle.poets_residue.specs.Spent.{IsNoted, IsNotedBut, IsSpent};
+ghost use Rattle.poets_residue.specs.code.Spent.{IsNoted, IsNotedBut, IsSpent};
 ghost use Rattle.poets_residue.specs.Unfolding.{IsStudied};
 
 use crate::bodies::unfold;

@@ -6,7 +6,7 @@ use Rattle.poets_lex.specs.declared.token.Tok.{Tok}
 use Rattle.poets_lex.specs.declared.token.Token.{Token}
 use Rattle.poets_grammar.specs.Tokens.{toks}
 use Rattle.poets_session.specs.Pieces.{pieces_of, is_end}
-use Rattle.poets_session.specs.Splitting.{piece}
+use Rattle.poets_session.specs.code.Splitting.{piece}
 
 -- none of the tokens ends a statement
 pub data AreInside : List Tok → Type 0 where

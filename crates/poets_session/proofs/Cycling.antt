@@ -18,7 +18,7 @@ use Rattle.poets_call.specs.Statements.{statement_of, statements_of}
 use Rattle.poets_call.specs.Declarations.{template_in_statement, book_from}
 use Rattle.poets_call.specs.declared.statement.Statement.{Statement}
 use Rattle.poets_call.specs.Said as said
-use Rattle.poets_session.specs.Checking.{declares, IsGuardRefusal}
+use Rattle.poets_session.specs.code.Checking.{declares, IsGuardRefusal}
 use Rattle.poets_session.specs.Refusals.{Unguarded, IsTemplateAt}
 use Rattle.poets_session.specs.Causes.{IsCauseOf}
 use Rattle.poets_session.specs.declared.fault.SessionCause.TheVariants as C

@@ -25,7 +25,7 @@ use Rattle.poets_session.specs.Pieces.{Piece, pieces_of}
 use Rattle.poets_session.specs.Places.{PlaceFault, place_fault}
 use Rattle.poets_session.specs.Sessions.{Text, IsStatementPiece, AreValid, IsNoSession}
 use Rattle.poets_session.specs.Refusals.{Refusal, BadByte, LongNumber, LongName, TooDeep, NoSentence, Place, Mistyped, Unguarded, refusal_at_byte, IsUnread, IsStopped, IsTemplateAt, IsUnreadable, AreRefused, IsRefused}
-use Rattle.poets_session.specs.Checking.{declares}
+use Rattle.poets_session.specs.code.Checking.{declares}
 use Rattle.poets_session.proofs.Saying.{Standing, standing_first, standing_more, standing_end}
 use Rattle.poets_session.proofs.Cycling.{at_statement, not_declared, first_declared}
 use Rattle.poets_session.proofs.Refusing.{read_as}

@@ -11,7 +11,7 @@ use Rattle.poets_session.specs.declared.counting.Part.{Part}
 use Rattle.poets_session.specs.declared.counting.Counts.{Counts}
 use Rattle.poets_session.specs.Places as P
 use Rattle.poets_session.specs.Places.{next_part, part_after, is_misplaced, is_too_many, lacks_journal, Misplaced, TooMany, PlaceFault, place_fault, place_fault_after}
-use Rattle.poets_session.specs.Counting.{part_of, AreCounted}
+use Rattle.poets_session.specs.code.Counting.{part_of, AreCounted}
 
 -- the statements before may stand in their places and are not too many, and the rest decides
 pub record Placed (form : Form) (statements : List said.Statement) (part : Part) (counts : Counts) (before rest : List said.Statement) : Type 0 where

@@ -11,11 +11,11 @@ use Rattle.poets_call.specs.Said.{Statement}
 use Rattle.poets_call.specs.TypedStatements.{first_fault}
 use Rattle.poets_session.specs.Pieces.{pieces_of}
 use Rattle.poets_session.specs.Places.{Misplaced, TooMany, place_fault}
-use Rattle.poets_session.specs.Counting.{fault_of}
+use Rattle.poets_session.specs.code.Counting.{fault_of}
 use Rattle.poets_session.specs.Sessions.{Text, IsReadAs}
-use Rattle.poets_session.specs.Splitting.{AreSaid}
+use Rattle.poets_session.specs.code.Splitting.{AreSaid}
 use Rattle.poets_session.specs.Refusals.{Refusal, BadByte, LongNumber, LongName, Place, Mistyped, IsStopped, IsUnreadable, AreRefused, IsRefused}
-use Rattle.poets_session.specs.Checking.{IsTypeRefusal, IsGuardRefusal}
+use Rattle.poets_session.specs.code.Checking.{IsTypeRefusal, IsGuardRefusal}
 use Rattle.poets_session.specs.Causes.{IsCauseOf, IsFirstFaultOf, IsFirstFault, lex_cause, place_cause}
 use Rattle.poets_session.specs.declared.form.Form.{Form}
 use Rattle.poets_session.specs.declared.fault.SessionCause.{SessionCause}

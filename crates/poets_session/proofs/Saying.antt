@@ -10,7 +10,7 @@ use Rattle.poets_grammar.specs.Statements.{IsStatement}
 use Rattle.poets_grammar.specs.TooDeep.{IsTooDeep}
 use Rattle.poets_parse.specs.declared.fault.SyntaxFault.{SyntaxFault}
 use Rattle.poets_parse.specs.declared.fault.SyntaxFault.TheVariants as F
-use Rattle.poets_session.specs.Splitting.{piece}
+use Rattle.poets_session.specs.code.Splitting.{piece}
 use Rattle.poets_session.specs.declared.fault.SessionCause.TheVariants as C
 use Rattle.poets_lex.specs.declared.token.Token.{Token}
 use Rattle.poets_grammar.specs.Tokens.{toks}

@@ -18,7 +18,7 @@ use Rattle.poets_call.specs.declared.statement.Statement.TheVariants as S
 use Rattle.poets_call.specs.Said as said
 use Rattle.poets_session.specs.declared.form.Form.{Form}
 use Rattle.poets_session.specs.Places.{PlaceFault, is_misplaced, is_too_many, place_fault, place_fault_after}
-use Rattle.poets_session.specs.Scripts.{HasShortNumber}
+use Rattle.poets_session.specs.code.Scripts.{HasShortNumber}
 use Rattle.poets_session.specs.Sessions.{commands_ahead, scripts_of, commands_in, numbered_call}
 
 -- the lists, with a request at the end of the last

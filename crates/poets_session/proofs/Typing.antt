@@ -6,7 +6,7 @@ use Rattle.poets_types.specs.declared.cause.TypeCause.{TypeCause}
 use Rattle.poets_types.specs.declared.cause.TypeCause.TheVariants as T
 use Rattle.poets_types.specs.declared.cause.TypeFault.{TypeFault}
 use Rattle.poets_types.specs.Faults.{fault_of, IsFirstFault}
-use Rattle.poets_session.specs.Checking.{IsTypeRefusal}
+use Rattle.poets_session.specs.code.Checking.{IsTypeRefusal}
 use Rattle.poets_session.specs.Refusals.{Mistyped}
 use Rattle.poets_session.specs.Causes.{IsCauseOf, type_cause, cause_by}
 use Rattle.poets_call.specs.Plain as plain

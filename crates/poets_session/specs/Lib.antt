@@ -1,13 +1,9 @@
 pub mod Pieces
 pub mod Places
-pub mod Counting
 pub mod Sessions
 pub mod Refusals
 pub mod Texts
 pub mod Causes
 pub mod Laws
-pub mod Splitting
-pub mod Checking
-pub mod Parts
-pub mod Scripts
 pub mod Written
+pub mod code

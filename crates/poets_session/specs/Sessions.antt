@@ -85,7 +85,7 @@ abbrev pub calls_in : List (ℕ × Arc CodeCommand Global) → List Call
 calls_in journal = map (λ p. (p.0, command_of (arc_value p.1))) journal
 
 -- the session holds what the statements say
-pub record Holds (statements : List Statement) (session : Session) : Type 0 where
+pub record Represents (statements : List Statement) (session : Session) : Type 0 where
   pub book : book_of session.rules.studied.book ≡ book_from statements
   pub reports : map report_of session.rules.reports.items ≡ reports_of statements
   pub scripts : commands_in session.scripts.items ≡ scripts_of statements

@@ -7,8 +7,8 @@ ghost use Rattle.poets_report.specs.Reports.{report_of};
 ghost use Rattle.poets_call.specs.Statements.{statement_of, statements_of};
 ghost use Rattle.poets_call.specs.Declarations.{book_from, reports_of};
 ghost use Rattle.poets_call.specs.TypedStatements.{first_fault};
-ghost use Rattle.poets_session.specs.Checking.{IsTypeRefusal, IsGuardRefusal};
-ghost use Rattle.poets_session.specs.Checking as checking;
+ghost use Rattle.poets_session.specs.code.Checking.{IsTypeRefusal, IsGuardRefusal};
+ghost use Rattle.poets_session.specs.code.Checking as checking;
 ghost use Rattle.poets_session.specs.Refusals.{IsTemplateAt};
 ghost use Rattle.poets_session.specs.Causes.{IsCauseOf, type_cause};
 

@@ -4,7 +4,7 @@ ghost use Rattle.poets_call.specs.Statements.{statement_of, statements_of};
 ghost use Rattle.poets_call.specs.Said as said;
 ghost use Rattle.poets_session.specs.Places.{place_fault, is_too_many};
 ghost use Rattle.poets_session.specs.Places as places;
-ghost use Rattle.poets_session.specs.Counting.{part_of, fault_of, AreCounted};
+ghost use Rattle.poets_session.specs.code.Counting.{part_of, fault_of, AreCounted};
 
 use crate::Form;
 use poets_call::Statement;

@@ -3,7 +3,7 @@ ghost use Rattle.std.specs.Prelude.{◌≡◌, ◌≤◌, length, [], IfOk, IfEr
 ghost use Rattle.std.specs.Prelude as prelude;
 ghost use Rattle.poets_call.specs.Statements.{statements_of};
 ghost use Rattle.poets_call.specs.Said as said;
-ghost use Rattle.poets_session.specs.Sessions.{IsReadAs, IsSession, Holds};
+ghost use Rattle.poets_session.specs.Sessions.{IsReadAs, IsSession, Represents};
 ghost use Rattle.poets_session.specs.Refusals.{IsUnreadable};
 ghost use Rattle.poets_session.specs.Causes.{IsFirstFault, IsCauseOf};
 
@@ -36,7 +36,7 @@ fn read_statements(
 /// The rules are those of `docs/LANGUAGE.md`. A text has at most 16,777,216 bytes.
 pub fn read(alloc: Global, text: &[u8], form: Form) -> Result<Session, SessionFault>
     requires { length text.now ≤ 16_777_216 }
-    ensures session { IfOk result (λ s. (statements : prelude.List said.Statement) × IsSession text.now form s.names statements × Holds statements s) }
+    ensures session { IfOk result (λ s. (statements : prelude.List said.Statement) × IsSession text.now form s.names statements × Represents statements s) }
     ensures refused { IfErr result (IsFirstFault text.now form) }
 {
     let mut names = Names::new(alloc);

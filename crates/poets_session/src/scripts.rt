@@ -6,7 +6,7 @@ ghost use Rattle.poets_call.specs.Calls.{command_of};
 ghost use Rattle.poets_call.specs.Said.{Command as CommandStatement};
 ghost use Rattle.poets_call.specs.Statements.{statement_of, statements_of};
 ghost use Rattle.poets_call.specs.Said as said;
-ghost use Rattle.poets_session.specs.Scripts.{HasShortNumber};
+ghost use Rattle.poets_session.specs.code.Scripts.{HasShortNumber};
 ghost use Rattle.poets_session.specs.Sessions.{scripts_of, commands_in, journal_of, numbered_call};
 ghost use Rattle.poets_session.specs.Sessions as sessions;
 

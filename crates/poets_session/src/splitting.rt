@@ -8,7 +8,7 @@ ghost use Rattle.poets_session.specs.Sessions.{IsStatementPiece};
 ghost use Rattle.poets_session.specs.Refusals.{IsUnread, IsStopped};
 ghost use Rattle.poets_session.specs.Causes.{IsCauseOf, syntax_cause};
 ghost use Rattle.poets_session.specs.declared.fault.SessionCause.{SessionCause};
-ghost use Rattle.poets_session.specs.Splitting.{piece, AreSaid};
+ghost use Rattle.poets_session.specs.code.Splitting.{piece, AreSaid};
 
 use crate::SessionCause;
 use poets_call::Statement;

@@ -1,10 +1,10 @@
 //! Statements as a session.
 ghost use Rattle.std.specs.Prelude.{◌≡◌, IfOk, OnOk, IfErr};
 ghost use Rattle.poets_call.specs.Statements.{statements_of};
-ghost use Rattle.poets_session.specs.Sessions.{AreValid, Holds};
+ghost use Rattle.poets_session.specs.Sessions.{AreValid, Represents};
 ghost use Rattle.poets_session.specs.Refusals.{AreRefused};
 ghost use Rattle.poets_session.specs.Causes.{IsCauseOf, IsFirstFaultOf};
-ghost use Rattle.poets_session.specs.Parts.{HoldParts};
+ghost use Rattle.poets_session.specs.code.Parts.{HoldParts};
 
 use crate::checking::{check_types, study_book};
 use crate::counting::check_places;
@@ -49,7 +49,7 @@ pub fn session_of(
     form: Form,
 ) -> Result<Session, SessionFault>
     ensures valid { OnOk result (AreValid form (statements_of statements.items)) }
-    ensures holds { IfOk result (Holds (statements_of statements.items)) }
+    ensures holds { IfOk result (Represents (statements_of statements.items)) }
     ensures names { IfOk result (λ session. session.names ≡ names) }
     ensures refused { IfErr result (IsFirstFaultOf form (statements_of statements.items)) }
     ensures told { IfErr result (λ fault. fault.names ≡ names) }

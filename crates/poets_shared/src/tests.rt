@@ -3,7 +3,7 @@ ghost use Rattle.std.specs.Prelude.{◌≡◌, ◌<◌, ◌≤◌, [], length, A
 ghost use Rattle.std.specs.Arc.{arc_value};
 ghost use Rattle.poets_call.specs.Calls.{command_of};
 ghost use Rattle.poets_turn.specs.Clerks.{AreNumbered, IsClerkOf, clerk_count, number};
-ghost use Rattle.poets_shared.specs.Sharing.{IsScriptTakenByAll, IsTakenByAll, rules_of};
+ghost use Rattle.poets_shared.specs.code.Sharing.{IsScriptTakenByAll, IsTakenByAll, rules_of};
 
 use poets_call::{Command, Reply, Rules};
 use poets_clerks::{Done, NoGate, WorkedOf, work};

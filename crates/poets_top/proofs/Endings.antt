@@ -9,14 +9,14 @@ use Rattle.poets_lex.specs.Table.{Table}
 use Rattle.poets_call.specs.Plain.{Entry}
 use Rattle.poets_call.specs.Said.{Statement}
 use Rattle.poets_session.specs.Causes.{refusal_of, IsFirstFault}
-use Rattle.poets_session.specs.Sessions.{Text, IsSession, IsNoSession, Holds}
+use Rattle.poets_session.specs.Sessions.{Text, IsSession, IsNoSession, Represents}
 use Rattle.poets_session.specs.declared.form.Form.{Form}
 use Rattle.poets_session.specs.declared.session.Session.{Session}
 use Rattle.poets_session.specs.Texts.{refusal_text}
 use Rattle.poets_session.specs.declared.fault.SessionFault.{SessionFault}
 use Rattle.poets_session.proofs.LawsRefused.{session_unrefused}
 use Rattle.poets_print.specs.Lines.{history_text}
-use Rattle.poets_words.specs.Words.{Asks}
+use Rattle.poets_words.specs.Words.{AskFor}
 use Rattle.poets_words.specs.declared.mode.Mode.{Mode}
 use Rattle.poets_words.specs.declared.mode.Mode.TheVariants as M
 use Rattle.poets_words.proofs.Forms.{asked_once}
@@ -24,7 +24,7 @@ use Rattle.poets_top.specs.Demonstrating.{IsDemonstration, HasDemonstrated}
 use Rattle.poets_top.specs.Replaying.{HasReplayed}
 use Rattle.poets_top.specs.Running.{HasRun}
 use Rattle.poets_top.specs.Runs.{IsMade, IsAnswerTo, IsResult, IsEnding, Ends, Deserves, DeservesRun, IsStatusOrMemory, NoFaultRose, longest, block}
-use Rattle.poets_top.specs.Sessions.{IsSessionOf}
+use Rattle.poets_top.specs.code.Sessions.{IsSessionOf}
 use Rattle.poets_top.specs.Tasks.{form_of}
 use Rattle.poets_top.specs.Writing.{Stream, HasFailed, IsWritten}
 use Rattle.poets_words.specs.declared.mode.Task.{Task}
@@ -119,7 +119,7 @@ module _ (task : Task) (source source' sink sink' : Stream) where
 
 -- a session that was read is one of the task's form
 pub IsSessionOf-read : (task asked : Task) (text : Text) (form : Form) (statements : List Statement) (session : Session) → asked ≡ task → form ≡ form_of asked →
-    IsSession text form session.names statements → Holds statements session → IsSessionOf (form_of task) text statements session
+    IsSession text form session.names statements → Represents statements session → IsSessionOf (form_of task) text statements session
 IsSessionOf-read task asked text form statements session same formed read holds = record {
   is = subst (λ f. IsSession text f session.names statements) (formed ∙ ap form_of same) read;
   holds = holds;
@@ -261,7 +261,7 @@ module _ (sales : ℕ) (sink sink' : Stream) where
 
 module _ (source source' sink sink' : Stream) (status : ℕ) (h : List Entry) where
   -- a run for one thing is one for the thing that was asked for
-  pub Ends-asked : (words : List (List ℕ)) (mode asked : Mode) → Asks words mode → Asks words asked → Ends source source' sink sink' status h mode → Ends source source' sink sink' status h asked
+  pub Ends-asked : (words : List (List ℕ)) (mode asked : Mode) → AskFor words mode → AskFor words asked → Ends source source' sink sink' status h mode → Ends source source' sink sink' status h asked
   Ends-asked words mode asked here there e = subst (Ends source source' sink sink' status h) (asked_once words mode asked here there) e
 
   -- words that ask for something do not end with the status of words that ask for nothing
@@ -315,5 +315,5 @@ module _ (source source' sink sink' : Stream) (status : ℕ) (h : List Entry) wh
   Ends-nothing (M.Demo sales) unread unwritten three empty = Ends.OfDemo unread (IsWritten-nothing (IsDemonstration sales) sink sink' status h unwritten three empty)
 
 -- what was found in words that ask for it
-pub asked_of : (words : List (List ℕ)) (found : Option Mode) (m mode : Mode) → found ≡ Some m → m ≡ mode → IfSome found (Asks words) → Asks words mode
-asked_of words found m mode is same asks = subst (Asks words) same (subst (λ (f : Option Mode). IfSome f (Asks words)) is asks)
+pub asked_of : (words : List (List ℕ)) (found : Option Mode) (m mode : Mode) → found ≡ Some m → m ≡ mode → IfSome found (AskFor words) → AskFor words mode
+asked_of words found m mode is same asks = subst (AskFor words) same (subst (λ (f : Option Mode). IfSome f (AskFor words)) is asks)

@@ -29,7 +29,7 @@ use Rattle.poets_clerks.specs.Scripts.{calls_of as calls_of_script}
 use Rattle.poets_clerks.proofs.Scripted.{scripts_hold, scripts_mapped}
 use Rattle.poets_engine.specs.State.{commands_of, plain_calls}
 use Rattle.poets_session.specs.Sessions.{commands_in}
-use Rattle.poets_top.specs.Scripts.{AreScriptsTaken, entries_of, entry_with}
+use Rattle.poets_top.specs.code.Noted.{AreScriptsTaken, entries_of, entry_with}
 use Rattle.poets_top.proofs.Noting.{IsLegal-more}
 use Rattle.poets_top.proofs.Owning.{right_history}
 

@@ -16,7 +16,7 @@ use Rattle.poets_call.proofs.Histories.{calls_last, one_history}
 use Rattle.poets_call.proofs.OneFrames.{one_frame}
 use Rattle.poets_engine.specs.declared.kept.Kept.{Kept}
 use Rattle.poets_engine.specs.State.{State, plain_calls, OwesNext, Fulfils}
-use Rattle.poets_top.specs.Scripts.{AreNoted}
+use Rattle.poets_top.specs.code.Noted.{AreNoted}
 
 -- a legal history with one more entry, whose reply answers after its calls
 pub IsLegal-more : (book : Book) (reports : List Report) (h : List plain.Entry) (entry : plain.Entry) → IsLegal book reports h →

@@ -20,13 +20,14 @@ use Rattle.poets_call.specs.Histories.{IsLegal, IsRightHistory}
 use Rattle.poets_call.specs.Rules as R
 use Rattle.poets_call.specs.Said.{Statement}
 use Rattle.poets_call.proofs.Histories.{own_calls_append}
-use Rattle.poets_session.specs.Sessions.{Holds, scripts_of, commands_in, journal_of, calls_in}
+use Rattle.poets_session.specs.Sessions.{Represents, scripts_of, commands_in, journal_of, calls_in}
 use Rattle.poets_session.specs.declared.session.Session.{Session}
 use Rattle.poets_machine.specs.Histories.{own_calls as machine_calls}
 use Rattle.poets_clerks.specs.Histories.{HasScripts}
 use mathlib.Core.Logic.{dite}
 use native.Mathlib.Decide.{ℕ_discrete}
-use Rattle.poets_top.specs.Scripts.{AreTaken, under_clerk}
+use Rattle.poets_top.specs.Scripts.{under_clerk}
+use Rattle.poets_top.specs.code.Noted.{AreTaken}
 use Rattle.poets_top.specs.Running.{IsHistoryOf}
 use Rattle.poets_top.specs.Replaying.{IsReplayOf}
 use Rattle.poets_top.proofs.Taking.{All-of_map}
@@ -85,7 +86,7 @@ module _ (rules : Rules) (statements : List Statement) (h : List Entry) (book : 
       }
 
 -- the same of a session that holds what the statements say
-pub IsHistoryOf-read : (statements : List Statement) (session : Session) (h : List Entry) → Holds statements session → IsRightHistory (R.book_of_rules session.rules) (R.reports_of_rules session.rules) h →
+pub IsHistoryOf-read : (statements : List Statement) (session : Session) (h : List Entry) → Represents statements session → IsRightHistory (R.book_of_rules session.rules) (R.reports_of_rules session.rules) h →
     HasScripts (commands_in session.scripts.items) (calls_of h) → IsHistoryOf statements h
 IsHistoryOf-read statements session h holds right made =
     IsHistoryOf-made session.rules statements h holds.book holds.reports right (subst (λ ss. HasScripts ss (calls_of h)) holds.scripts made)

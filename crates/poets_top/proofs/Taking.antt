@@ -22,12 +22,12 @@ use Rattle.poets_call.specs.Plain as plain
 use Rattle.poets_lex.specs.Table.{Table}
 use Rattle.poets_types.proofs.CheckedBooks.{or_else-none}
 use Rattle.poets_value.specs.Listed.{Listed}
-use Rattle.poets_session.specs.Sessions.{Holds, IsSession, Text, calls_in, commands_ahead, commands_in, scripts_of, journal_of}
+use Rattle.poets_session.specs.Sessions.{Represents, IsSession, Text, calls_in, commands_ahead, commands_in, scripts_of, journal_of}
 use Rattle.poets_session.specs.declared.form.Form.TheVariants as F
 use Rattle.poets_session.specs.declared.session.Session.{Session}
 use Rattle.poets_session.proofs.LawsFitting.{read_written, scripts_written}
 use Rattle.poets_session.specs.Written.{IsWritten, IsWrittenCommand}
-use Rattle.poets_top.specs.Scripts.{AreTaken, AreScriptsTaken}
+use Rattle.poets_top.specs.code.Noted.{AreTaken, AreScriptsTaken}
 
 -- ---- typed commands
 
@@ -133,11 +133,11 @@ whole_rules rules names statements book written = subst IsWholeBook (sym book) (
 -- ---- a session of clerks
 
 -- its book is whole
-pub session_whole : (text : Text) (statements : List Statement) (session : Session) → IsSession text F.Clerks session.names statements → Holds statements session → IsWholeBook (R.book_of_rules session.rules)
+pub session_whole : (text : Text) (statements : List Statement) (session : Session) → IsSession text F.Clerks session.names statements → Represents statements session → IsWholeBook (R.book_of_rules session.rules)
 session_whole text statements session is holds = whole_rules session.rules session.names statements holds.book (read_written text session.names statements is.read)
 
 -- an engine takes its scripts
-pub session_taken : (text : Text) (statements : List Statement) (session : Session) → IsSession text F.Clerks session.names statements → Holds statements session → AreScriptsTaken session.rules session.scripts.items
+pub session_taken : (text : Text) (statements : List Statement) (session : Session) → IsSession text F.Clerks session.names statements → Represents statements session → AreScriptsTaken session.rules session.scripts.items
 session_taken text statements session is holds =
     AreScriptsTaken-code session.rules statements session.scripts.items holds.book holds.reports holds.scripts
     (scripts_taken session.names statements is.valid.typed (scripts_written session.names statements (read_written text session.names statements is.read)))

@@ -5,6 +5,6 @@ pub mod Replaying
 pub mod Demonstrating
 pub mod Writing
 pub mod Runs
-pub mod Sessions
 pub mod Scripts
 pub mod Laws
+pub mod code

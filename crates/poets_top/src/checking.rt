@@ -4,10 +4,10 @@ ghost use Rattle.std.specs.Prelude as prelude;
 ghost use Rattle.poets_call.specs.Calls.{history_of};
 ghost use Rattle.poets_call.specs.Said.{Statement};
 ghost use Rattle.poets_session.specs.declared.form.Form.TheVariants as F;
-ghost use Rattle.poets_session.specs.Sessions.{Holds, Text};
+ghost use Rattle.poets_session.specs.Sessions.{Represents, Text};
 ghost use Rattle.poets_top.specs.Checking as checking;
 ghost use Rattle.poets_top.specs.Runs.{IsAnswerTo};
-ghost use Rattle.poets_top.specs.Sessions.{IsSessionOf};
+ghost use Rattle.poets_top.specs.code.Sessions.{IsSessionOf};
 ghost use Rattle.poets_top.specs.Writing.{IsWritten, stream};
 ghost use Rattle.poets_words.specs.declared.mode.Task.TheVariants as T;
 
@@ -27,7 +27,7 @@ fn book_line(alloc: Global, templates: usize, reports: usize) -> Result<String, 
 
 // The line of a book that was checked.
 fn book_text(alloc: Global, session: &Session) -> Result<String, Memory>
-    ensures { (statements : prelude.List Statement) → Holds statements session.now → IfOk result (λ line. string_bytes line ≡ checking.book_text statements) }
+    ensures { (statements : prelude.List Statement) → Represents statements session.now → IfOk result (λ line. string_bytes line ≡ checking.book_text statements) }
 {
     let templates = session.rules.studied.book().templates.len();
     let reports = session.rules.reports.len();

@@ -10,7 +10,7 @@ ghost use Rattle.poets_top.specs.Replaying.{HasReplayed};
 ghost use Rattle.poets_top.specs.Running.{HasRun};
 ghost use Rattle.poets_top.specs.Runs.{DeservesRun, Ends, IsAnswerTo, IsEnding, IsStatusOrMemory, NoFaultRose, longest};
 ghost use Rattle.poets_top.specs.Tasks as spec;
-ghost use Rattle.poets_words.specs.Words.{Asks, IsCommandForm};
+ghost use Rattle.poets_words.specs.Words.{AskFor, IsCommandForm};
 ghost use Rattle.poets_top.specs.Writing.{IsWritten, stream};
 ghost use Rattle.poets_words.specs.declared.mode.Mode.{Mode as SMode};
 ghost use Rattle.poets_words.specs.declared.mode.Mode.TheVariants as M;
@@ -56,16 +56,16 @@ pub fn run<S: Source, K: Sink, G: Gate + Sync, R: Threads + Wait + Sync>(
     ensures usage { result.status ≡ 2 → ¬ (IsCommandForm (map string_bytes words.now)) }
     ensures no_form { ¬ (IsCommandForm (map string_bytes words.now)) → IsStatusOrMemory 2 result.status
         × (source.new ≡ source.old) × (sink.new ≡ sink.old) × (result.history.items ≡ []) }
-    ensures ends { (mode : SMode) → Asks (map string_bytes words.now) mode →
+    ensures ends { (mode : SMode) → AskFor (map string_bytes words.now) mode →
         Ends (stream (S.left source.old) (S.faults source.old)) (stream (S.left source.new) (S.faults source.new))
         (stream (K.held sink.old) (K.faults sink.old)) (stream (K.held sink.new) (K.faults sink.new)) result.status (history_of result.history.items) mode }
-    ensures has_run { Asks (map string_bytes words.now) (M.Read T.Run) → result.status ≡ 0 →
+    ensures has_run { AskFor (map string_bytes words.now) (M.Read T.Run) → result.status ≡ 0 →
         HasRun (S.left source.old) (S.left source.new) (K.held sink.old) (K.held sink.new) (history_of result.history.items) }
-    ensures has_replayed { Asks (map string_bytes words.now) (M.Read T.Replay) → result.status ≡ 0 →
+    ensures has_replayed { AskFor (map string_bytes words.now) (M.Read T.Replay) → result.status ≡ 0 →
         HasReplayed (S.left source.old) (S.left source.new) (K.held sink.old) (K.held sink.new) (history_of result.history.items) }
-    ensures has_demonstrated { (sales : ℕ) → Asks (map string_bytes words.now) (M.Demo sales) →
+    ensures has_demonstrated { (sales : ℕ) → AskFor (map string_bytes words.now) (M.Demo sales) →
         (source.new ≡ source.old) × (result.status ≡ 0 → HasDemonstrated sales (K.held sink.old) (K.held sink.new) (history_of result.history.items)) }
-    ensures status { (mode : SMode) (wanted : ℕ) → Asks (map string_bytes words.now) mode → DeservesRun (S.left source.old) mode wanted →
+    ensures status { (mode : SMode) (wanted : ℕ) → AskFor (map string_bytes words.now) mode → DeservesRun (S.left source.old) mode wanted →
         NoFaultRose (S.faults source.old) (S.faults source.new) (K.faults sink.old) (K.faults sink.new) → IsStatusOrMemory wanted result.status }
     ensures later { (S.faults source.old ≤ S.faults source.new) × (K.faults sink.old ≤ K.faults sink.new) }
 {

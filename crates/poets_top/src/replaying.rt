@@ -5,7 +5,7 @@ ghost use Rattle.poets_call.specs.Said.{Statement};
 ghost use Rattle.poets_session.specs.declared.form.Form.TheVariants as F;
 ghost use Rattle.poets_session.specs.Sessions.{Text};
 ghost use Rattle.poets_top.specs.Runs.{IsAnswerTo};
-ghost use Rattle.poets_top.specs.Sessions.{IsSessionOf};
+ghost use Rattle.poets_top.specs.code.Sessions.{IsSessionOf};
 ghost use Rattle.poets_top.specs.Writing.{IsWritten, stream};
 ghost use Rattle.poets_words.specs.declared.mode.Task.TheVariants as T;
 

@@ -8,8 +8,8 @@ ghost use Rattle.poets_call.specs.Rules.{book_of_rules, reports_of_rules};
 ghost use Rattle.poets_engine.specs.State.{commands_of};
 ghost use Rattle.poets_session.specs.Sessions.{commands_in};
 ghost use Rattle.poets_syntax.specs.Whole.{IsWholeBook};
-ghost use Rattle.poets_top.specs.Scripts.{AreScriptsTaken};
-ghost use Rattle.poets_top.specs.Scripts as spec;
+ghost use Rattle.poets_top.specs.code.Noted.{AreScriptsTaken};
+ghost use Rattle.poets_top.specs.code.Noted as spec;
 
 use poets_call::{Command, Entry, Reply, Rules};
 use poets_clerks::{Gate, make_history};

@@ -7,7 +7,7 @@ ghost use Rattle.poets_call.specs.Histories.{IsRightHistory};
 ghost use Rattle.poets_call.specs.Rules.{book_of_rules, reports_of_rules};
 ghost use Rattle.poets_call.specs.Taken.{IsTaken};
 ghost use Rattle.poets_session.specs.Sessions.{calls_in};
-ghost use Rattle.poets_top.specs.Scripts.{AreNoted, AreTaken};
+ghost use Rattle.poets_top.specs.code.Noted.{AreNoted, AreTaken};
 
 use poets_call::{Command, Entry, Rules};
 use poets_engine::Engine;

@@ -5,7 +5,7 @@ use Rattle.std.specs.Prelude.{ltb}
 use mathlib.Core.List.{IsPrefix}
 use Rattle.poets_machine.specs.Histories.{own_calls}
 use Rattle.poets_machine.proofs.Histories.{own_calls-append}
-use Rattle.poets_turn.specs.Turnstile.{longer}
+use Rattle.poets_turn.specs.code.Turnstile.{longer}
 
 module _ {A : Type 0} where
   pub prefix_nil : (xs : List A) → IsPrefix [] xs

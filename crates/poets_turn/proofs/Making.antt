@@ -9,8 +9,8 @@ use Rattle.poets_machine.proofs.Histories.{own_added}
 use Rattle.poets_turn.specs.declared.view.View.{View}
 use Rattle.poets_turn.specs.declared.view.Setting.{Setting}
 use Rattle.poets_turn.specs.declared.view.Stage.TheVariants.{Idle}
-use Rattle.poets_turn.specs.Turnstile.{OnlyClerks}
-use Rattle.poets_turn.specs.Steps.{Served, Holds}
+use Rattle.poets_turn.specs.code.Turnstile.{OnlyClerks}
+use Rattle.poets_turn.specs.code.Steps.{Served, IsServing}
 use Rattle.poets_turn.specs.Clerks.{IsCall}
 
 module _ {A E : Type 0} where
@@ -25,7 +25,7 @@ module _ {A E : Type 0} where
 module _ {M C F K : Type 0} (history : M → List (ℕ × C)) (frame : M → F) where
   -- the seat with the view v held the machine x, which came back as y with one call more
   pub called : (owes : List (ℕ × C) → ℕ → C → K → Type 0) (v w : View C F) (t : ℕ) (x y : M) (m : Me (Option M) (View C F)) (k : ℕ) (c : C) (kept : K) (u : Setting F)
-      → Holds history frame v t x None m → Served history frame v t x → v.setting ≡ Some u → v.number ≡ k → 0 < k
+      → IsServing history frame v t x None m → Served history frame v t x → v.setting ≡ Some u → v.number ≡ k → 0 < k
       → history y ≡ history x ++ (k, c) ∷ [] → owes (history x) k c kept → t + 1 < 2 ^ 64 → w ≡ record m.0 { stage = Idle; front = history y; calls = m.0.calls ++ c ∷ [] }
       → IsCall owes u.clerks k c kept v.front w.front v.calls w.calls
   called owes v w t x y m k c kept u holds h has is low adds owed fits now =

@@ -1,3 +1,2 @@
 pub mod Clerks
-pub mod Steps
-pub mod Turnstile
+pub mod code

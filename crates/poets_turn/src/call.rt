@@ -1,7 +1,7 @@
 //! One call: a ticket is drawn and waited for, the machine takes the call, and the turn is handed on.
 ghost use Rattle.std.specs.Prelude.{◌≡◌, ℕ, ◌+◌, ◌^◌, ◌<◌, List, [], ◌∷◌, ◌++◌, None, Some, MatchResult};
 ghost use Rattle.std.specs.Arc.{arc_value};
-ghost use Rattle.poets_turn.specs.Steps.{Served, Holds};
+ghost use Rattle.poets_turn.specs.code.Steps.{Served, IsServing};
 ghost use Rattle.poets_turn.specs.Clerks.{IsAt, IsCall, HasCalled, front, calls, number, clerk_count, turn_frame, IsClerkOf};
 ghost use Rattle.poets_turn.specs.declared.view.Stage.TheVariants.{Idle, Waiting, Serving};
 
@@ -113,7 +113,7 @@ impl<M: Machine> Turn<M> {
         requires table { seat.old.table_id ≡ self.now.table.shared.table_id }
         requires waiting { (seat.old.me.0.stage ≡ Waiting ticket) × (seat.old.me.1 ≡ []) }
         ensures same { (seat.new.table_id ≡ seat.old.table_id) × (seat.new.id ≡ seat.old.id) }
-        ensures holds { (machine : M) × Holds M.history M.frame seat.old.me.0 ticket machine (Some machine) seat.new.me × Served M.history M.frame seat.old.me.0 ticket machine }
+        ensures holds { (machine : M) × IsServing M.history M.frame seat.old.me.0 ticket machine (Some machine) seat.new.me × Served M.history M.frame seat.old.me.0 ticket machine }
     {
         let mut patience = Patience::new();
         for _ in rt.forever() {
@@ -131,7 +131,7 @@ impl<M: Machine> Turn<M> {
         requires table { seat.old.table_id ≡ self.now.table.shared.table_id }
         requires idle { (seat.old.me.0.stage ≡ Idle) × (seat.old.me.1 ≡ []) × (0 < seat.old.me.0.number) }
         ensures same { (seat.new.table_id ≡ seat.old.table_id) × (seat.new.id ≡ seat.old.id) }
-        ensures holds { Holds M.history M.frame seat.old.me.0 result.0 result.1 None seat.new.me }
+        ensures holds { IsServing M.history M.frame seat.old.me.0 result.0 result.1 None seat.new.me }
         ensures served { Served M.history M.frame seat.old.me.0 result.0 result.1 }
         ensures fits { result.0 + 1 < 2 ^ 64 }
     {

@@ -2,7 +2,7 @@
 ghost use Rattle.std.specs.Prelude.{◌≡◌, ℕ, ◌<◌, [], length, All};
 ghost use Rattle.std.specs.Prelude as prelude;
 ghost use Rattle.poets_turn.specs.Clerks.{AreAll, KnowsClerk, IsClerkIn, front, calls, number, clerk_count, turn_frame, IsClerkOf};
-ghost use Rattle.poets_turn.specs.Turnstile.{OnlyClerks};
+ghost use Rattle.poets_turn.specs.code.Turnstile.{OnlyClerks};
 ghost use Rattle.poets_turn.specs.declared.view.Stage.TheVariants.{Idle};
 
 use crate::rule::{Settle, TakeClerk};

@@ -1,5 +1,5 @@
 //! The rule of the turnstile's table, what each step on it tells, and how seats are cut in two and joined.
-ghost use Rattle.poets_turn.specs.Steps.{AfterDraw, AfterLook, AfterEntry, AfterPass, AfterSettling, note_view, one_more, next_clerk, with_note, with_clerk, empty_view};
+ghost use Rattle.poets_turn.specs.code.Steps.{AfterDraw, AfterLook, AfterEntry, AfterPass, AfterSettling, note_view, one_more, next_clerk, with_note, with_clerk, empty_view};
 
 use crate::view::View;
 use atomic_table::{Join, Play, Split, TableRule};
@@ -16,8 +16,8 @@ pub struct Start<M> {
 pub struct Turnstile;
 
 impl<M: Machine> TableRule<Option<M>, View<M::Call, M::Frame>, Start<M>> for Turnstile {
-    ghost use Rattle.poets_turn.specs.Turnstile.{Rule};
-    ghost use Rattle.poets_turn.specs.Steps.{first_view};
+    ghost use Rattle.poets_turn.specs.code.Turnstile.{Rule};
+    ghost use Rattle.poets_turn.specs.code.Steps.{first_view};
 
     ghost holds = { λ start. Rule M.history M.frame (M.frame start.machine.value) start.clerks };
 

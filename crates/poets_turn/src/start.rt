@@ -1,6 +1,6 @@
 //! A turnstile is made, with its clerks.
 ghost use Rattle.std.specs.Prelude.{◌≡◌, ◌+◌, ◌<◌, ◌≤◌, [], length, All, IfOk, IfErr};
-ghost use Rattle.poets_turn.specs.Steps.{first_view};
+ghost use Rattle.poets_turn.specs.code.Steps.{first_view};
 ghost use Rattle.poets_turn.specs.Clerks.{number, AreNumbered, clerk_count, turn_frame, IsFresh};
 
 use crate::bells::Bells;

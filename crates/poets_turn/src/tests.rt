@@ -1,7 +1,7 @@
 //! Clerks at a turnstile over an adder.
 ghost use Rattle.std.specs.Prelude.{◌≡◌, ◌<◌, ◌≤◌, [], length, All, IfOk};
 ghost use Rattle.std.specs.Thread.{IsSync};
-ghost use Rattle.poets_machine.specs.Adders.{most_of};
+ghost use Rattle.poets_machine.specs.code.Adders.{most_of};
 ghost use Rattle.poets_turn.specs.Clerks.{AreNumbered, IsClerkOf, clerk_count, number, turn_frame};
 
 use crate::{Clerk, Turn};

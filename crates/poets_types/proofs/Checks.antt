@@ -5,7 +5,7 @@ use Rattle.poets_syntax.specs.Plain.{Twice, Unknown, WrongCount, WrongType}
 use Rattle.poets_syntax.specs.TypeOf.{Verdict, Passes, Fails, ◌>>=◌}
 use Rattle.poets_types.specs.declared.cause.TypeCause.{TypeCause}
 use Rattle.poets_types.specs.Faults.{IsFaultOf}
-use Rattle.poets_types.specs.Answers.{answer_of, IsAnswerOf}
+use Rattle.poets_types.specs.code.Answers.{answer_of, IsAnswerOf}
 
 pub passes_from_ok : {A : Type 0} (r : Verdict A) (a : A) → answer_of r ≡ Ok a → r ≡ Passes a
 passes_from_ok (Passes b) a e = cc

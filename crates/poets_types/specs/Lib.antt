@@ -1,4 +1,2 @@
 pub mod Faults
-pub mod Answers
-pub mod Indices
-pub mod Scopes
+pub mod code

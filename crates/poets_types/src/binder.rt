@@ -2,8 +2,8 @@
 ghost use Rattle.std.specs.Prelude.{◌≡◌, ◌||◌, []};
 ghost use Rattle.poets_syntax.specs.Typed.{in_use, is_among, scope_of, types_bound};
 ghost use Rattle.poets_syntax.specs.Typed as typed;
-ghost use Rattle.poets_types.specs.Answers.{answer_of};
-ghost use Rattle.poets_types.specs.Indices.{book_in, reports_in};
+ghost use Rattle.poets_types.specs.code.Answers.{answer_of};
+ghost use Rattle.poets_types.specs.code.Indices.{book_in, reports_in};
 
 use crate::TypeCause;
 use crate::index::Index;

@@ -12,8 +12,8 @@ ghost use Rattle.poets_call.specs.Declarations.{agents_and_kinds, template_in_st
 ghost use Rattle.poets_call.specs.TypedStatements.{report_names, mistyped_from, first_fault};
 ghost use Rattle.poets_call.specs.TypedStatements as typed_statements;
 ghost use Rattle.poets_types.specs.Faults.{IsFirstFault};
-ghost use Rattle.poets_types.specs.Answers.{IsAnswerOf};
-ghost use Rattle.poets_types.specs.Indices.{book_in};
+ghost use Rattle.poets_types.specs.code.Answers.{IsAnswerOf};
+ghost use Rattle.poets_types.specs.code.Indices.{book_in};
 
 use crate::command::check_command;
 use crate::declared::check_names;

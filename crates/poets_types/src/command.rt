@@ -12,8 +12,8 @@ ghost use Rattle.poets_call.specs.Replies.{report_in};
 ghost use Rattle.poets_call.specs.TypedStatements.{report_names};
 ghost use Rattle.poets_call.specs.TypedStatements as typed_statements;
 ghost use Rattle.poets_types.specs.Faults.{IsFaultOf};
-ghost use Rattle.poets_types.specs.Answers.{answer_of};
-ghost use Rattle.poets_types.specs.Indices.{book_in};
+ghost use Rattle.poets_types.specs.code.Answers.{answer_of};
+ghost use Rattle.poets_types.specs.code.Indices.{book_in};
 
 use crate::TypeCause;
 use crate::contract::{check_arguments, check_contract};

@@ -4,9 +4,9 @@ ghost use Rattle.poets_expr.specs.Env.{declared_of};
 ghost use Rattle.poets_expr.specs.Expression.{expression_of};
 ghost use Rattle.poets_syntax.specs.Contract.{contract_of};
 ghost use Rattle.poets_syntax.specs.Typed as typed;
-ghost use Rattle.poets_types.specs.Answers.{answer_of};
-ghost use Rattle.poets_types.specs.Indices.{book_in, reports_in};
-ghost use Rattle.poets_types.specs.Scopes.{names_in};
+ghost use Rattle.poets_types.specs.code.Answers.{answer_of};
+ghost use Rattle.poets_types.specs.code.Indices.{book_in, reports_in};
+ghost use Rattle.poets_types.specs.code.Scopes.{names_in};
 
 use crate::TypeCause;
 use crate::binder::{check_new, types_bound};

@@ -8,7 +8,7 @@ ghost use Rattle.poets_call.specs.Statements.{statement_of, statements_of};
 ghost use Rattle.poets_call.specs.Declarations as declarations;
 ghost use Rattle.poets_call.specs.TypedStatements.{twice_from};
 ghost use Rattle.poets_types.specs.Faults.{IsFirstFault};
-ghost use Rattle.poets_types.specs.Answers.{IsAnswerOf};
+ghost use Rattle.poets_types.specs.code.Answers.{IsAnswerOf};
 
 use crate::table::add;
 use crate::{TypeCause, TypeFault};

@@ -52,7 +52,7 @@ impl<'a> Index<'a> {
     ghost use Rattle.std.specs.Prelude.{map, option_map, is_some};
     ghost use Rattle.poets_syntax.specs.Book.{template_of, template_in};
     ghost use Rattle.poets_syntax.specs.Typed.{in_use, is_among};
-    ghost use Rattle.poets_types.specs.Indices.{book_in, reports_in};
+    ghost use Rattle.poets_types.specs.code.Indices.{book_in, reports_in};
 
     // The index of a book and its reports.
     pub(crate) fn new(

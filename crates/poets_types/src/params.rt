@@ -27,7 +27,7 @@ impl<'a> Params<'a> {
     ghost use Rattle.poets_syntax.specs.TypeOf.{Passes};
     ghost use Rattle.poets_syntax.specs.Typed.{in_use, check_new};
     ghost use Rattle.poets_types.specs.Faults.{IsFaultOf};
-    ghost use Rattle.poets_types.specs.Indices.{book_in, reports_in};
+    ghost use Rattle.poets_types.specs.code.Indices.{book_in, reports_in};
 
     // The parameters, if none of their names is in use, and none stands twice.
     pub(crate) fn new(

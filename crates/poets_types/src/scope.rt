@@ -3,7 +3,7 @@ ghost use Rattle.std.specs.Prelude.{◌≡◌, None};
 ghost use Rattle.poets_expr.specs.Env.{declared_of};
 ghost use Rattle.poets_syntax.specs.TypeOf.{type_in};
 ghost use Rattle.poets_syntax.specs.Typed.{scope_of};
-ghost use Rattle.poets_types.specs.Scopes.{names_in};
+ghost use Rattle.poets_types.specs.code.Scopes.{names_in};
 
 use crate::params::Params;
 use poets_expr::Decls;

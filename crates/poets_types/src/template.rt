@@ -6,9 +6,9 @@ ghost use Rattle.poets_syntax.specs.Book.{template_of};
 ghost use Rattle.poets_syntax.specs.Typed as typed;
 ghost use Rattle.poets_report.specs.Reports.{report_of};
 ghost use Rattle.poets_call.specs.TypedStatements as typed_statements;
-ghost use Rattle.poets_types.specs.Answers.{answer_of, IsAnswerOf};
-ghost use Rattle.poets_types.specs.Indices.{book_in, reports_in};
-ghost use Rattle.poets_types.specs.Scopes.{names_in};
+ghost use Rattle.poets_types.specs.code.Answers.{answer_of, IsAnswerOf};
+ghost use Rattle.poets_types.specs.code.Indices.{book_in, reports_in};
+ghost use Rattle.poets_types.specs.code.Scopes.{names_in};
 
 use crate::TypeCause;
 use crate::binder::{check_new, types_bound};

@@ -138,7 +138,7 @@ pub record IsTypedEvent (declared : Declared) (e : Event) : Type 0 where
   pub kind : declared e.what.kind ≡ Some T.Kind
 
 -- a report with the name takes these arguments
-pub record Asks (book : Book) (reports : List Report) (x : Name) (args : List Expression) : Type 0 where
+pub record IsTypedCall (book : Book) (reports : List Report) (x : Name) (args : List Expression) : Type 0 where
   pub query : Report
   pub found : report_in reports x ≡ Some query
   pub fit : Fit book.declared [] query.params args
@@ -149,7 +149,7 @@ pub data IsTypedCommand (book : Book) (reports : List Report) : Command → Type
   Delivers : {x : Name} {e : Event} → IsTypedEvent book.declared e → IsTypedCommand book reports (Transmission x e)
   Ends : {x : Name} → IsTypedCommand book reports (End x)
   Looks : {x : Name} → IsTypedCommand book reports (Show x)
-  Tallies : {x : Name} {args : List Expression} → Asks book reports x args → IsTypedCommand book reports (Tally x args)
-  Lists : {x : Name} {args : List Expression} {over : List Name} → Asks book reports x args → IsTypedCommand book reports (Portfolio x args over)
-  Watches : {x : Name} {args : List Expression} → Asks book reports x args → IsTypedCommand book reports (Watch x args)
+  Tallies : {x : Name} {args : List Expression} → IsTypedCall book reports x args → IsTypedCommand book reports (Tally x args)
+  Lists : {x : Name} {args : List Expression} {over : List Name} → IsTypedCall book reports x args → IsTypedCommand book reports (Portfolio x args over)
+  Watches : {x : Name} {args : List Expression} → IsTypedCall book reports x args → IsTypedCommand book reports (Watch x args)
   Reads : {n : ℕ} → IsTypedCommand book reports (Read n)

@@ -6,8 +6,8 @@ use Rattle.std.specs.Str.Parse.{starts_with_minus}
 use Rattle.std.proofs.lemmas.Fmt.{decimal_injective, first_decimal}
 use Rattle.std.proofs.lemmas.Bool.{or_from}
 use Rattle.std.proofs.lemmas.Bool.Decides.{nat_tests}
-use Rattle.poets_words.specs.Words.{Asks, IsCommandForm, IsMode, words_of}
-use Rattle.poets_words.specs.Reading.{IsPlain}
+use Rattle.poets_words.specs.Words.{AskFor, IsCommandForm, IsMode, words_of}
+use Rattle.poets_words.specs.code.Reading.{IsPlain}
 use Rattle.poets_words.specs.declared.mode.Mode.{Mode}
 use Rattle.poets_words.specs.declared.mode.Mode.TheVariants as M
 use Rattle.poets_words.specs.declared.mode.Task.TheVariants as T
@@ -28,7 +28,7 @@ pub plain_form : (words : List (List ℕ)) → IsCommandForm words → IsPlain w
 plain_form words form = rw form.1.0 (plain_words form.0 form.1.1)
 
 -- words ask for one thing
-pub asked_once : (words : List (List ℕ)) (a b : Mode) → Asks words a → Asks words b → a ≡ b
+pub asked_once : (words : List (List ℕ)) (a b : Mode) → AskFor words a → AskFor words b → a ≡ b
 asked_once words (M.Demo m) (M.Demo n) h k = ap M.Demo (decimal_injective m n (omega (arith, h.1)) (omega (arith, k.1)) (let e : words_of (M.Demo m) ≡ words_of (M.Demo n) = sym h.0 ∙ k.0 in cc))
 asked_once words (M.Read T.Check) (M.Read T.Check) h k = refl
 asked_once words (M.Read T.Run) (M.Read T.Run) h k = refl

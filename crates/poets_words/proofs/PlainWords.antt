@@ -14,7 +14,7 @@ use Rattle.clap.specs.Matches.{first_value}
 use Rattle.clap.specs.Facts.{Entry}
 use Rattle.clap.specs.declared.builder.ArgAction.TheVariants.{Set}
 use Rattle.clap.specs.declared.parser.matches.Found.{Found}
-use Rattle.poets_words.specs.Reading.{FindsPlainWords, IsPlain, words_found}
+use Rattle.poets_words.specs.code.Reading.{FindsPlainWords, IsPlain, words_found}
 
 -- ---- the command
 

@@ -23,9 +23,9 @@ IsMode (M.Read task) = Unit {0}
 IsMode (M.Demo sales) = (1 ≤ sales) × (sales ≤ 1000)
 
 -- the words ask for this
-abbrev pub Asks : List (List ℕ) → Mode → Type 0
-Asks words mode = (words ≡ words_of mode) × IsMode mode
+abbrev pub AskFor : List (List ℕ) → Mode → Type 0
+AskFor words mode = (words ≡ words_of mode) × IsMode mode
 
 -- the words ask for something that the program does
 abbrev pub IsCommandForm : List (List ℕ) → Type 0
-IsCommandForm words = (mode : Mode) × Asks words mode
+IsCommandForm words = (mode : Mode) × AskFor words mode

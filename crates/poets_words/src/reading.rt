@@ -1,7 +1,7 @@
 //! How `clap` is to read the words.
 ghost use Rattle.std.specs.Prelude.{◌↔◌, IfOk, IsTrue, map, string_bytes};
 ghost use Rattle.clap.specs.Words.{app_of};
-ghost use Rattle.poets_words.specs.Reading.{IsPlain, FindsPlainWords};
+ghost use Rattle.poets_words.specs.code.Reading.{IsPlain, FindsPlainWords};
 
 use clap::{Arg, ArgAction, Command};
 use std::alloc::{AllocError, Global};

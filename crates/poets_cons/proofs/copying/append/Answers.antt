@@ -1,5 +1,5 @@
 use Rattle.std.proofs.Common.{rules, ◌≡◌, ◌++◌, ◌∷◌, [], length, sym, subst}
-use Rattle.poets_cons.specs.Copies.{IsAppended}
+use Rattle.poets_cons.specs.code.Copies.{IsAppended}
 use Rattle.poets_cons.specs.Row.{row_of}
 use Rattle.poets_cons.proofs.Copied.{appended}
 use Rattle.poets_cons.proofs.copying.append.Goals as goal

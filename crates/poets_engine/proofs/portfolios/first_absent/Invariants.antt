@@ -1,5 +1,5 @@
 use Rattle.std.proofs.Common.{◌≡◌, drop}
-use Rattle.poets_engine.specs.Parts.{absent_from}
+use Rattle.poets_engine.specs.code.Parts.{absent_from}
 use Rattle.poets_engine.proofs.portfolios.first_absent.Given as goal
 
 abbrev pub invariant-loop-name : goal.invariant-loop-name

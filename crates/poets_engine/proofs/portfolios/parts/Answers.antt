@@ -1,4 +1,4 @@
-use Rattle.poets_engine.specs.Parts.{IsPart}
+use Rattle.poets_engine.specs.code.Parts.{IsPart}
 use Rattle.poets_engine.proofs.Absent.{all_there}
 use Rattle.poets_engine.proofs.Zipped.{AllZip-turn}
 use Rattle.poets_engine.proofs.portfolios.parts.Goals as goal

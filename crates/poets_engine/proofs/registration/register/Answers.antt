@@ -27,11 +27,11 @@ returns-in-Refused-clause-ok g c =
     register_refused c.args.rules.now c.args.name (contract_of (arc_value c.args.term.now)) c.args.store.now c.requires
     (sym c.in_default.ensures) (contract_of_rows c.in_ok-current.current) (reply_of c.in-Refused.reply) form c.in-Refused.ensures.choice
 
-pub returns-in_ok-number-in-Kept-clause-ok : goal.returns-in_ok-number-in-Kept-clause-ok
-returns-in_ok-number-in-Kept-clause-ok g c =
+pub returns-in_ok-number-in-Owed-clause-ok : goal.returns-in_ok-number-in-Owed-clause-ok
+returns-in_ok-number-in-Owed-clause-ok g c =
     let rules = c.args.rules.now in
     let form = c.in_ok-current.ensures.normal ∙ ap (λ t. normal (book_of_rules rules) (marks_of rules.studied) (contract_of t)) c.deref.ensures in
     register_kept c.args.rules.now c.args.name (contract_of (arc_value c.args.term.now)) c.args.store.now c.requires
-    (sym c.in_default.ensures) (arc_value c.in_ok-original-in-Kept.original) c.in-Kept.current (ap contract_of c.in_ok-original-in-Kept.ensures) c.add.new.self
-    c.in_ok-number-in-Kept.ensures.ok (contract_of_rows c.in_ok-current.current) c.in_ok-number-in-Kept.number
-    form c.in-Kept.ensures.choice c.in_ok-number-in-Kept.ensures.number
+    (sym c.in_default.ensures) (arc_value c.in_ok-original-in-Owed.original) c.in-Owed.current (ap contract_of c.in_ok-original-in-Owed.ensures) c.add.new.self
+    c.in_ok-number-in-Owed.ensures.ok (contract_of_rows c.in_ok-current.current) c.in_ok-number-in-Owed.number
+    form c.in-Owed.ensures.choice c.in_ok-number-in-Owed.ensures.number

@@ -13,12 +13,12 @@ use Rattle.poets_residue.proofs.Studies.{IsStudied-book}
 use Rattle.poets_table.specs.TableView.{RowView, row_view}
 use Rattle.poets_call.specs.Plain.{Reply}
 use Rattle.poets_call.specs.Ledger.{late_day}
-use Rattle.poets_engine.specs.Choices.{choice_by, judge, unless_over}
+use Rattle.poets_engine.specs.code.Judgements.{judgement_by, judge, unless_over}
 use Rattle.poets_engine.proofs.transmission.decide.Goals as goal
 
 -- where the contract runs on and the event is not late, what is left is judged
 in_time : (s : StudiedBook) (r : RowView Term (List Node)) (e : Event) (next : Contract) → r.ended ≡ false → late_day r.events e.day ≡ None →
-    next ≡ after (book_of s.book) (marks_of s) e (contract_of_rows r.current) → judge s Reply.Unmatched next ≡ choice_by s r e
+    next ≡ after (book_of s.book) (marks_of s) e (contract_of_rows r.current) → judge s Reply.Unmatched next ≡ judgement_by s r e
 in_time s r e next running timely left =
     sym (ap (λ ended. unless_over ended (late_day r.events e.day) (judge s Reply.Unmatched next)) running
     ∙ ap (λ late. unless_over false late (judge s Reply.Unmatched next)) timely)

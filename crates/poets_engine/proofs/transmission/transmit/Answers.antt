@@ -3,9 +3,9 @@ use Rattle.poets_expr.specs.Env.{declared_of}
 use Rattle.poets_table.specs.TableView.{row_view}
 use Rattle.poets_call.specs.Plain.{Command, Reply}
 use Rattle.poets_call.specs.Calls.{reply_of}
-use Rattle.poets_engine.specs.Choices.{choice_of}
-use Rattle.poets_engine.specs.Makes.{Makes}
-use Rattle.poets_engine.specs.Store.{RecordsEvent}
+use Rattle.poets_engine.specs.code.Judgements.{judgement_of}
+use Rattle.poets_engine.specs.code.Makes.{Makes}
+use Rattle.poets_engine.specs.code.Changes.{RecordsEvent}
 use Rattle.poets_engine.proofs.Transmitting.{transmit_refused, transmit_kept}
 use Rattle.poets_engine.proofs.transmission.transmit.Goals as goal
 
@@ -13,16 +13,16 @@ pub returns-in-Refused-clause-ok : goal.returns-in-Refused-clause-ok
 returns-in-Refused-clause-ok g c =
     transmit_refused c.args.rules.now c.args.name c.args.event.now c.args.store.now c.requires.taken c.in-Some.number
     (row_view c.row-row.result.now) (sym c.in-Some.ensures) c.row-row.ensures (reply_of c.in-Refused.reply)
-    (sym (ap choice_of c.in-Refused.is) ∙ c.in_ok-reply.ensures.choice)
+    (sym (ap judgement_of c.in-Refused.is) ∙ c.in_ok-reply.ensures.choice)
 
-pub returns-in_ok-record-in-Kept-clause-ok : goal.returns-in_ok-record-in-Kept-clause-ok
-returns-in_ok-record-in-Kept-clause-ok g c =
+pub returns-in_ok-record-in-Owed-clause-ok : goal.returns-in_ok-record-in-Owed-clause-ok
+returns-in_ok-record-in-Owed-clause-ok g c =
     let rules = c.args.rules.now in
     let old = c.args.store.now in
     let e = c.args.event.now in
     let n = c.in-Some.number in
     subst (λ n. Makes rules (Command.Transmit c.args.name e) old c.record.new.self (Reply.Recorded (n + 1) c.may_end_rows-may_end.result)) (sym c.len.ensures.count)
     (transmit_kept rules c.args.name e old c.requires.taken n (row_view c.row-row.result.now) (sym c.in-Some.ensures) c.row-row.ensures
-    c.in-Kept.next c.may_end_rows-may_end.result c.may_end_rows-may_end.ensures c.record.new.self
-    (subst (λ book. RecordsEvent (declared_of book.decls.names) n e c.in-Kept.next old c.record.new.self) c.book.ensures.book c.in_ok-record-in-Kept.ensures.ok)
-    (sym (ap choice_of c.in-Kept.is) ∙ c.in_ok-reply.ensures.choice))
+    c.in-Owed.next c.may_end_rows-may_end.result c.may_end_rows-may_end.ensures c.record.new.self
+    (subst (λ book. RecordsEvent (declared_of book.decls.names) n e c.in-Owed.next old c.record.new.self) c.book.ensures.book c.in_ok-record-in-Owed.ensures.ok)
+    (sym (ap judgement_of c.in-Owed.is) ∙ c.in_ok-reply.ensures.choice))

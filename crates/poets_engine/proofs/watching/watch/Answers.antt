@@ -2,7 +2,7 @@ use Rattle.std.proofs.Common.{◌≡◌, [], Some, sym, ap, ◌∙◌, subst, ma
 use Rattle.poets_expr.specs.Env.{declared_of}
 use Rattle.poets_expr.specs.Expression.{expression_of}
 use Rattle.poets_expr.specs.Val.{val}
-use Rattle.poets_engine.specs.Store.{AddsWatch}
+use Rattle.poets_engine.specs.code.Changes.{AddsWatch}
 use Rattle.poets_engine.proofs.Tallying.{watch_made, values_by}
 use Rattle.poets_engine.proofs.watching.watch.Goals as goal
 

@@ -1,7 +1,7 @@
 use Rattle.std.proofs.Common.{◌≡◌, arith, refl, sym, ◌∙◌, ap, subst, true, false, [], ◌∷◌, ◌++◌}
 use Rattle.std.specs.Prelude.{slice_index_or, Ok}
 use Rattle.poets_value.specs.declared.value.Name.{Name}
-use Rattle.poets_guard.specs.Graph.{HasEdge}
+use Rattle.poets_guard.specs.code.Graph.{HasEdge}
 use Rattle.poets_expr.proofs.SameTrees.{name_one}
 use Rattle.poets_guard.proofs.Places.{same_name-one}
 use Rattle.poets_guard.proofs.Walking.{edge-at}

@@ -1,7 +1,7 @@
 use Rattle.std.proofs.Common.{◌≡◌, ◌≢◌, ◌+◌, ◌-◌, true, length, take}
 use Rattle.poets_value.specs.declared.value.Name.{Name}
 use Rattle.poets_syntax.specs.Typed.{is_among}
-use Rattle.poets_guard.specs.Searched.{IsSeen, IsSearching}
+use Rattle.poets_guard.specs.code.Searched.{IsSeen, IsSearching}
 use Rattle.poets_guard.proofs.cycles.+lead.Given as goal
 
 abbrev pub invariant-loop-next : goal.invariant-loop-next

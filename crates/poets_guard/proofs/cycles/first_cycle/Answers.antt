@@ -1,8 +1,8 @@
 use Rattle.std.proofs.Common.{◌≡◌, true, false, ◌∙◌, sym, subst}
 use Rattle.std.proofs.lemmas.Result.{IfOk-weaker}
-use Rattle.poets_guard.specs.Graph.{HasEdge}
+use Rattle.poets_guard.specs.code.Graph.{HasEdge}
 use Rattle.poets_guard.specs.FirstCycle.{IsFirstOf, LiesOnCycle}
-use Rattle.poets_guard.specs.Searched.{HasNodesOf}
+use Rattle.poets_guard.specs.code.Searched.{HasNodesOf}
 use Rattle.poets_guard.proofs.Finding.{names_of, IsFirstOf-found, All-names, not_none}
 use Rattle.poets_guard.proofs.cycles.first_cycle.Goals as goal
 

@@ -1,5 +1,5 @@
 use Rattle.std.proofs.Common.{map, take, All}
-use Rattle.poets_guard.specs.Graph.{HasEdge}
+use Rattle.poets_guard.specs.code.Graph.{HasEdge}
 use Rattle.poets_guard.specs.FirstCycle.{LiesOnCycle}
 use Rattle.poets_guard.proofs.cycles.first_cycle.Given as goal
 

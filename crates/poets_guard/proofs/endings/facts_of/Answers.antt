@@ -1,7 +1,7 @@
 use Rattle.std.specs.Prelude.{◌+◌, [], ◌∷◌, Some, slice_get}
 use Rattle.std.specs.BTreeMap.{get}
 use Rattle.poets_value.specs.Names.{name_cmp}
-use Rattle.poets_guard.specs.Facts.{bodies}
+use Rattle.poets_guard.specs.code.Facts.{bodies}
 use Rattle.poets_guard.proofs.Places.{StandsAt, StandsAt-same, template_in-entry}
 use Rattle.poets_guard.proofs.Concluding.{bodies_at}
 use Rattle.poets_guard.proofs.endings.facts_of.Goals as goal

@@ -1,7 +1,7 @@
 use Rattle.std.specs.BTreeMap.{get}
 use Rattle.poets_value.specs.Names.{name_cmp}
 use Rattle.poets_syntax.specs.Book.{book_of}
-use Rattle.poets_guard.specs.Facts.{IsBuilt}
+use Rattle.poets_guard.specs.code.Facts.{IsBuilt}
 use Rattle.poets_guard.proofs.endings.rules_of_book.Given as goal
 
 abbrev pub invariant-loop-template : goal.invariant-loop-template

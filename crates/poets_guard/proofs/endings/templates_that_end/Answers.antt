@@ -4,8 +4,8 @@ use Rattle.std.specs.BTreeMap.{get}
 use Rattle.std.specs.BTreeSet.{contains}
 use Rattle.poets_value.specs.Names.{name_cmp}
 use Rattle.poets_expr.specs.Env.{same_name}
-use Rattle.poets_guard.specs.Rules.{is_known}
-use Rattle.poets_guard.specs.Facts.{says, IsTold}
+use Rattle.poets_guard.specs.code.Rules.{is_known}
+use Rattle.poets_guard.specs.code.Facts.{says, IsTold}
 use Rattle.poets_guard.proofs.Places.{StandsAt-same}
 use Rattle.poets_guard.proofs.Concluding.{IsTold-more, IsExact-told}
 use Rattle.poets_guard.proofs.endings.templates_that_end.Goals as goal

@@ -1,8 +1,8 @@
 use Rattle.std.specs.BTreeMap.{get}
 use Rattle.std.specs.BTreeSet.{contains}
 use Rattle.poets_value.specs.Names.{name_cmp}
-use Rattle.poets_guard.specs.Rules.{is_known}
-use Rattle.poets_guard.specs.Facts.{says, IsTold}
+use Rattle.poets_guard.specs.code.Rules.{is_known}
+use Rattle.poets_guard.specs.code.Facts.{says, IsTold}
 use Rattle.poets_guard.proofs.endings.templates_that_end.Given as goal
 
 abbrev pub invariant-loop-template : goal.invariant-loop-template

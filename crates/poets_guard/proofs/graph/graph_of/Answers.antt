@@ -2,7 +2,7 @@ use Rattle.std.proofs.Common.{refl}
 use Rattle.std.specs.BTreeMap.{get}
 use Rattle.std.specs.BTreeSet.{contains}
 use Rattle.poets_value.specs.Names.{name_cmp}
-use Rattle.poets_guard.specs.Graph.{held, holding}
+use Rattle.poets_guard.specs.code.Graph.{held, holding}
 use Rattle.poets_guard.proofs.Places.{StandsAt-same, template_in-entry}
 use Rattle.poets_guard.proofs.graph.graph_of.Goals as goal
 

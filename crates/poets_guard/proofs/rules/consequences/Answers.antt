@@ -1,6 +1,6 @@
 use Rattle.std.proofs.Common.{arith, true, false, sym, ◌∙◌, ap, subst, length, length-set}
 use Rattle.std.proofs.lemmas.List.{length-replicate}
-use Rattle.poets_guard.specs.Rules.{IsLearning, IsWithin, lists}
+use Rattle.poets_guard.specs.code.Rules.{IsLearning, IsWithin, lists}
 use Rattle.poets_guard.proofs.Learning.{IsWithin-pending, IsLearning-first, IsLearning-last}
 use Rattle.poets_guard.proofs.rules.consequences.Goals as goal
 

@@ -1,6 +1,6 @@
 use Rattle.std.proofs.Common.{◌≡◌, ℕ, [], length}
 use Rattle.std.specs.List.{sum_by}
-use Rattle.poets_guard.specs.Rules.{IsLearning, lists, list_at, work}
+use Rattle.poets_guard.specs.code.Rules.{IsLearning, lists, list_at, work}
 use Rattle.poets_guard.proofs.rules.consequences.Given as goal
 
 abbrev pub invariant-loop : goal.invariant-loop

@@ -1,7 +1,7 @@
 use Rattle.std.proofs.Common.{arith, subst, take, ◌∙◌, All}
 use Rattle.std.proofs.lemmas.List.{take_all}
 use Rattle.std.proofs.lemmas.List.Elements.{All-nil, All-weaker}
-use Rattle.poets_guard.specs.Visited.{IsFrom}
+use Rattle.poets_guard.specs.code.Visited.{IsFrom}
 use Rattle.poets_guard.specs.declared.visits.Visits.{Visits}
 use Rattle.poets_guard.proofs.Finding.{names_of, All-names, among-all}
 use Rattle.poets_guard.proofs.Visiting.{AreOpened-self, AreRight-empty, AllLead-any, AreOpened-more, IsFrom-later, IsFrom-less, on_cycles-exact}

@@ -1,5 +1,5 @@
 use Rattle.std.proofs.Common.{map, take, All}
-use Rattle.poets_guard.specs.Visited.{IsFrom, AreOpened}
+use Rattle.poets_guard.specs.code.Visited.{IsFrom, AreOpened}
 use Rattle.poets_guard.proofs.visits.names_on_cycles.Given as goal
 
 abbrev pub invariant-loop-template : goal.invariant-loop-template

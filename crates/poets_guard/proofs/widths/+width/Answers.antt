@@ -1,8 +1,8 @@
 use Rattle.std.proofs.Common.{◌≡◌, arith, sym, ap, true}
 use Rattle.std.specs.Prelude.{slice_index_or, is_some}
 use Rattle.poets_value.specs.declared.value.Name.{Name}
-use Rattle.poets_guard.specs.Graph.{HasEdge}
-use Rattle.poets_guard.specs.Walks.{HasWidth}
+use Rattle.poets_guard.specs.code.Graph.{HasEdge}
+use Rattle.poets_guard.specs.code.Walks.{HasWidth}
 use Rattle.poets_guard.proofs.Walking.{met_again, few, AllReach-next, HasWidth-none, HasWidth-node, HaveWidths-more, HaveSameNames-removed, HaveSameNames-trans, edge-at, ends_more, sum_more}
 use Rattle.poets_guard.proofs.widths.+width.Goals as goal
 

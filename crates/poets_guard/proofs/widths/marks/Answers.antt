@@ -2,7 +2,7 @@ use Rattle.std.proofs.Common.{◌≡◌, ap, ◌∙◌, true}
 use Rattle.std.specs.Prelude.{is_some}
 use Rattle.std.specs.BTreeSet.{contains}
 use Rattle.poets_value.specs.Names.{name_cmp}
-use Rattle.poets_guard.specs.Marked.{IsMarked}
+use Rattle.poets_guard.specs.code.Marked.{IsMarked}
 use Rattle.poets_guard.proofs.Finding.{AllZip-more}
 use Rattle.poets_guard.proofs.widths.marks.Goals as goal
 

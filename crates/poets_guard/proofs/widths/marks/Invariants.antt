@@ -3,8 +3,8 @@ use Rattle.std.specs.List.{AllZip}
 use Rattle.std.specs.BTreeSet.{contains}
 use Rattle.poets_value.specs.declared.value.Name.{Name}
 use Rattle.poets_value.specs.Names.{name_cmp}
-use Rattle.poets_guard.specs.Walks.{HaveWidths}
-use Rattle.poets_guard.specs.Marked.{IsMarked}
+use Rattle.poets_guard.specs.code.Walks.{HaveWidths}
+use Rattle.poets_guard.specs.code.Marked.{IsMarked}
 use Rattle.poets_guard.proofs.widths.marks.Given as goal
 
 abbrev pub invariant-loop-template : goal.invariant-loop-template

@@ -11,7 +11,7 @@ use Rattle.poets_cons.specs.Notes.{noted}
 use Rattle.poets_cons.specs.Table.{contract_at}
 use Rattle.poets_cons.proofs.Reaching.{one_ok}
 use Rattle.poets_cons.proofs.Standing.{extends_not, extends_twice}
-use Rattle.poets_residue.specs.Spent.{IsNoted, IsNotedBut}
+use Rattle.poets_residue.specs.code.Spent.{IsNoted, IsNotedBut}
 use Rattle.poets_residue.proofs.Equations.{after_at-success, after-none}
 use Rattle.poets_residue.proofs.Noted.{notes_later, first_joined, second_joined, over_joined}
 use Rattle.poets_residue.proofs.Widths.{width-plus, width-par}

@@ -11,7 +11,7 @@ use Rattle.poets_cons.specs.Notes.{noted}
 use Rattle.poets_cons.specs.Row.{row_of}
 use Rattle.poets_cons.specs.Table.{nth, grown, rows_of, contract_at}
 use Rattle.poets_residue.specs.Once.{once}
-use Rattle.poets_residue.specs.Spent.{IsNoted}
+use Rattle.poets_residue.specs.code.Spent.{IsNoted}
 use Rattle.poets_residue.proofs.Spending.{spent_once}
 use Rattle.poets_residue.proofs.Studies.{IsStudied-book}
 use Rattle.poets_residue.proofs.derivation.residual_rows.Goals as goal

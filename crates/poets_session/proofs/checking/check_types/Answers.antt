@@ -1,7 +1,7 @@
 use Rattle.std.proofs.Common.{sym, subst}
 use Rattle.poets_call.specs.Statements.{statements_of}
 use Rattle.poets_call.specs.TypedStatements.{first_fault}
-use Rattle.poets_session.specs.Checking.{IsTypeRefusal}
+use Rattle.poets_session.specs.code.Checking.{IsTypeRefusal}
 use Rattle.poets_session.specs.Causes.{IsCauseOf}
 use Rattle.poets_session.proofs.Typing.{type_told}
 use Rattle.poets_session.proofs.checking.check_types.Goals as goal

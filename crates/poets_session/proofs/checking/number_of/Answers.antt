@@ -3,7 +3,7 @@ use Rattle.std.proofs.lemmas.List.{take_all}
 use Rattle.std.proofs.lemmas.List.Elements.{All-nil, All-more}
 use Rattle.poets_call.specs.Statements.{statement_of}
 use Rattle.poets_call.specs.declared.statement.Statement.{Statement}
-use Rattle.poets_session.specs.Checking.{declares}
+use Rattle.poets_session.specs.code.Checking.{declares}
 use Rattle.poets_session.proofs.Cycling.{template_at}
 use Rattle.poets_session.proofs.checking.number_of.Goals as goal
 

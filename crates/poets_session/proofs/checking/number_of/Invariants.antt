@@ -1,7 +1,7 @@
 use Rattle.std.proofs.Common.{◌≡◌, All, false, take}
 use Rattle.poets_call.specs.Statements.{statement_of}
 use Rattle.poets_call.specs.declared.statement.Statement.{Statement}
-use Rattle.poets_session.specs.Checking.{declares}
+use Rattle.poets_session.specs.code.Checking.{declares}
 use Rattle.poets_session.proofs.checking.number_of.Given as goal
 
 -- no statement so far declares the template

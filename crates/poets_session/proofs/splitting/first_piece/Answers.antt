@@ -4,7 +4,7 @@ use Rattle.std.proofs.lemmas.List.Elements.{All-take, All-drop}
 use Rattle.poets_lex.specs.declared.token.Token.{Token}
 use Rattle.poets_grammar.specs.Tokens.{toks, IsNatural}
 use Rattle.poets_session.specs.Pieces.{pieces_of}
-use Rattle.poets_session.specs.Splitting.{piece}
+use Rattle.poets_session.specs.code.Splitting.{piece}
 use Rattle.poets_session.proofs.splitting.first_piece.Goals as goal
 
 pub returns-in-Some-clause-piece : goal.returns-in-Some-clause-piece

@@ -2,7 +2,7 @@ use Rattle.std.proofs.Common.{true, Err, subst, sym, ap}
 use Rattle.poets_grammar.specs.Tokens.{toks}
 use Rattle.poets_session.specs.Refusals.{IsUnread}
 use Rattle.poets_session.specs.Causes.{IsCauseOf}
-use Rattle.poets_session.specs.Splitting.{piece}
+use Rattle.poets_session.specs.code.Splitting.{piece}
 use Rattle.poets_session.specs.declared.fault.SessionCause.TheVariants as C
 use Rattle.poets_session.proofs.Saying.{tells_unread}
 use Rattle.poets_session.proofs.splitting.read_statement.Goals as goal

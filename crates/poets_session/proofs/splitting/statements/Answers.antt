@@ -4,7 +4,7 @@ use Rattle.std.proofs.lemmas.Result.{err_from_is_err_and}
 use Rattle.poets_grammar.specs.Tokens.{toks}
 use Rattle.poets_call.specs.Statements.{statement_of, statements_of}
 use Rattle.poets_session.specs.Pieces.{pieces_of}
-use Rattle.poets_session.specs.Splitting.{piece}
+use Rattle.poets_session.specs.code.Splitting.{piece}
 use Rattle.poets_session.specs.Refusals.{IsUnread}
 use Rattle.poets_session.specs.Causes.{IsCauseOf}
 use Rattle.poets_session.proofs.Saying.{Standing, standing_first, standing_more, standing_stops, standing_end, nothing_left}

@@ -3,8 +3,8 @@ use Rattle.std.proofs.lemmas.Result.{err_from_is_err_and}
 use Rattle.poets_call.specs.Statements.{statements_of}
 use Rattle.poets_call.specs.TypedStatements.{first_fault}
 use Rattle.poets_session.specs.Places.{place_fault}
-use Rattle.poets_session.specs.Counting.{fault_of}
-use Rattle.poets_session.specs.Checking.{IsTypeRefusal, IsGuardRefusal}
+use Rattle.poets_session.specs.code.Counting.{fault_of}
+use Rattle.poets_session.specs.code.Checking.{IsTypeRefusal, IsGuardRefusal}
 use Rattle.poets_session.specs.Causes.{IsCauseOf}
 use Rattle.poets_session.proofs.Refusing.{place_refused, type_refused, guard_refused}
 use Rattle.poets_session.proofs.Scripting.{numbers_fit}

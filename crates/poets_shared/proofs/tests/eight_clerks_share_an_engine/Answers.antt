@@ -3,7 +3,7 @@ use Rattle.std.specs.Prelude.{Contains}
 use denote.Param.Send.{sendable}
 use Rattle.poets_turn.proofs.Numbered.{numbered_are_all}
 use Rattle.poets_turn.specs.Clerks.{AreAll, clerk_count, turn_frame}
-use Rattle.poets_shared.specs.Sharing.{rules_of}
+use Rattle.poets_shared.specs.code.Sharing.{rules_of}
 use Rattle.poets_call.proofs.Crossing.{command_send, command_sync}
 use Rattle.poets_engine.proofs.Crossing.{engine_send, kept_send}
 use Rattle.poets_shared.proofs.tests.eight_clerks_share_an_engine.Goals as goal

@@ -1,4 +1,4 @@
-use Rattle.poets_shared.specs.Sharing.{rules_of}
+use Rattle.poets_shared.specs.code.Sharing.{rules_of}
 use Rattle.poets_turn.specs.Clerks.{turn_frame}
 use Rattle.poets_shared.proofs.tests.make.Goals as goal
 

@@ -2,7 +2,7 @@ use Rattle.std.proofs.Common.{sym, subst}
 use Rattle.std.specs.Arc.{arc_value}
 use Rattle.std.proofs.lemmas.List.Elements.{All-push}
 use Rattle.poets_call.specs.Calls.{command_of}
-use Rattle.poets_shared.specs.Sharing.{IsTakenByAll, IsScriptTakenByAll}
+use Rattle.poets_shared.specs.code.Sharing.{IsTakenByAll, IsScriptTakenByAll}
 use Rattle.poets_shared.proofs.tests.script.Goals as goal
 
 pub loop-nth-preserved : goal.loop-nth-preserved

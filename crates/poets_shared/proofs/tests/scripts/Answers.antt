@@ -2,7 +2,7 @@ use Rattle.std.proofs.Common.{◌+◌, length, ap, sym, ◌∙◌, subst}
 use Rattle.std.specs.Prelude.{All}
 use Rattle.std.proofs.lemmas.List.{length_push}
 use Rattle.std.proofs.lemmas.List.Elements.{All-push}
-use Rattle.poets_shared.specs.Sharing.{IsScriptTakenByAll}
+use Rattle.poets_shared.specs.code.Sharing.{IsScriptTakenByAll}
 use Rattle.poets_shared.proofs.tests.scripts.Goals as goal
 
 pub loop-clerk-preserved : goal.loop-clerk-preserved

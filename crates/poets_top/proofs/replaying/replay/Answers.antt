@@ -3,7 +3,7 @@ use Rattle.poets_call.specs.Calls.{history_of}
 use Rattle.poets_session.specs.Sessions.{calls_in, journal_of}
 use Rattle.poets_session.proofs.LawsFitting.{read_written, journal_written}
 use Rattle.poets_top.specs.Runs.{IsAnswerTo}
-use Rattle.poets_top.specs.Scripts.{AreTaken}
+use Rattle.poets_top.specs.code.Noted.{AreTaken}
 use Rattle.poets_words.specs.declared.mode.Task.TheVariants as T
 use Rattle.poets_top.proofs.Endings.{IsWritten-nothing}
 use Rattle.poets_top.proofs.Owning.{IsReplayOf-made}

@@ -2,7 +2,7 @@ use Rattle.std.proofs.Common.{[], refl, sym, ◌∙◌, ap, subst}
 use Rattle.poets_call.specs.Calls.{calls_of, history_of}
 use Rattle.poets_call.specs.Rules.{book_of_rules, reports_of_rules}
 use Rattle.poets_call.specs.Histories.{IsLegal}
-use Rattle.poets_top.specs.Scripts.{AreNoted}
+use Rattle.poets_top.specs.code.Noted.{AreNoted}
 use Rattle.poets_top.proofs.Making.{calls_more}
 use Rattle.poets_top.proofs.Noting.{AreNoted-none}
 use Rattle.poets_top.proofs.Owning.{right_made}

@@ -1,7 +1,7 @@
 use Rattle.std.proofs.Common.{◌≡◌, take}
 use Rattle.poets_call.specs.Calls.{calls_of, history_of}
 use Rattle.poets_session.specs.Sessions.{calls_in}
-use Rattle.poets_top.specs.Scripts.{AreNoted}
+use Rattle.poets_top.specs.code.Noted.{AreNoted}
 use Rattle.poets_top.proofs.work.make_calls.Given as goal
 
 abbrev pub invariant-loop-numbered : goal.invariant-loop-numbered

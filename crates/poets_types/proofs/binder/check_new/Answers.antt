@@ -1,7 +1,7 @@
 use Rattle.std.proofs.Common.{◌≡◌, true, false, take, get_or, refl, ◌∙◌, arith}
 use Rattle.std.specs.Prelude.{◌||◌}
 use Rattle.poets_syntax.specs.Typed.{in_use, is_among}
-use Rattle.poets_types.specs.Indices.{book_in, reports_in}
+use Rattle.poets_types.specs.code.Indices.{book_in, reports_in}
 use Rattle.poets_types.proofs.Binders.{check_new_more}
 use Rattle.poets_types.proofs.binder.check_new.Goals as goal
 

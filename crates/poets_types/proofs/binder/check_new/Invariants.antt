@@ -1,6 +1,6 @@
 use Rattle.std.proofs.Common.{◌≡◌, [], take, drop, reverse}
 use Rattle.poets_syntax.specs.Typed.{in_use, check_new}
-use Rattle.poets_types.specs.Indices.{book_in, reports_in}
+use Rattle.poets_types.specs.code.Indices.{book_in, reports_in}
 use Rattle.poets_types.proofs.binder.check_new.Given as goal
 
 -- the rest gives the answer

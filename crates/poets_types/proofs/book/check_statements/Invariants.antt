@@ -2,7 +2,7 @@ use Rattle.std.proofs.Common.{◌≡◌, ◌+◌, map, drop}
 use Rattle.poets_report.specs.Reports.{report_of}
 use Rattle.poets_call.specs.Statements.{statements_of}
 use Rattle.poets_call.specs.TypedStatements.{mistyped_from}
-use Rattle.poets_types.specs.Indices.{book_in}
+use Rattle.poets_types.specs.code.Indices.{book_in}
 use Rattle.poets_types.proofs.book.check_statements.Given as goal
 
 -- the rest gives the answer

@@ -3,8 +3,8 @@ use Rattle.poets_value.specs.declared.value.Ty.TheVariants as T
 use Rattle.poets_expr.specs.Expression.{expression_of}
 use Rattle.poets_syntax.specs.TypeOf.{Passes}
 use Rattle.poets_syntax.specs.Typed.{in_use, check_new, check_type, names_bound, types_bound}
-use Rattle.poets_types.specs.Indices.{book_in, reports_in}
-use Rattle.poets_types.specs.Scopes.{names_in}
+use Rattle.poets_types.specs.code.Indices.{book_in, reports_in}
+use Rattle.poets_types.specs.code.Scopes.{names_in}
 use Rattle.poets_types.proofs.Checks.{passes_from_ok, fails_first}
 use Rattle.poets_types.proofs.contract.+check_contract.Goals as goal
 

@@ -1,7 +1,7 @@
 use Rattle.std.proofs.Common.{◌∙◌, length, refl}
 use Rattle.std.proofs.lemmas.Slice.Zip.{zip_end}
 use Rattle.poets_expr.specs.Env.{declared_of}
-use Rattle.poets_types.specs.Scopes.{names_in}
+use Rattle.poets_types.specs.code.Scopes.{names_in}
 use Rattle.poets_types.proofs.Arguments.{check_args_end}
 use Rattle.poets_types.proofs.contract.check_args.Goals as goal
 

@@ -2,7 +2,7 @@ use Rattle.std.proofs.Common.{◌≡◌, length, drop, map}
 use Rattle.poets_expr.specs.Env.{declared_of}
 use Rattle.poets_expr.specs.Expression.{expression_of}
 use Rattle.poets_syntax.specs.Typed.{check_args}
-use Rattle.poets_types.specs.Scopes.{names_in}
+use Rattle.poets_types.specs.code.Scopes.{names_in}
 use Rattle.poets_types.proofs.contract.check_args.Given as goal
 
 -- the rest gives the answer

@@ -2,7 +2,7 @@ use Rattle.std.proofs.Common.{◌≡◌, arith}
 use Rattle.poets_expr.specs.Env.{declared_of}
 use Rattle.poets_expr.specs.Expression.{expression_of}
 use Rattle.poets_syntax.specs.TypeOf.{type_of, Passes}
-use Rattle.poets_types.specs.Scopes.{names_in}
+use Rattle.poets_types.specs.code.Scopes.{names_in}
 use Rattle.poets_types.proofs.Checks.{passes_from_ok}
 use Rattle.poets_types.proofs.expression.+type_of.Goals as goal
 

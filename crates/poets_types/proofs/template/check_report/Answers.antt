@@ -1,7 +1,7 @@
 use Rattle.std.proofs.Common.{◌≡◌, [], map}
 use Rattle.poets_syntax.specs.TypeOf.{Passes}
 use Rattle.poets_syntax.specs.Typed.{in_use, check_new}
-use Rattle.poets_types.specs.Indices.{book_in, reports_in}
+use Rattle.poets_types.specs.code.Indices.{book_in, reports_in}
 use Rattle.poets_types.proofs.Checks.{answer_told}
 use Rattle.poets_types.proofs.template.check_report.Goals as goal
 

@@ -7,9 +7,9 @@ use Rattle.poets_value.specs.Names.{name_cmp}
 use Rattle.poets_syntax.specs.Applied.{ApplicationsFit}
 use Rattle.poets_syntax.specs.Plain.{Book}
 use Rattle.poets_syntax.specs.Contract.{Contract, contract_of}
-use Rattle.poets_guard.specs.Endings.{ends, MayEnd}
+use Rattle.poets_guard.specs.code.Endings.{ends, MayEnd}
 use Rattle.poets_guard.proofs.Marking.{MayEnd-par, MayEnd-seq}
-use Rattle.poets_guard.specs.Facts.{AreAdded}
+use Rattle.poets_guard.specs.code.Facts.{AreAdded}
 use Rattle.poets_guard.proofs.Concluding.{AreAdded-success, AreAdded-app, AreAdded-none, AreAdded-transmit, AreAdded-plus, AreAdded-both}
 use Rattle.poets_guard.proofs.endings.Rules.+conclude.Goals as goal
 

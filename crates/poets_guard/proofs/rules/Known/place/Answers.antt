@@ -1,7 +1,7 @@
 use Rattle.std.proofs.Common.{true, false, refl, inl, inr}
 use Rattle.std.proofs.lemmas.List.{length-map}
 use Rattle.std.proofs.lemmas.Result.{on_ok_weaker}
-use Rattle.poets_guard.specs.Rules.{lists}
+use Rattle.poets_guard.specs.code.Rules.{lists}
 use Rattle.poets_guard.proofs.Learning.{known_at, IsStep-wait, IsLearning-used, IsLearning-learn}
 use Rattle.poets_guard.proofs.rules.Known.place.Goals as goal
 

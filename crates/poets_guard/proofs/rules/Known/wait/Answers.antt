@@ -1,6 +1,6 @@
 use Rattle.std.proofs.Common.{[], ◌∷◌, ◌++◌, set, sym, ◌∙◌, ap}
 use Rattle.std.proofs.lemmas.List.{map-set, get_or-map}
-use Rattle.poets_guard.specs.Rules.{lists}
+use Rattle.poets_guard.specs.code.Rules.{lists}
 use Rattle.poets_guard.proofs.rules.Known.wait.Goals as goal
 
 pub returns-clause-waiting : goal.returns-clause-waiting

@@ -1,8 +1,8 @@
 use Rattle.std.proofs.Common.{inl, inr, take, ◌+◌, arith, refl, sym, ◌∙◌, ap}
 use Rattle.std.specs.Prelude.{slice_index_or}
 use Rattle.poets_value.specs.declared.value.Name.{Name}
-use Rattle.poets_guard.specs.Graph.{HasEdge}
-use Rattle.poets_guard.specs.Visited.{IsPushed, IsFrom}
+use Rattle.poets_guard.specs.code.Graph.{HasEdge}
+use Rattle.poets_guard.specs.code.Visited.{IsPushed, IsFrom}
 use Rattle.poets_guard.specs.declared.visits.Visits.{Visits}
 use Rattle.poets_guard.proofs.Walking.{edge-at, edges-all}
 use Rattle.poets_guard.proofs.Visiting.{not-open, IsVisited-before, AreOpened-self, AreOpened-trans, AreRight-pushed, longer, few, AllLead-next, seen-more, way-more, IsVisited-open, IsVisited-closed}

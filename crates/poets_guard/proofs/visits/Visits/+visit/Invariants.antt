@@ -1,8 +1,8 @@
 use Rattle.std.proofs.Common.{◌≡◌, ◌+◌, ◌-◌, true, length, take}
 use Rattle.poets_value.specs.declared.value.Name.{Name}
 use Rattle.poets_syntax.specs.Typed.{is_among}
-use Rattle.poets_guard.specs.Walks.{Reaches}
-use Rattle.poets_guard.specs.Visited.{IsOpenAt, IsFrom, IsPushed, AreOpened}
+use Rattle.poets_guard.specs.code.Walks.{Reaches}
+use Rattle.poets_guard.specs.code.Visited.{IsOpenAt, IsFrom, IsPushed, AreOpened}
 use Rattle.poets_guard.proofs.visits.Visits.+visit.Given as goal
 
 abbrev pub invariant-loop-next : goal.invariant-loop-next

@@ -1,7 +1,7 @@
 use Rattle.std.proofs.Common.{◌≡◌, List, [], ◌∷◌, ◌++◌, Option, Some, ◌∙◌, ap, sym, subst}
 use Rattle.atomic_table.specs.Table.{opening}
-use Rattle.poets_turn.specs.Turnstile.{Rule}
-use Rattle.poets_turn.specs.Steps.{first_view}
+use Rattle.poets_turn.specs.code.Turnstile.{Rule}
+use Rattle.poets_turn.specs.code.Steps.{first_view}
 use Rattle.poets_turn.proofs.Seats.{starts}
 use Rattle.poets_turn.proofs.types.Turn.open.Goals as goal
 

@@ -1,7 +1,7 @@
 use Rattle.std.proofs.Common.{arith, [], ◌∙◌, ap, subst}
 use mathlib.Core.List.{IsPrefix}
 use Rattle.poets_turn.specs.declared.view.View.{View}
-use Rattle.poets_turn.specs.Turnstile.{longer}
+use Rattle.poets_turn.specs.code.Turnstile.{longer}
 use Rattle.poets_turn.proofs.Seats.{clerk_taken}
 use Rattle.poets_turn.proofs.Steps.{settles}
 use Rattle.poets_turn.proofs.Ending.{knows_old, knows_new}

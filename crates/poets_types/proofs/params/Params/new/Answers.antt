@@ -3,7 +3,7 @@ use Rattle.std.specs.Prelude.{◌||◌, is_some}
 use Rattle.poets_value.specs.declared.value.Ty.TheVariants as T
 use Rattle.poets_syntax.specs.TypeOf.{type_in}
 use Rattle.poets_syntax.specs.Typed.{in_use, scope_of}
-use Rattle.poets_types.specs.Indices.{book_in, reports_in}
+use Rattle.poets_types.specs.code.Indices.{book_in, reports_in}
 use Rattle.poets_types.proofs.Binders.{new_param_more}
 use Rattle.poets_types.proofs.Scopes.{type_in_more}
 use Rattle.poets_types.proofs.params.Params.new.Goals as goal

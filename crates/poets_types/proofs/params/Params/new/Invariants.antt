@@ -4,7 +4,7 @@ use Rattle.poets_value.specs.declared.value.Name.{Name}
 use Rattle.poets_value.specs.Names.{name_cmp}
 use Rattle.poets_syntax.specs.TypeOf.{type_in}
 use Rattle.poets_syntax.specs.Typed.{in_use, check_new, scope_of}
-use Rattle.poets_types.specs.Indices.{book_in, reports_in}
+use Rattle.poets_types.specs.code.Indices.{book_in, reports_in}
 use Rattle.poets_types.proofs.params.Params.new.Given as goal
 
 -- the rest gives the answer, and the types so far are found

@@ -8,7 +8,7 @@ use Rattle.poets_syntax.specs.declared.term.Template.{Template}
 use Rattle.poets_syntax.specs.Guarded.{IsPath}
 use Rattle.poets_syntax.specs.Typed.{is_among}
 use Rattle.poets_guard.specs.declared.graph.Node.{Node}
-use Rattle.poets_guard.specs.Graph.{HasEdge}
+use Rattle.poets_guard.specs.code.Graph.{HasEdge}
 
 -- each name of the set has a node
 abbrev pub HaveNodes : BTreeMap Name Node → BTreeSet Name → Type 0

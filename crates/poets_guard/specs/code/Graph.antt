@@ -10,7 +10,7 @@ use Rattle.poets_syntax.specs.Book.{template_in}
 use Rattle.poets_syntax.specs.Typed.{is_among}
 use Rattle.poets_syntax.specs.Width.{size}
 use Rattle.poets_guard.specs.declared.graph.Node.{Node}
-use Rattle.poets_guard.specs.Endings.{ends}
+use Rattle.poets_guard.specs.code.Endings.{ends}
 
 -- widths are cut here
 abbrev pub cut : ℕ → ℕ

@@ -9,8 +9,8 @@ use Rattle.poets_syntax.specs.Book.{template_of, template_in}
 use Rattle.poets_syntax.specs.Plain as plain
 use Rattle.poets_guard.specs.declared.rules.Rule.{Rule}
 use Rattle.poets_guard.specs.declared.endings.Rules.{Rules}
-use Rattle.poets_guard.specs.Endings.{ends, MayEnd}
-use Rattle.poets_guard.specs.Rules.{IsWithin}
+use Rattle.poets_guard.specs.code.Endings.{ends, MayEnd}
+use Rattle.poets_guard.specs.code.Rules.{IsWithin}
 
 -- whether there is a fact, and it is known
 abbrev pub known_of : (known : ℕ → Bool) → Option ℕ → Bool
@@ -31,13 +31,13 @@ AllMayEnd book granted [] = Unit {0}
 AllMayEnd book granted (c ∷ cs) = MayEnd book granted c × AllMayEnd book granted cs
 
 -- what the fact says holds
-abbrev pub Holds : Book → (granted : Bool) → (meant : List (List Contract)) → ℕ → Type 0
-Holds book granted meant k = AllMayEnd book granted (slice_index_or meant k [])
+abbrev pub FactHolds : Book → (granted : Bool) → (meant : List (List Contract)) → ℕ → Type 0
+FactHolds book granted meant k = AllMayEnd book granted (slice_index_or meant k [])
 
 -- the rule is of facts that have a meaning, and what it concludes holds if its premises do
 pub record IsRight (book : Book) (granted : Bool) (meant : List (List Contract)) (r : Rule) : Type 0 where
   pub within : IsWithin (length meant) r
-  pub sound : Holds book granted meant r.first → Holds book granted meant r.second → Holds book granted meant r.conclusion
+  pub sound : FactHolds book granted meant r.first → FactHolds book granted meant r.second → FactHolds book granted meant r.conclusion
 
 -- the first so many templates
 abbrev pub first_templates : ℕ → List Template → List plain.Template
@@ -60,7 +60,7 @@ IsComplete granted facts n templates rules = (known : ℕ → Bool) → IsClosed
 pub record AreMeant (book : Book) (granted : Bool) (facts : Name → Option ℕ) (meant : List (List Contract)) (s : Rules) : Type 0 where
   pub many : length meant ≡ s.count
   pub some : 0 < length meant
-  pub given : Holds book granted meant 0
+  pub given : FactHolds book granted meant 0
   pub named : (f : Name) (k : ℕ) (t : plain.Template) → facts f ≡ Some k → template_in book.templates f ≡ Some t → (k < length meant) × (slice_index_or meant k [] ≡ t.body ∷ [])
   pub right : All (IsRight book granted meant) s.rules.items
 
@@ -73,7 +73,7 @@ pub record GoOn (old new : List (List Contract)) : Type 0 where
 pub record AreAdded (granted : Bool) (facts : Name → Option ℕ) (c : Contract) (given goal : ℕ) (old new : Rules) : Type 0 where
   pub complete : (known : ℕ → Bool) → IsClosed known new.rules.items → IsClosed known old.rules.items × (known given ≡ true → ends granted (says known facts) c ≡ true → known goal ≡ true)
   pub sound : (book : Book) (meant : List (List Contract)) → ApplicationsFit book c → AreMeant book granted facts meant old → given < length meant → goal < length meant →
-      (Holds book granted meant given → MayEnd book granted c → Holds book granted meant goal) → (more : List (List Contract)) × GoOn meant more × AreMeant book granted facts more new
+      (FactHolds book granted meant given → MayEnd book granted c → FactHolds book granted meant goal) → (more : List (List Contract)) × GoOn meant more × AreMeant book granted facts more new
 
 -- the rules of the bodies of the first so many templates
 pub record IsBuilt (book : Book) (granted : Bool) (templates : List Template) (facts : Name → Option ℕ) (n : ℕ) (s : Rules) : Type 0 where

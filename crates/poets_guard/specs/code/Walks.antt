@@ -6,7 +6,7 @@ use Rattle.poets_value.specs.declared.value.Name.{Name}
 use Rattle.poets_value.specs.Names.{name_cmp}
 use Rattle.poets_syntax.specs.Guarded.{IsPath, IsCycle}
 use Rattle.poets_guard.specs.declared.graph.Node.{Node}
-use Rattle.poets_guard.specs.Graph.{cut, HasEdge}
+use Rattle.poets_guard.specs.code.Graph.{cut, HasEdge}
 
 -- some path of edges leads from the first name to the second
 abbrev pub Reaches : BTreeMap Name Node → Name → Name → Type 0

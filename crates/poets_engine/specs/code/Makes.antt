@@ -14,14 +14,7 @@ use Rattle.poets_engine.specs.declared.kept.FolioWork.{FolioWork}
 use Rattle.poets_engine.specs.declared.kept.Body.{Body}
 use Rattle.poets_engine.specs.declared.kept.Body.TheVariants.{Done, Folio}
 use Rattle.poets_engine.specs.Rows.{IsLedger}
-
--- the replies after which something changed
-abbrev pub is_accepted : Reply → Bool
-is_accepted (Reply.Registered n) = true
-is_accepted (Reply.Recorded n may_end) = true
-is_accepted Reply.EndedNow = true
-is_accepted (Reply.Watching n) = true
-is_accepted _ = false
+use Rattle.poets_engine.specs.Accepted.{is_accepted}
 
 -- the command was made: its reply is the one after the ledger of what was kept, what is kept then is that of the ledger
 -- with the entry, and a refusal or a look leaves it
@@ -42,8 +35,3 @@ pub record Prepares (rules : Rules) (command : Command) (store : StoreView) (wor
 abbrev pub MakesBody : Rules → Command → StoreView → StoreView → Body → Type 0
 MakesBody rules command old new (Done reply) = Makes rules command old new (reply_of reply)
 MakesBody rules command old new (Folio work) = (new ≡ old) × Prepares rules command old work
-
--- a body after which something changed
-abbrev pub has_changed : Body → Bool
-has_changed (Done reply) = is_accepted (reply_of reply)
-has_changed (Folio work) = false

@@ -1,4 +1,4 @@
--- Which contracts are kept.
+-- Which contracts are owed after a registration or a transmission.
 use Rattle.std.specs.Prelude.{ℕ, ◌≤◌, Bool, true, false, nat_lt, ℤ, Option, Some, None, List, All}
 use Rattle.poets_value.specs.declared.event.Event.{Event}
 use Rattle.poets_syntax.specs.Contract.{Contract, Failure}
@@ -19,30 +19,26 @@ use Rattle.poets_call.specs.Replies.{widest}
 use Rattle.poets_engine.specs.declared.judging.Decision.{Decision}
 use Rattle.poets_engine.specs.declared.judging.Decision.TheVariants as D
 
--- a refusal, or a contract that is kept
-pub data Choice : Type 0 where
-  Refused : Reply → Choice
-  Kept : Contract → Choice
+-- a refusal, or the contract that is owed from then on
+pub data Judgement : Type 0 where
+  Refused : Reply → Judgement
+  Owed : Contract → Judgement
 
-abbrev pub choice_of : Decision → Choice
-choice_of (D.Refused reply) = Refused (reply_of reply)
-choice_of (D.Kept rows) = Kept (contract_of_rows rows)
+abbrev pub judgement_of : Decision → Judgement
+judgement_of (D.Refused reply) = Refused (reply_of reply)
+judgement_of (D.Owed rows) = Owed (contract_of_rows rows)
 
 abbrev pub is_failure : Contract → Bool
 is_failure Failure = true
 is_failure _ = false
 
-abbrev pub judged : Reply → Bool → Bool → Contract → Choice
+abbrev pub judged : Reply → Bool → Bool → Contract → Judgement
 judged refusal true is_large c = Refused refusal
 judged refusal false true c = Refused Reply.TooLarge
-judged refusal false false c = Kept c
-
--- how wide the contract is
-abbrev pub width_in : StudiedBook → Contract → ℕ
-width_in s c = width (book_of s.book) (marks_of s) c
+judged refusal false false c = Owed c
 
 -- a contract that no number of granted steps performs is refused, and one that is too large
-abbrev pub judge : StudiedBook → Reply → Contract → Choice
+abbrev pub judge : StudiedBook → Reply → Contract → Judgement
 judge s refusal c = judged refusal (is_failure c) (nat_lt widest (width_in s c)) c
 
 -- a contract that is kept: the numbers of arguments fit in it, and it is not too large
@@ -54,17 +50,17 @@ abbrev pub AreKept : StudiedBook → List (RowView Term (List Node)) → Type 0
 AreKept s rows = All (λ r. IsKept s (contract_of_rows r.current)) rows
 
 -- the numbers of arguments fit in what was chosen
-abbrev pub KeptFits : Book → Choice → Type 0
+abbrev pub KeptFits : Book → Judgement → Type 0
 KeptFits book (Refused refusal) = Unit {0}
-KeptFits book (Kept c) = CountsFit book c
+KeptFits book (Owed c) = CountsFit book c
 
-abbrev pub unless_over : Bool → Option ℤ → Choice → Choice
+abbrev pub unless_over : Bool → Option ℤ → Judgement → Judgement
 unless_over true late next = Refused Reply.Ended
 unless_over false (Some day) next = Refused (Reply.Late day)
 unless_over false None next = next
 
 -- what becomes of a contract's row by an event
-abbrev pub choice_by : StudiedBook → RowView Term (List Node) → Event → Choice
-choice_by s r e =
+abbrev pub judgement_by : StudiedBook → RowView Term (List Node) → Event → Judgement
+judgement_by s r e =
     unless_over r.ended (late_day r.events e.day)
     (judge s Reply.Unmatched (after (book_of s.book) (marks_of s) e (contract_of_rows r.current)))

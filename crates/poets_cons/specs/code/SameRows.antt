@@ -10,7 +10,7 @@ use Rattle.poets_syntax.specs.Same.{same_binders, same_args, same_contract}
 use Rattle.poets_syntax.proofs.SameContracts.{binders_one, args_one, binders_itself, args_itself, contract_one, contract_itself}
 use Rattle.poets_cons.specs.Row.{Row, Success, Failure, Transmit, Plus, Par, Seq, App}
 use Rattle.poets_cons.specs.Same.{same_row}
-use Rattle.poets_cons.specs.Hashing.{row_writes}
+use Rattle.poets_cons.specs.code.Hashing.{row_writes}
 
 pub row_one : (r s : Row) → same_row r s ≡ true → r ≡ s
 row_one Success Success e = refl

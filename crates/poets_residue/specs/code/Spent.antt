@@ -7,11 +7,7 @@ use Rattle.poets_syntax.specs.Plain.{Book}
 use Rattle.poets_syntax.specs.Marks.{Marks}
 use Rattle.poets_cons.specs.declared.node.Node.{Node}
 use Rattle.poets_cons.specs.Table.{contract_at}
-use Rattle.poets_residue.specs.Once.{ready, asked_of}
-
--- the contract is one of the list
-abbrev pub IsAmong : Contract → List Contract → Type 0
-IsAmong c cs = list_any (same_contract c) cs ≡ true
+use Rattle.poets_residue.specs.Once.{ready, asked_of, IsAmong}
 
 -- the residual of the contract is noted
 abbrev pub IsNoted : List Node → (ℕ → Option ℕ) → Contract → Type 0

@@ -6,7 +6,7 @@ use Rattle.poets_machine.specs.Histories.{own_calls}
 use Rattle.poets_turn.specs.declared.view.View.{View}
 use Rattle.poets_turn.specs.declared.view.Setting.{Setting}
 use Rattle.poets_turn.specs.declared.view.Stage.TheVariants.{Idle, Waiting, Serving}
-use Rattle.poets_turn.specs.Turnstile.{OnlyClerks, longer}
+use Rattle.poets_turn.specs.code.Turnstile.{OnlyClerks, longer}
 
 abbrev pub setting_of : {F : Type 0} → F → ℕ → Setting F
 setting_of f clerks = record { frame = f; clerks = clerks }
@@ -49,12 +49,12 @@ module _ {M C F : Type 0} (history : M → List (ℕ × C)) (frame : M → F) wh
     pub short : length (history machine) ≤ ticket
 
   -- the seat with the view v holds the machine, whose slot has this
-  abbrev pub Holds : View C F → ℕ → M → Option M → Me (Option M) (View C F) → Type 0
-  Holds v ticket machine slot m = m ≡ (record v { stage = Serving ticket (history machine) }, (0, slot) ∷ [])
+  abbrev pub IsServing : View C F → ℕ → M → Option M → Me (Option M) (View C F) → Type 0
+  IsServing v ticket machine slot m = m ≡ (record v { stage = Serving ticket (history machine) }, (0, slot) ∷ [])
 
   -- where the ticket of the seat was found, it holds the machine
   abbrev pub AfterLook : Step (Option M) → Me (Option M) (View C F) → ℕ → Me (Option M) (View C F) → Type 0
-  AfterLook step m found m' = (t : ℕ) → m.0.stage ≡ Waiting t → (found ≡ t → (machine : M) × Holds m.0 t machine (Some machine) m' × Served m.0 t machine) × (found ≢ t → m' ≡ m)
+  AfterLook step m found m' = (t : ℕ) → m.0.stage ≡ Waiting t → (found ≡ t → (machine : M) × IsServing m.0 t machine (Some machine) m' × Served m.0 t machine) × (found ≢ t → m' ≡ m)
 
 module _ {M C F : Type 0} where
   -- the ticket is drawn, where the word was as expected

@@ -7,8 +7,8 @@ use Rattle.poets_value.specs.declared.value.Name.{Name}
 use Rattle.poets_value.specs.Names.{name_cmp}
 use Rattle.poets_guard.specs.declared.graph.Node.{Node}
 use Rattle.poets_guard.specs.declared.visits.Visits.{Visits}
-use Rattle.poets_guard.specs.Graph.{HasEdge}
-use Rattle.poets_guard.specs.Walks.{Reaches}
+use Rattle.poets_guard.specs.code.Graph.{HasEdge}
+use Rattle.poets_guard.specs.code.Walks.{Reaches}
 use Rattle.poets_guard.specs.FirstCycle.{LiesOnCycle}
 
 -- the name is open at this height

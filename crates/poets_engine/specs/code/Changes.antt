@@ -1,0 +1,32 @@
+-- The changes of what an engine keeps.
+use Rattle.std.specs.Prelude.{◌≡◌, ℕ, ◌-◌, List, [], ◌∷◌, ◌++◌, Option}
+use Rattle.poets_value.specs.declared.event.Event.{Event}
+use Rattle.poets_value.specs.declared.value.Value.{Value}
+use Rattle.poets_expr.specs.Env.{Declared}
+use Rattle.poets_syntax.specs.declared.term.Term.{Term}
+use Rattle.poets_cons.specs.declared.node.Node.{Node}
+use Rattle.poets_report.specs.declared.report.Report.{Report}
+use Rattle.poets_report.specs.declared.folds.Change.{Change}
+use Rattle.poets_table.specs.TableView.{RowView, changed_at, with_event}
+use Rattle.poets_live.specs.Watching.{WatchView, AllBrought, AllMoved, Begins}
+use Rattle.poets_engine.specs.Store.{StoreView}
+
+-- one contract more
+pub record AddsRow (row : RowView Term (List Node)) (old new : StoreView) : Type 0 where
+  pub rows : new.rows ≡ old.rows ++ row ∷ []
+  pub log : new.log ≡ old.log
+  pub watches : new.watches ≡ old.watches
+
+-- the event is in the row with the number, of which the current contract is then owed, in the log, and in each watch
+pub record RecordsEvent (declared : Declared) (number : ℕ) (e : Event) (current : List Node) (old new : StoreView) : Type 0 where
+  pub rows : new.rows ≡ changed_at (with_event e current) (number - 1) old.rows
+  pub log : new.log ≡ old.log ++ (number, e) ∷ []
+  pub changes : List Change
+  pub brought : AllBrought declared e old.watches changes
+  pub moved : AllMoved old.watches changes new.watches
+
+-- one watch more, which begins with the log
+pub record AddsWatch (declared : Declared) (report : Report) (args : List (Option Value)) (old new : StoreView) : Type 0 where
+  pub begins : Begins declared report args old.log old.watches new.watches
+  pub rows : new.rows ≡ old.rows
+  pub log : new.log ≡ old.log

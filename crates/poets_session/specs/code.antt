@@ -1,0 +1,6 @@
+-- What ties the code to the definitions: invariants of its loops and structs, and what its private functions promise.
+pub mod Checking
+pub mod Counting
+pub mod Parts
+pub mod Scripts
+pub mod Splitting
