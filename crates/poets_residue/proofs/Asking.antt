@@ -25,9 +25,8 @@ use Rattle.poets_cons.specs.Row.{row_of, contract_by}
 use Rattle.poets_cons.specs.Table.{contract_at, IsTable, Extends}
 use Rattle.poets_cons.proofs.Standing.{contract_at-later}
 use Rattle.poets_residue.specs.code.Notes.{AreNotes, IsDerived, AsksInWidth}
-use Rattle.poets_residue.specs.Once.{ready, asked_of}
+use Rattle.poets_residue.specs.Once.{ready, asked_of, IsAmong}
 use Rattle.poets_residue.specs.code.Spent.{IsNoted, IsNotedBut, IsSpent}
-use Rattle.poets_residue.specs.Once.{IsAmong}
 use Rattle.poets_residue.specs.Unfolding.{IsStudied}
 use Rattle.poets_residue.proofs.Kept.{CountsFit-body}
 use Rattle.poets_residue.proofs.Equations.{after-some}

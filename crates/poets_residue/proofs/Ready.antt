@@ -19,8 +19,7 @@ use Rattle.poets_syntax.proofs.Replacing.{truth}
 use Rattle.poets_syntax.proofs.Nullability.{EachExposed-weaker}
 use Rattle.poets_syntax.proofs.SameContracts.{contract_one, contract_itself}
 use Rattle.poets_syntax.proofs.Unfolded.{unfolds-guarded}
-use Rattle.poets_residue.specs.Once.{ready_by, ready_at, ready}
-use Rattle.poets_residue.specs.Once.{IsAmong}
+use Rattle.poets_residue.specs.Once.{ready_by, ready_at, ready, IsAmong}
 use Rattle.poets_residue.specs.Unfolding.{UnfoldsWithin, IsStudied}
 use Rattle.poets_residue.proofs.Kept.{CountsFit-body}
 use Rattle.poets_residue.proofs.Unfoldings.{found}

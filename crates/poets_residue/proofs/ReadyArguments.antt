@@ -32,8 +32,7 @@ use Rattle.poets_syntax.proofs.Typedness.{passed}
 use Rattle.poets_norm.specs.Questions.{operated}
 use Rattle.poets_norm.proofs.NormalForms.{IsBuilt, built-normal, built_of_normal}
 use Rattle.poets_norm.proofs.Parts.{FailureOr}
-use Rattle.poets_residue.specs.Once.{ready_by, ready_at, asked_of}
-use Rattle.poets_residue.specs.Once.{IsAmong}
+use Rattle.poets_residue.specs.Once.{ready_by, ready_at, asked_of, IsAmong}
 use Rattle.poets_residue.proofs.Kept.{of_body}
 use Rattle.poets_residue.proofs.Ready.{among_one, among_two, ready_at-failure}
 use Rattle.poets_residue.proofs.TypedResiduals.{IsTyped-body_of}

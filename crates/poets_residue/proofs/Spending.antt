@@ -18,9 +18,8 @@ use Rattle.poets_cons.specs.Table.{contract_at, rows_of, IsTable, Extends}
 use Rattle.poets_cons.proofs.Places.{one_place}
 use Rattle.poets_cons.proofs.Reaching.{one_ok}
 use Rattle.poets_cons.proofs.Standing.{contract_at-later}
-use Rattle.poets_residue.specs.Once.{ready, asked_of, once}
+use Rattle.poets_residue.specs.Once.{ready, asked_of, once, IsAmong}
 use Rattle.poets_residue.specs.code.Spent.{IsNoted, IsNotedBut, IsSpent}
-use Rattle.poets_residue.specs.Once.{IsAmong}
 use Rattle.poets_residue.proofs.Ready.{among_one, among_two, distinct_more, distinct_both, ReadyIn}
 
 -- what holds in any case
@@ -195,3 +194,17 @@ noted_besides old new x place next l memo more m d (inr h) = elim (truth (nat_eq
   | inl t ↦ (h.0, next, m h.0 ∙ ap (λ b. cond b (Some next) (memo h.0)) t, h.3)
   | inr t ↦ (h.0, h.1, m h.0 ∙ ap (λ b. cond b (Some next) (memo h.0)) t ∙ h.2, h.3)
 ]
+
+-- what was asked for a row, once that is noted
+pub noted_spent : (book : Definitions) (marks : Marks) (old new : List Node) → Extends old new →
+    (place next : ℕ) → place < length old → (before mid more : ℕ → Option ℕ) (x y : ℕ) {E : Type 0} (r : Result ℕ E) →
+    IsSpent book marks (contract_at old place) (IsNoted old before) (IsNotedBut (contract_at old place) new mid)
+    x y {E = E} (Ok next) → IfOk r (λ _. (k : ℕ) → more k ≡ cond (nat_eq place k) (Some next) (mid k)) →
+    IsSpent book marks (contract_at old place) (IsNoted old before) (IsNoted new more) x y r
+noted_spent book marks old new grows place next l before mid more x y r s m =
+    let here = contract_at old place in
+    let After = IsNotedBut here new mid in
+    part_spent book marks here here (IsNoted old before) After (IsNoted new more) x y next r (λ d h. h)
+    (one_ok (λ _. (k : ℕ) → more k ≡ cond (nat_eq place k) (Some next) (mid k))
+    (λ _. (d : Contract) → After d → IsNoted new more d) r
+    (λ p n d h. noted_besides old new grows place next l mid more n d h) m) s

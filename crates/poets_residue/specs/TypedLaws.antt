@@ -15,8 +15,7 @@ use Rattle.poets_syntax.specs.Residual.{after_at, after, residual_after}
 use Rattle.poets_syntax.specs.Typed.{IsTyped, IsTypedBook}
 use Rattle.poets_syntax.specs.Width.{body_in}
 use Rattle.poets_norm.specs.Questions.{operated}
-use Rattle.poets_residue.specs.Once.{ready, asked_of}
-use Rattle.poets_residue.specs.Once.{IsAmong}
+use Rattle.poets_residue.specs.Once.{ready, asked_of, IsAmong}
 
 -- in a typed book the residual of a closed typed contract by a declared event is closed and typed
 abbrev pub ResidualTyped : Type 0

@@ -1,4 +1,4 @@
-use Rattle.std.proofs.Common.{rules, ◌≡◌, ◌∙◌, ◌+◌, ◌*◌, ◌<◌, ℕ, arith, ap, sym, subst, map, length, nat_eq, cond, Some, Ok}
+use Rattle.std.proofs.Common.{rules, ◌≡◌, ◌∙◌, ◌+◌, ◌*◌, ◌<◌, ℕ, arith, ap, sym, subst, map, length, Some, Ok}
 use Rattle.std.specs.Arc.{arc_value}
 use Rattle.poets_expr.specs.Expression.{expression_of}
 use Rattle.poets_syntax.specs.Applied.{CountsFit}
@@ -9,7 +9,6 @@ use Rattle.poets_syntax.specs.Studied.{marks_of}
 use Rattle.poets_syntax.specs.Width.{width}
 use Rattle.poets_cons.specs.Notes.{noted}
 use Rattle.poets_cons.specs.Table.{contract_at}
-use Rattle.poets_cons.proofs.Reaching.{one_ok}
 use Rattle.poets_cons.proofs.Standing.{extends_not, extends_twice}
 use Rattle.poets_residue.specs.code.Spent.{IsNoted, IsNotedBut}
 use Rattle.poets_residue.proofs.Equations.{after_at-success, after-none}
@@ -17,7 +16,7 @@ use Rattle.poets_residue.proofs.Noted.{notes_later, first_joined, second_joined,
 use Rattle.poets_residue.proofs.Widths.{width-plus, width-par}
 use Rattle.poets_residue.proofs.Derived.{over_nullable, next_within, next_fits, next_width, next_asks, known_derived, noted_derived, failure_derived, made_derived, plus_derived, par_derived, seq_derived, over_derived, none_asked, plus_first, par_first, seq_first, plus_asked, par_asked, seq_asked, second_narrower}
 use Rattle.poets_residue.proofs.Ready.{plus_ready_first, plus_ready_second, par_ready_first, par_ready_second, seq_ready_first, seq_ready_second}
-use Rattle.poets_residue.proofs.Spending.{none_spent, part_failed, part_spent, noted_later, noted_besides, new_contract}
+use Rattle.poets_residue.proofs.Spending.{none_spent, part_failed, noted_later, noted_spent, new_contract}
 use Rattle.poets_residue.proofs.Asking.{row_is, transmit_is, app_is, second_failed, parts_spent, passed_spent, over_spent, grown_spent, row_spent, transmit_spent, app_here, app_paid, app_asking, body_fits, body_narrower, app_asked, app_derived, app_spent}
 use Rattle.poets_residue.proofs.derivation.+derive.Goals as goal
 
@@ -31,10 +30,7 @@ derive-returns-in-Some-clause-asks g t c =
     none_asked (book_of c.args.studied.now.book) (marks_of c.args.studied.now) (contract_at c.args.arena.now c.args.place) c.args.asks.now
 
 pub derive-returns-clause-derived : goal.derive-returns-clause-derived
-derive-returns-clause-derived g t c =
-    noted_derived (book_of c.args.studied.now.book) (marks_of c.args.studied.now) c.args.event.now c.args.arena.now c.derive_anew.new.arena
-    c.in_ok-next.ensures.grows c.args.place c.in_ok-next.next c.requires.within (noted c.derive_anew.new.memo) (noted c.note.new.self)
-    c.in_ok-next.ensures.derived c.note.result c.note.ensures.row c.note.ensures.notes
+derive-returns-clause-derived g t c = search (rules, noted_derived, c.in_ok-next.ensures.derived)
 
 pub derive_anew-returns-in-Success-clause-derived : goal.derive_anew-returns-in-Success-clause-derived
 derive_anew-returns-in-Success-clause-derived g t c =
@@ -330,17 +326,7 @@ derive-returns-in_err-next-clause-once g t c =
     c.args.asks.now c.derive_anew.new.asks c.derive_anew.result c.from_residual.result c.from_residual.ensures.0 (λ d h. h) c.derive_anew.ensures.once
 
 pub derive-returns-clause-once : goal.derive-returns-clause-once
-derive-returns-clause-once g t c =
-    let old = c.args.arena.now in
-    let new = c.derive_anew.new.arena in
-    let mid = noted c.derive_anew.new.memo in
-    let more = noted c.note.new.self in
-    let here = contract_at old c.args.place in
-    part_spent (book_of c.args.studied.now.book) (marks_of c.args.studied.now) here here (IsNoted old (noted c.args.memo.now)) (IsNotedBut here new mid) (IsNoted new more)
-    c.args.asks.now c.derive_anew.new.asks c.in_ok-next.next c.note.result (λ d h. h)
-    (one_ok (λ _. (k : ℕ) → more k ≡ cond (nat_eq c.args.place k) (Some c.in_ok-next.next) (mid k)) (λ _. (d : Contract) → IsNotedBut here new mid d → IsNoted new more d) c.note.result
-    (λ p m d h. noted_besides old new c.in_ok-next.ensures.grows c.args.place c.in_ok-next.next c.requires.within mid more m d h) c.note.ensures.notes)
-    c.in_ok-next.ensures.once
+derive-returns-clause-once g t c = search (rules, noted_spent, c.in_ok-next.ensures.once)
 
 pub derive_anew-returns-in-Success-clause-once : goal.derive_anew-returns-in-Success-clause-once
 derive_anew-returns-in-Success-clause-once g t c =
