@@ -10,8 +10,6 @@ mod node;
 mod notes;
 mod replacing;
 mod rows;
-#[cfg(test)]
-mod tests;
 
 pub use arena::{Arena, node_at};
 pub use entering::enter;

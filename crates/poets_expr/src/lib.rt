@@ -15,8 +15,6 @@ mod free;
 mod laws;
 mod replacing;
 mod sizes;
-#[cfg(test)]
-mod tests;
 mod unary;
 
 pub use comparing::same;

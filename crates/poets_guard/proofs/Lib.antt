@@ -8,4 +8,3 @@ pub mod Visiting
 pub mod Finding
 pub mod Exposing
 pub mod Studying
-pub mod Checking

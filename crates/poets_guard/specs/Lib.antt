@@ -1,4 +1,3 @@
 pub mod FirstCycle
 pub mod Fault
-pub mod Examples
 pub mod code

@@ -6,8 +6,6 @@ mod endings;
 mod graph;
 mod guard;
 mod rules;
-#[cfg(test)]
-mod tests;
 mod visits;
 mod widths;
 

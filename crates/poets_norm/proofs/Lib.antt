@@ -13,7 +13,6 @@ pub mod NoTemplates
 pub mod Sizes
 pub mod SomePart
 pub mod StudiedBooks
-pub mod StudiedExample
 pub mod WholeNormals
 pub mod TypedNormals
 pub mod RowChoices

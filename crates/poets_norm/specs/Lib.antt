@@ -1,5 +1,4 @@
 pub mod Choices
-pub mod Examples
 pub mod Laws
 pub mod Questions
 pub mod code

@@ -7,10 +7,6 @@ pub mod joining;
 pub mod laws;
 mod normals;
 mod row_normals;
-#[cfg(test)]
-mod template_tests;
-#[cfg(test)]
-mod tests;
 mod widths;
 
 pub use applications::app;

@@ -9,7 +9,6 @@ pub mod Equations
 pub mod Widths
 pub mod Joined
 pub mod Arguments
-pub mod StudiedExample
 pub mod TypedResiduals
 pub mod Noted
 mod Derived

@@ -1,6 +1,5 @@
 pub mod Unfolding
 pub mod Laws
-pub mod Examples
 pub mod TypedLaws
 pub mod Once
 pub mod code

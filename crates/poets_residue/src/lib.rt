@@ -8,8 +8,6 @@ pub mod laws;
 mod residuals;
 mod row_widths;
 mod shared;
-#[cfg(test)]
-mod tests;
 mod transmits;
 
 pub use derivation::residual_rows;

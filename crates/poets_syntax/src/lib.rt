@@ -9,8 +9,6 @@ mod sizes;
 mod studied;
 pub mod substitution;
 mod term;
-#[cfg(test)]
-mod tests;
 
 pub use equality::same;
 pub use sizes::size;

@@ -1,0 +1,3 @@
+pub mod GuardBooks
+pub mod NormBook
+pub mod ResidueBook
