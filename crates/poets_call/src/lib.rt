@@ -5,8 +5,6 @@ mod call;
 mod laws;
 mod rules;
 mod statement;
-#[cfg(test)]
-mod tests;
 
 pub use call::{Command, Entry, Folio, Reply};
 pub use laws::{

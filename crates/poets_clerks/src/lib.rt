@@ -7,8 +7,6 @@ mod history;
 mod script;
 mod scripts;
 mod team;
-#[cfg(test)]
-mod tests;
 
 pub use answers::{Done, DoneOf, Worked, WorkedOf};
 pub use gate::{Gate, NoGate};

@@ -2,8 +2,6 @@
 #![tactic(auto)]
 
 mod folio;
-#[cfg(test)]
-mod tests;
 mod total;
 
 pub use folio::{Part, portfolio};

@@ -7,8 +7,6 @@ mod plan;
 mod std_io;
 mod stream;
 mod sure;
-#[cfg(test)]
-mod tests;
 mod text;
 mod whole;
 

@@ -3,8 +3,6 @@
 
 mod adder;
 mod machine;
-#[cfg(test)]
-mod tests;
 
 pub use adder::{Adder, Sum};
 pub use machine::Machine;

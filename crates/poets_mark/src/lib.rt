@@ -5,8 +5,6 @@ mod kept;
 mod marking;
 mod places;
 mod spots;
-#[cfg(test)]
-mod tests;
 
 pub use kept::KeptSource;
 pub use marking::mark_of;

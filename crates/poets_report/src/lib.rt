@@ -7,8 +7,6 @@ mod keyed;
 mod laws;
 mod report;
 mod scope;
-#[cfg(test)]
-mod tests;
 
 pub use arguments::argument_values;
 pub use folds::{Change, Fold, value_of};

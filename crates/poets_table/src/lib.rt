@@ -3,8 +3,6 @@
 
 mod events;
 mod table;
-#[cfg(test)]
-mod tests;
 
 pub use events::{Events, PIECE_LENGTH};
 pub use table::{Row, Table};

@@ -4,6 +4,8 @@
 #[cfg(test)]
 mod lex;
 #[cfg(test)]
+mod mark;
+#[cfg(test)]
 mod names;
 #[cfg(test)]
 mod parse;
@@ -11,3 +13,7 @@ mod parse;
 mod print;
 #[cfg(test)]
 mod session;
+#[cfg(test)]
+mod streams;
+#[cfg(test)]
+mod types;

@@ -7,8 +7,6 @@ mod clerks;
 mod close;
 mod rule;
 mod start;
-#[cfg(test)]
-mod tests;
 mod types;
 mod view;
 

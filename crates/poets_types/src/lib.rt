@@ -13,8 +13,6 @@ mod params;
 mod scope;
 mod table;
 mod template;
-#[cfg(test)]
-mod tests;
 
 pub use book::{Checked, check_book};
 pub use cause::{TypeCause, TypeFault};

@@ -6,8 +6,6 @@ mod event;
 mod fault;
 pub mod laws;
 mod list;
-#[cfg(test)]
-mod tests;
 mod value;
 
 pub use day::Day;

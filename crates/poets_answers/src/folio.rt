@@ -1,9 +1,9 @@
 //! Portfolios of two contracts, worked out by hand.
 ghost use Rattle.std.specs.Prelude.{◌≡◌, [], IfOk};
 
-use crate::{Part, portfolio};
 use poets_call::Folio;
 use poets_expr::{Decls, Expr, Op, build};
+use poets_folio::{Part, portfolio};
 use poets_report::{Answer, Report};
 use poets_syntax::Binders;
 use poets_table::{Events, Table};

@@ -1,4 +1,6 @@
-use crate::{Adder, Machine};
+//! Turns of an adder, by themselves.
+
+use poets_machine::{Adder, Machine};
 use std::sync::Arc;
 use std::test::Fail;
 

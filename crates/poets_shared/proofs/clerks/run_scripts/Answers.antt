@@ -1,7 +1,7 @@
 use Rattle.std.proofs.Common.{◌≤◌, sym, subst}
 use Rattle.std.specs.Prelude.{Contains}
 use Rattle.poets_turn.proofs.Numbered.{numbered_are_all}
-use Rattle.poets_clerks.proofs.tests.run_scripts.Goals as goal
+use Rattle.poets_shared.proofs.clerks.run_scripts.Goals as goal
 
 pub close-requires-clause-all : goal.close-requires-clause-all
 close-requires-clause-all g c k low high =

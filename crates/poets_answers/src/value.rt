@@ -1,6 +1,6 @@
 //! Values from outside, and each call once with memory.
 
-use crate::{Day, DayFault, List, Name, Resource, Value};
+use poets_value::{Day, DayFault, List, Name, Resource, Value};
 use std::test::Fail;
 
 #[test]

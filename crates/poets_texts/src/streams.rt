@@ -1,6 +1,6 @@
 //! Each call once with memory, through its bound, and faults in mid-stream.
 
-use crate::{
+use poets_io::{
     ReadFault, Sink, Source, StdSink, StdSource, SureSink, SureSource, TextSink, TextSource,
     read_up_to, write_all,
 };

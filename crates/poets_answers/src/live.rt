@@ -1,8 +1,8 @@
 //! Watches of two reports, worked out by hand.
 ghost use Rattle.std.specs.Prelude.{◌≡◌, [], IfOk};
 
-use crate::Watches;
 use poets_expr::{Asks, Decls, Expr, Op, build};
+use poets_live::Watches;
 use poets_report::{Answer, Report};
 use poets_syntax::Binders;
 use poets_value::{Day, Event, List, Memory, Name, Resource, Ty, Value, push};

@@ -2,7 +2,7 @@
 ghost use Rattle.std.specs.Prelude.{◌≡◌, ◌<◌, ◌≤◌, length, All, IfOk};
 ghost use Rattle.std.specs.Arc.{arc_value};
 
-use crate::{Done, Gate, NoGate, WorkedOf, make_history, work};
+use poets_clerks::{Done, Gate, NoGate, WorkedOf, make_history, work};
 use poets_machine::Adder;
 use poets_turn::Turn;
 use poets_value::{List, Memory};

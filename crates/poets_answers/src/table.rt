@@ -1,6 +1,6 @@
 //! A table filled by hand, each call once with memory.
 
-use crate::{Events, PIECE_LENGTH, Table};
+use poets_table::{Events, PIECE_LENGTH, Table};
 use poets_value::{Day, Event, Memory, Name, Resource};
 use std::alloc::Global;
 use std::sync::Arc;

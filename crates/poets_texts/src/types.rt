@@ -1,10 +1,10 @@
 //! Faults of books, contracts and commands, and some that have none, as the comments write their texts.
-use crate::{Checked, TypeCause, TypeFault, check_book, check_call, check_term};
 use poets_call::{Command, Statement};
 use poets_expr::Expr;
 use poets_report::Report;
 use poets_syntax::build::transmit;
 use poets_syntax::{Binders, Param, Template, Term};
+use poets_types::{Checked, TypeCause, TypeFault, check_book, check_call, check_term};
 use poets_value::{Day, Event, List, Memory, Name, Resource, Ty, push};
 use std::alloc::Global;
 use std::sync::Arc;

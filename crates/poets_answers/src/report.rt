@@ -1,8 +1,8 @@
 //! The copy of a report, and answers worked out by hand.
 ghost use Rattle.std.specs.Prelude.{◌≡◌, [], IfOk};
 
-use crate::{Answer, Fold, Report, argument_values, copy, value_of};
 use poets_expr::{Asks, Decls, Expr, Op, build};
+use poets_report::{Answer, Fold, Report, argument_values, copy, value_of};
 use poets_syntax::{Binders, Param};
 use poets_value::{Day, Event, List, Memory, Name, Resource, Ty, Value};
 use std::alloc::Global;

@@ -1,5 +1,5 @@
 //! Tests that commands, replies, entries and statements can be made and taken apart.
-use crate::{Command, Entry, Folio, Reply, Statement};
+use poets_call::{Command, Entry, Folio, Reply, Statement};
 use poets_expr::Expr;
 use poets_report::Answer;
 use poets_syntax::Term;

@@ -1,6 +1,6 @@
 //! Marks of worked texts, and a source that keeps what it gave.
-use crate::{KeptSource, mark_of};
 use poets_io::{Source, TextSource, read_up_to};
+use poets_mark::{KeptSource, mark_of};
 use poets_session::Form;
 use poets_value::{List, Memory, push};
 use std::alloc::Global;

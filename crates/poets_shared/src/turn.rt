@@ -4,8 +4,8 @@ ghost use Rattle.std.specs.Thread.{IsSync};
 ghost use Rattle.poets_machine.specs.code.Adders.{most_of};
 ghost use Rattle.poets_turn.specs.Clerks.{AreNumbered, IsClerkOf, clerk_count, number, turn_frame};
 
-use crate::{Clerk, Turn};
 use poets_machine::{Adder, Machine};
+use poets_turn::{Clerk, Turn};
 use poets_value::{List, Memory, push};
 use std::alloc::{AllocError, Global};
 use std::sync::atomic::{AtomicU64, Ordering};
