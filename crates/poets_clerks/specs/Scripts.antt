@@ -18,7 +18,7 @@ calls_of script = map arc_value script.items
 abbrev pub pairs_of : {R : Type 0} → List (DoneOf R) → List (ℕ × R)
 pairs_of answers = map (λ d. (d.place, d.reply)) answers
 
--- the answers of a list as such pairs
+-- the answers of a list as pairs of a place and a reply
 abbrev pub answers_of : {R : Type 0} → Listed (DoneOf R) → List (ℕ × R)
 answers_of answers = pairs_of answers.items
 

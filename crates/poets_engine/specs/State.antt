@@ -26,7 +26,7 @@ pub record State : Type 0 where
 abbrev pub commands_of : List (ℕ × Arc Command Global) → List (ℕ × Command)
 commands_of history = map (λ p. (p.0, arc_value p.1)) history
 
--- the same as plain data
+-- the clerks and commands of a list of calls as plain data
 abbrev pub plain_calls : List (ℕ × Command) → List Call
 plain_calls calls = map (λ p. (p.0, command_of p.1)) calls
 
@@ -35,7 +35,7 @@ pub record Owes (book : Book) (reports : List Report) (calls : List Call) (reque
   pub place : kept.place ≡ length calls
   pub reply : OwesReply book reports calls request kept.body
 
--- the same after the engine's calls
+-- the kept value has the place of the call after the engine's calls, and owes the right reply to the command there
 abbrev pub OwesNext : State → Command → Kept → Type 0
 OwesNext e command kept = Owes (book_of_rules e.rules) (reports_of_rules e.rules) (plain_calls e.calls) (command_of command) kept
 

@@ -27,7 +27,7 @@ is_literal declared (Undefined t) = true
 is_literal declared (Named x) = is_some (declared x)
 is_literal declared _ = false
 
--- closed, and no literal yet
+-- whether the expression is closed, and no literal yet
 abbrev pub is_folded : Declared → Expression → Bool
 is_folded declared e = is_closed declared e && not (is_literal declared e)
 

@@ -19,13 +19,15 @@ use Rattle.poets_expr.specs.Whole.{IsWholeExpression, IsWholeOption, IsWholeEnv,
 abbrev pub UndeclaredPairsKeepDeclared : Type 0
 UndeclaredPairsKeepDeclared = (declared : Declared) (env : Env) → PairsAreUndeclared declared env → KeepsDeclared declared env
 
--- an expression with its names replaced has the value that it has under these pairs as the newest
+-- an expression with names replaced by literals has the value that it has with these names and values as the newest
+-- pairs of the environment
 abbrev pub ReplacedKeepsValue : Type 0
 ReplacedKeepsValue = (declared : Declared) (given : Givens) (env : Env) (e : Expression) →
     AreDeclared declared given → PairsAreUndeclared declared env →
     val declared env (subst given e) ≡ val declared (env_of given ++ env) e
 
--- and with no other pairs
+-- an expression with names replaced by literals has in the empty environment the value that it has with these names and
+-- values as the only pairs
 abbrev pub ReplacedKeepsValueAlone : Type 0
 ReplacedKeepsValueAlone = (declared : Declared) (given : Givens) (e : Expression) → AreDeclared declared given →
     val declared [] (subst given e) ≡ val declared (env_of given) e
@@ -41,7 +43,7 @@ FoldedKeepsValue = (declared : Declared) (env : Env) (e : Expression) (t : Ty) �
     (IsTrue (is_closed declared e) → IsDeclared declared (val declared [] e)) →
     val declared env (fold_closed declared e t) ≡ val declared env e
 
--- of an `Expr` no value is an undeclared agent, so that kinds alone are asked
+-- folding an `Expr` keeps the value, where a closed one has no value that is an undeclared kind
 abbrev pub FoldedKeepsValueOfExpr : Type 0
 FoldedKeepsValueOfExpr = (declared : Declared) (env : Env) (e : Expr) (t : Ty) → PairsAreUndeclared declared env →
     (IsTrue (is_closed declared (expression_of e)) → (k : Name) → val declared [] (expression_of e) ≡ Some (V.Kind k) → declared k ≡ Some T.Kind) →

@@ -11,7 +11,7 @@ use Rattle.poets_grammar.specs.Reading.{whole_expression}
 use Rattle.poets_grammar.specs.ContractReading.{whole_contract}
 use Rattle.poets_grammar.specs.StatementReading.{statement}
 
--- no tokens have two trees
+-- no tokens are two expressions
 abbrev pub OneExpression : Type 0
 OneExpression = (ts : List Tok) (a b : Expression) → IsExpression ts a → IsExpression ts b → a ≡ b
 
@@ -23,7 +23,7 @@ OneContract = (ts : List Tok) (a b : Contract) → IsContract ts a → IsContrac
 abbrev pub OneStatement : Type 0
 OneStatement = (ts : List Tok) (a b : Statement) → IsStatement ts a → IsStatement ts b → a ≡ b
 
--- what is read is what the tokens are
+-- the expression that is read is the one that the tokens are
 abbrev pub ExpressionRead : Type 0
 ExpressionRead = (ts : List Tok) (e : Expression) → IsExpression ts e ↔ whole_expression ts ≡ Some e
 

@@ -62,7 +62,7 @@ most_open = 200
 abbrev pub most_operators : ℕ
 most_operators = 1000
 
--- more brackets are open after some of the first tokens, or there are more operators
+-- more than 200 brackets are open after some of the first tokens, or there are more than 1,000 operators
 pub data IsTooDeep (tokens : List Tok) : Type 0 where
   Nested : (count : ℕ) → most_open < open_at_end (take count tokens) → IsTooDeep tokens
   Long : most_operators < operators tokens → IsTooDeep tokens

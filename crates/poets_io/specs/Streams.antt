@@ -15,7 +15,7 @@ pub record LosesFront (least most : ℕ) (old new : Option (List ℕ)) : Type 0 
   pub few : length given ≤ most
   pub bytes : Consumes old new given
 
--- these were all the bytes left, and now none is
+-- the bytes given are all that were left, where these are told, and none is left
 abbrev pub GivesAll : Option (List ℕ) → Option (List ℕ) → List ℕ → Type 0
 GivesAll None new bs = Unit {0}
 GivesAll (Some xs) new bs = (xs ≡ bs) × (new ≡ Some [])

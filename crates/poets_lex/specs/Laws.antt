@@ -39,7 +39,7 @@ Stand table text place (token ∷ tokens) =
     × IsTextOf table token.what (slice_range text token.from token.to)
     × Stand table text token.to tokens
 
--- so do the tokens of a text
+-- the tokens of a text stand in it one after the other, each where its bytes are
 abbrev pub TokensStand : Type 0
 TokensStand =
     (before : Table) (text : List ℕ) (tokens : List Token) (after : Table)

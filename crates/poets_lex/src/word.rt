@@ -5,7 +5,7 @@ ghost use Rattle.poets_lex.specs.declared.token.Word.{Word};
 
 use crate::Word;
 
-// The reserved word with that text. By its length and first byte there are few words that it is compared with.
+// The reserved word with that text. Its length and first byte leave few words to compare it with.
 pub(crate) fn word_of(text: &str) -> Option<Word>
     ensures some { IfSome result (λ word. text.now ≡ word_text word) }
     ensures none { IfNone result ((word : Word) → text.now ≢ word_text word) }

@@ -13,6 +13,6 @@ total (e ∷ es) = e.1 + total es
 abbrev pub IsSum : List (ℕ × ℕ) → ℕ → ℕ → Type 0
 IsSum before amount sum = sum ≡ (total before + amount) % 2 ^ 64
 
--- the amounts with their clerks' numbers
+-- entries as pairs of a clerk's number and an amount
 abbrev pub calls_of : List (ℕ × Arc ℕ Global) → List (ℕ × ℕ)
 calls_of entries = map (λ e. (e.0, arc_value e.1)) entries

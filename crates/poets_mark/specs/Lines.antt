@@ -11,7 +11,7 @@ shown byte = if nat_le 32 byte && nat_le byte 126 then byte else if byte == 9 ||
 abbrev pub shown_from : Spot → ℕ
 shown_from spot = max spot.begin (spot.place - 20)
 
--- .. and up to 80 bytes after it
+-- .. and up to 80 bytes from the place on
 abbrev pub shown_to : Spot → ℕ
 shown_to spot = min spot.end (spot.place + 80)
 

@@ -59,8 +59,9 @@ fn read_statement(alloc: Global, tokens: &[Token]) -> Result<Statement, ReadFaul
 
 /// The statement that the tokens are, which stand before a `;;`.
 ///
-/// The time is linear in the tokens. The stack is bounded, since a statement that is nested too deep is refused before it is
-/// read: the readers call themselves only after brackets, `not`, `-`, `if` and the dot of a transmit.
+/// The time is linear in the tokens. How deep the readers call themselves is bounded by the limits of the language, since a
+/// statement that is nested too deep is refused before it is read: they do so only after brackets, `not`, `-`, `if` and the dot
+/// of a transmit.
 pub fn statement(alloc: Global, tokens: &[Token]) -> Result<Statement, SyntaxFault>
     requires natural { AreNatural tokens.now }
     ensures found { IfOk result (λ s. IsStatement (toks tokens.now) (statement_of s)) }

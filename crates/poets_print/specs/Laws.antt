@@ -69,7 +69,7 @@ ContractReadsBack =
     (names : Table) (c : Contract) → IsTable names → IsWholeContract c → CanWriteContract names c
     → (tokens : List Token) × Lexes names (contract_text names c) 0 tokens names × IsContract (toks tokens) c
 
--- so is the text of a command
+-- the text of a command is cut into tokens, without a new name, and the tokens are the statement of that command
 abbrev pub CommandReadsBack : Type 0
 CommandReadsBack =
     (names : Table) (command : plain.Command) → IsTable names → IsWholeCommand command → CanWriteCommand names command

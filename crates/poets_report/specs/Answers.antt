@@ -49,12 +49,12 @@ IsAnswer_by (Some key) declared q args events (Rows rows) = AreRows declared q a
 abbrev pub IsAnswer : Declared → Report → List (Option Value) → List Event → plain.Answer → Type 0
 IsAnswer declared q args events finding = IsAnswer_by q.key declared q args events finding
 
--- a report has one answer
+-- a report has one answer at most over a list of events
 abbrev pub OneAnswer : Type 0
 OneAnswer = (declared : Declared) (q : Report) (args : List (Option Value)) (s : List Event) (a b : plain.Answer) →
     IsAnswer declared q args s a → IsAnswer declared q args s b → a ≡ b
 
--- and it has an answer over each list of events
+-- a report has an answer over each list of events
 abbrev pub EveryAnswer : Type 0
 EveryAnswer = (declared : Declared) (q : Report) (args : List (Option Value)) (s : List Event) →
     (a : plain.Answer) × IsAnswer declared q args s a

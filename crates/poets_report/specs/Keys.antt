@@ -22,7 +22,7 @@ KeyPrecedes (Some v) (Some w) = Precedes v w
 KeyPrecedes (Some v) None = Unit {0}
 KeyPrecedes None k = ⊥
 
--- the same order, as the answer of a comparison
+-- what a comparison of two keys answers: they stand in the order of values, and undefined is last
 abbrev pub key_cmp : Key → Key → Ordering
 key_cmp (Some v) (Some w) = value_cmp v w
 key_cmp (Some v) None = Less

@@ -21,7 +21,7 @@ use Rattle.poets_syntax.specs.Studied.{marks_in, IsStudiedBook}
 use Rattle.poets_residue.specs.Once.{ready_by, ready_at, ready}
 use Rattle.poets_residue.specs.Unfolding.{UnfoldsWithin, IsStudied}
 
--- a book that was studied meets what these laws ask
+-- a book that was studied meets what the laws of residuals ask of a book
 abbrev pub StudiedBooks : Type 0
 StudiedBooks = (book : Book) (marks : List Mark) → IsStudiedBook book marks → IsStudied book (marks_in book.templates marks)
 
@@ -35,12 +35,12 @@ ResidualFollows = (book : Book) (marks : Marks) (e : Event) (c r : Contract) (s 
 abbrev pub ResidualOne : Type 0
 ResidualOne = (book : Book) (marks : Marks) (e : Event) (c r r' : Contract) → After book marks e c r → After book marks e c r' → r ≡ r'
 
--- with enough unfoldings the function gives it
+-- with enough unfoldings `after_at` gives the residual by the event
 abbrev pub ResidualIs : Type 0
 ResidualIs = (d : ℕ) (book : Book) (marks : Marks) (e : Event) (c r : Contract) →
     AreRight book marks → UnfoldsWithin d book marks c → After book marks e c r → after_at d book marks e c ≡ r
 
--- and what it gives is performed by what may follow the event
+-- with enough unfoldings what `after_at` gives is performed by what may follow the event
 abbrev pub ResidualAt : Type 0
 ResidualAt = (d : ℕ) (book : Book) (marks : Marks) (e : Event) (c : Contract) (s : List Event) (n : ℕ) →
     AreRight book marks → AreWellFormed book → IsDeclaredEvent book.declared e → IsWellFormed book.declared c →
@@ -52,27 +52,27 @@ ResidualOfApplication = (book : Book) (marks : Marks) (e : Event) (f : Name) (ar
     IsStudied book marks → CountsFit book (App f args) →
     after book marks e (App f args) ≡ after book marks e (body_of book marks (template_in book.templates f) args)
 
--- it is well-formed
+-- the residual of a well-formed contract by a declared event is well-formed
 abbrev pub ResidualWellFormed : Type 0
 ResidualWellFormed = (book : Book) (marks : Marks) (e : Event) (c r : Contract) →
     AreWellFormed book → IsDeclaredEvent book.declared e → IsWellFormed book.declared c → After book marks e c r → IsWellFormed book.declared r
 
--- of a well-formed contract the function gives a well-formed one, with any number of unfoldings
+-- with any number of unfoldings `after_at` gives of a well-formed contract, by a declared event, a well-formed one
 abbrev pub ResidualAtWellFormed : Type 0
 ResidualAtWellFormed = (d : ℕ) (book : Book) (marks : Marks) (e : Event) (c : Contract) →
     AreWellFormed book → IsDeclaredEvent book.declared e → IsWellFormed book.declared c → IsWellFormed book.declared (after_at d book marks e c)
 
--- the numbers of arguments in it fit
+-- where the numbers of arguments fit in a contract, they fit in what `after_at` gives of it
 abbrev pub ResidualAtCountsFit : Type 0
 ResidualAtCountsFit = (d : ℕ) (book : Book) (marks : Marks) (e : Event) (c : Contract) →
     BodiesCountsFit book → CountsFit book c → CountsFit book (after_at d book marks e c)
 
--- of a normal form it is a normal form
+-- of a normal form `after_at` gives a normal form
 abbrev pub ResidualAtNormal : Type 0
 ResidualAtNormal = (d : ℕ) (book : Book) (marks : Marks) (e : Event) (c : Contract) →
     normal book marks c ≡ c → normal book marks (after_at d book marks e c) ≡ after_at d book marks e c
 
--- of a whole contract by a whole event it is whole
+-- of a whole contract, by a whole event, `after_at` gives a whole one
 abbrev pub ResidualAtWhole : Type 0
 ResidualAtWhole = (d : ℕ) (book : Book) (marks : Marks) (e : Event) (c : Contract) →
     IsWholeBook book → IsWholeEvent e → IsWholeContract c → IsWholeContract (after_at d book marks e c)
@@ -83,7 +83,7 @@ TraceFollowed = (book : Book) (marks : Marks) (o : Contract) (s s' : List Event)
     IsStudied book marks → IsWellFormed book.declared o → CountsFit book o → All (IsDeclaredEvent book.declared) s →
     May book [] (residual_after book marks o s) s' n ↔ May book [] o (s ++ s') n
 
--- so it is with what performs it outright
+-- exactly those traces perform the residual after a trace that perform the contract after that trace
 abbrev pub TracePerformed : Type 0
 TracePerformed = (book : Book) (marks : Marks) (o : Contract) (s s' : List Event) →
     IsStudied book marks → IsWellFormed book.declared o → CountsFit book o → All (IsDeclaredEvent book.declared) s →
@@ -95,7 +95,7 @@ TraceHopeless = (book : Book) (marks : Marks) (o : Contract) (s : List Event) �
     IsStudied book marks → IsWellFormed book.declared o → CountsFit book o → All (IsDeclaredEvent book.declared) s →
     (residual_after book marks o s ≡ Failure) ↔ ¬ ((n : ℕ) × May book [] o s n)
 
--- and where it is not `Failure`, some number of granted steps finishes
+-- where the residual after a trace is not `Failure`, some number of granted steps finishes the contract after it
 abbrev pub TraceHopeful : Type 0
 TraceHopeful = (book : Book) (marks : Marks) (o : Contract) (s : List Event) →
     IsStudied book marks → IsWellFormed book.declared o → CountsFit book o → All (IsDeclaredEvent book.declared) s →
@@ -123,7 +123,8 @@ EnoughUnfoldings = (d : ℕ) (book : Book) (marks : Marks) (c : Contract) →
     AreRight book marks → IsGuarded book → BodiesCountsFit book → CountsFit book c →
     length book.templates ≤ d → ready_at d book marks c ≡ ready book marks c
 
--- what is ready in the unfolded bodies is ready in the contract, however deep it lies
+-- in a guarded book there are ready in a contract the transmits and applications in its unguarded positions, and what
+-- is ready in the bodies of these applications
 abbrev pub ReadyUnfolds : Type 0
 ReadyUnfolds = (book : Book) (marks : Marks) (c : Contract) →
     AreRight book marks → IsGuarded book → BodiesCountsFit book → CountsFit book c →

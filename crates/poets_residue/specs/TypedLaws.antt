@@ -22,12 +22,13 @@ abbrev pub ResidualTyped : Type 0
 ResidualTyped = (book : Book) (reports : List Name) (marks : Marks) (e : Event) (c : Contract) →
     IsTypedBook book reports → IsDeclaredEvent book.declared e → IsTyped book reports [] c → IsTyped book reports [] (after book marks e c)
 
--- with any number of unfoldings
+-- in a typed book `after_at` gives of a closed typed contract, by a declared event, a closed typed one, with any number
+-- of unfoldings
 abbrev pub ResidualAtTyped : Type 0
 ResidualAtTyped = (d : ℕ) (book : Book) (reports : List Name) (marks : Marks) (e : Event) (c : Contract) →
     IsTypedBook book reports → IsDeclaredEvent book.declared e → IsTyped book reports [] c → IsTyped book reports [] (after_at d book marks e c)
 
--- and so is the residual after a trace
+-- in a typed book the residual of a closed typed contract after a trace of declared events is closed and typed
 abbrev pub TraceTyped : Type 0
 TraceTyped = (book : Book) (reports : List Name) (marks : Marks) (o : Contract) (s : List Event) →
     IsTypedBook book reports → All (IsDeclaredEvent book.declared) s → IsTyped book reports [] o → IsTyped book reports [] (residual_after book marks o s)

@@ -38,7 +38,7 @@ OneRefusal =
     (text : Text) (form : Form) (names others : Table) (r s : Refusal)
     → IsRefused text form names r → IsRefused text form others s → AreAlike r s
 
--- so are statements
+-- statements are refused in one way at most as a session of a form, but for how the first cycle goes on
 abbrev pub OneRefusalOfStatements : Type 0
 OneRefusalOfStatements =
     (form : Form) (statements : List Statement) (r s : Refusal) → AreRefused form statements r → AreRefused form statements s → AreAlike r s
@@ -53,7 +53,7 @@ OneLine =
 abbrev pub EveryTextIsRead : Type 0
 EveryTextIsRead = (text : Text) (form : Form) → IsNoSession text form → ¬ ((names : Table) (r : Refusal) → ¬ (IsRefused text form names r))
 
--- nor can it of statements that are no valid session
+-- of statements that are no valid session of the form it cannot be that no refusal holds
 abbrev pub AllStatementsAreJudged : Type 0
 AllStatementsAreJudged =
     (form : Form) (statements : List Statement) → ¬ (AreValid form statements) → ¬ ((r : Refusal) → ¬ (AreRefused form statements r))
@@ -64,7 +64,8 @@ SessionsAreWritten =
     (text : Text) (names : Table) (statements : List Statement)
     → IsReadAs text names statements → IsTable names × All (IsWritten names) statements
 
--- statements that are written with names have commands that are: each can be printed, and reads back
+-- the commands of statements that are written with the names of a table are written with them: each can be printed, and
+-- reads back
 abbrev pub CommandsAreWritten : Type 0
 CommandsAreWritten =
     (names : Table) (statements : List Statement)
@@ -75,7 +76,8 @@ CommandsAreWritten =
 abbrev pub FaultsOfTextsAreListed : Type 0
 FaultsOfTextsAreListed = (text : Text) (form : Form) (fault : SessionFault) → IsFirstFault text form fault → HasListedNames fault
 
--- so do those in the first fault of statements that are written with its names
+-- the names in the first fault of statements stand in its table, where the statements are written with the names of
+-- that table
 abbrev pub FaultsOfStatementsAreListed : Type 0
 FaultsOfStatementsAreListed =
     (form : Form) (statements : List Statement) (fault : SessionFault)

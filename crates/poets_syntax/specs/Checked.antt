@@ -20,6 +20,6 @@ pub record IsCheckedBook (book : Book) (reports : List Name) : Type 0 where
   -- what is declared beside them is an agent or a kind
   pub agent_or_kind : (x : Name) (ty : Ty) → book.declared x ≡ Some ty → (ty ≡ T.Agent) ⊎ (ty ≡ T.Kind)
 
--- the same, beside reports of some names
+-- the book is checked beside reports of some names
 abbrev pub IsChecked : Book → Type 0
 IsChecked book = (reports : List Name) × IsCheckedBook book reports

@@ -6,7 +6,7 @@ use Rattle.poets_syntax.specs.declared.term.Binders.{Binders}
 use Rattle.poets_syntax.specs.declared.term.Term.{Term}
 use Rattle.poets_syntax.specs.declared.term.Term.TheVariants as T
 
--- the seven forms
+-- the seven forms of contracts
 pub data Contract : Type 0 where
   Success : Contract
   Failure : Contract

@@ -23,12 +23,12 @@ use Rattle.poets_syntax.specs.WellFormed.{IsWellFormed}
 abbrev pub NothingGranted : Type 0
 NothingGranted = (book : Book) (env : Env) (c : Contract) (s : List Event) → May book env c s 0 ↔ Perf book env c s
 
--- the rest of a trace may be granted
+-- of a trace that performs a contract the last events may be granted steps
 abbrev pub RestGranted : Type 0
 RestGranted = (book : Book) (env : Env) (c : Contract) (s rest : List Event) →
     Perf book env c (s ++ rest) → May book env c s (length rest)
 
--- a whole trace may be granted
+-- what a trace and then granted steps may perform, as many granted steps as both together may perform
 abbrev pub AllGranted : Type 0
 AllGranted = (book : Book) (env : Env) (c : Contract) (s : List Event) (n : ℕ) →
     May book env c s n → May book env c [] (length s + n)
@@ -42,11 +42,11 @@ abbrev pub GrantedByShape : Type 0
 GrantedByShape = (book : Book) (env env' : Env) (c c' : Contract) (n : ℕ) →
     SameShape c c' → May book env c [] n ↔ May book env' c' [] n
 
--- and so do nullability and hope
+-- whether the empty trace performs a contract depends on its shape alone
 abbrev pub NullableByShape : Type 0
 NullableByShape = (book : Book) (c c' : Contract) → SameShape c c' → Nullable book c ↔ Nullable book c'
 
--- so does whether some granted steps perform a contract
+-- whether some number of granted steps performs a contract depends on its shape alone
 abbrev pub HopefulByShape : Type 0
 HopefulByShape = (book : Book) (c c' : Contract) → SameShape c c' → Hopeful book c ↔ Hopeful book c'
 
@@ -59,13 +59,15 @@ NullableByMarks = (book : Book) (marks : Marks) (c : Contract) →
 abbrev pub WellFormedBindsUndeclared : Type 0
 WellFormedBindsUndeclared = (declared : Declared) (c : Contract) → IsWellFormed declared c → BindersAreUndeclared declared c
 
--- a contract with its names replaced may be performed as the contract may be where the names have these values
+-- a contract with its names replaced may be performed as the contract may be where the names have the values that they
+-- are replaced by
 abbrev pub ReplacedAlike : Type 0
 ReplacedAlike = (book : Book) (given : Givens) (env : Env) (c : Contract) (s : List Event) (n : ℕ) →
     AreDeclared book.declared given → KeepsDeclared book.declared env → BindersAreUndeclared book.declared c →
     May book env (replace given c) s n ↔ May book (env_of given ++ env) c s n
 
--- and it is performed likewise
+-- a contract with its names replaced is performed as the contract is where the names have the values that they are
+-- replaced by
 abbrev pub ReplacedPerformed : Type 0
 ReplacedPerformed = (book : Book) (given : Givens) (env : Env) (c : Contract) (s : List Event) →
     AreDeclared book.declared given → KeepsDeclared book.declared env → BindersAreUndeclared book.declared c →

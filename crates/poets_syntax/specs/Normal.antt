@@ -44,7 +44,7 @@ par Success b = b
 par a Success = a
 par a b = Par a b
 
--- two contracts in sequence, likewise
+-- two contracts in sequence: `Failure` where one is, and a `Success` leaves the other
 abbrev pub seq : Contract → Contract → Contract
 seq Failure b = Failure
 seq a Failure = Failure

@@ -14,16 +14,16 @@ use Rattle.poets_syntax.specs.Exposed.{UnfoldsWithin}
 use Rattle.poets_syntax.specs.Width.{body_in, wide_by, width}
 use Rattle.poets_syntax.specs.Studied.{marks_in, IsStudiedBook}
 
--- the applications in a typed contract, and in the bodies of a typed book, have as many arguments as their templates have parameters
+-- each application in a typed contract is of a template with as many parameters
 abbrev pub TypedApplicationsFit : Type 0
 TypedApplicationsFit = (book : Book) (reports : List Name) (scope : Scope) (c : Contract) →
     IsTyped book reports scope c → ApplicationsFit book c
 
--- so have those in the bodies of the templates of a typed book
+-- each application in the bodies of a typed book is of a template with as many parameters
 abbrev pub TypedBodiesFit : Type 0
 TypedBodiesFit = (book : Book) (reports : List Name) → IsTypedBook book reports → BodiesFit book
 
--- so the numbers of arguments in a typed contract fit
+-- where a typed contract applies a template, it is to as many arguments as the template has parameters
 abbrev pub TypedCountsFit : Type 0
 TypedCountsFit = (book : Book) (reports : List Name) (scope : Scope) (c : Contract) →
     IsTyped book reports scope c → CountsFit book c
@@ -32,7 +32,7 @@ TypedCountsFit = (book : Book) (reports : List Name) (scope : Scope) (c : Contra
 abbrev pub StudiedMarksAreRight : Type 0
 StudiedMarksAreRight = (book : Book) (marks : List Mark) → IsStudiedBook book marks → AreRight book (marks_in book.templates marks)
 
--- where each application is known, the numbers of arguments fit
+-- where each application is of a template with as many parameters, the numbers of arguments fit
 abbrev pub CountsFitWhereKnown : Type 0
 CountsFitWhereKnown = (book : Book) (c : Contract) → ApplicationsFit book c → CountsFit book c
 
@@ -42,7 +42,8 @@ WidthUnfolds = (book : Book) (marks : Marks) (c : Contract) →
     AreRight book marks → IsGuarded book → BodiesCountsFit book → CountsFit book c →
     width book marks c ≡ wide_by (λ f. body_in (template_in book.templates f) (width book marks)) marks c
 
--- and as many unfoldings in a row as there are templates are enough
+-- in a guarded book as many unfoldings in a row as there are templates are enough for each contract in which the
+-- numbers of arguments fit
 abbrev pub EnoughDepth : Type 0
 EnoughDepth = (book : Book) (marks : Marks) (c : Contract) →
     AreRight book marks → IsGuarded book → BodiesCountsFit book → CountsFit book c → UnfoldsWithin (length book.templates) book marks c

@@ -31,7 +31,7 @@ ReplacedHasType = (declared : Declared) (given : Givens) (scope : Scope) (e : Ex
     AreOfTypes declared given → IsUndeclaredScope declared scope →
     HasType declared (types_given given ++ scope) e t → HasType declared scope (subst given e) t
 
--- and a typed contract stays typed
+-- a typed contract stays typed where the newest names in its scope are replaced by values of their types
 abbrev pub ReplacedIsTyped : Type 0
 ReplacedIsTyped = (book : Book) (reports : List Name) (given : Givens) (scope : Scope) (c : Contract) →
     AreOfTypes book.declared given → IsUndeclaredScope book.declared scope →

@@ -34,7 +34,7 @@ changed_at f place [] = []
 changed_at f zero (x ∷ xs) = f x ∷ xs
 changed_at f (suc place) (x ∷ xs) = x ∷ changed_at f place xs
 
--- the row with one event more, of which this is then owed
+-- the row with one event more, and with what is owed after it
 abbrev pub with_event : {O T : Type 0} → Event → T → RowView O T → RowView O T
 with_event e c r = record { name = r.name; original = r.original; current = c; events = r.events ++ e ∷ []; ended = r.ended }
 

@@ -64,7 +64,7 @@ pub data IsEnding (task : Task) (source source' sink sink' : Stream) : (status :
   ReadFailed :
       HasFailed source source' → LosesFront 0 longest source.bytes source'.bytes → sink' ≡ sink → IsEnding task source source' sink sink' 4 []
 
--- how a run ends that was asked for this
+-- how a run ends that was asked for a task with a text, or for a demonstration
 pub data Ends (source source' sink sink' : Stream) (status : ℕ) (h : List Entry) : Mode → Type 0 where
   OfTask : {task : Task} → IsEnding task source source' sink sink' status h → Ends source source' sink sink' status h (M.Read task)
   -- a demonstration reads nothing
@@ -76,7 +76,8 @@ pub data Deserves (task : Task) (text : Text) : (status : ℕ) → Type 0 where
   OfNoSession : length text ≤ longest → IsNoSession text (form_of task) → Deserves task text 1
   OfTooLong : longest < length text → Deserves task text 6
 
--- the status that a run deserves, where the source had this left and told it
+-- the status that a run deserves: for a task that of the text that the source has left, where it tells it; for a
+-- demonstration 0
 pub data DeservesRun (left : Option Text) : Mode → (status : ℕ) → Type 0 where
   OfTask : {task : Task} {text : Text} {status : ℕ} → left ≡ Some text → Deserves task text status → DeservesRun left (M.Read task) status
   OfDemo : {sales : ℕ} → DeservesRun left (M.Demo sales) 0

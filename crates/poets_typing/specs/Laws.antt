@@ -22,15 +22,15 @@ abbrev pub ContractsByRules : Type 0
 ContractsByRules = (book : Book) (reports : List Name) (scope : Scope) (c : Contract) →
     check_contract book reports scope c ≡ Passes tt ↔ Typed book reports scope c
 
--- so does a template
+-- a template passes exactly where it is typed by the rules
 abbrev pub TemplatesByRules : Type 0
 TemplatesByRules = (book : Book) (reports : List Name) (t : Template) → check_template book reports t ≡ Passes tt ↔ IsTypedTemplate book reports t
 
--- so does a report
+-- a report passes exactly where it is typed by the rules
 abbrev pub ReportsByRules : Type 0
 ReportsByRules = (book : Book) (reports : List Name) (q : Report) → check_report book reports q ≡ Passes tt ↔ IsTypedReport book reports q
 
--- so does a command
+-- a command passes exactly where it is typed by the rules
 abbrev pub CommandsByRules : Type 0
 CommandsByRules = (book : Book) (reports : List Report) (command : Command) →
     check_command book reports command ≡ Passes tt ↔ IsTypedCommand book reports command

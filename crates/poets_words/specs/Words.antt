@@ -22,7 +22,7 @@ abbrev pub IsMode : Mode → Type 0
 IsMode (M.Read task) = Unit {0}
 IsMode (M.Demo sales) = (1 ≤ sales) × (sales ≤ 1000)
 
--- the words ask for this
+-- the words are those of the mode, and a demonstration has 1 to 1,000 sales of each clerk
 abbrev pub AskFor : List (List ℕ) → Mode → Type 0
 AskFor words mode = (words ≡ words_of mode) × IsMode mode
 
