@@ -22,7 +22,8 @@ use Rattle.poets_report.proofs.FoldsByKey.{if_any, rows_by_key}
 use Rattle.poets_call.specs.Plain.{Command, Reply, Entry}
 use Rattle.poets_call.specs.Frame.{Frame}
 use Rattle.poets_call.specs.NoTemplates.{frame_without_templates}
-use Rattle.poets_call.specs.Replies.{Legal, widest}
+use Rattle.poets_syntax.specs.Width.{widest}
+use Rattle.poets_call.specs.Replies.{Legal}
 
 abbrev name : ℕ → Name
 name n = record { id = n }

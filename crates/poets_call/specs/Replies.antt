@@ -15,7 +15,7 @@ use Rattle.poets_syntax.specs.Perf.{Perf}
 use Rattle.poets_syntax.specs.May.{May}
 use Rattle.poets_syntax.specs.Marks.{Hopeful}
 use Rattle.poets_syntax.specs.Normal.{normal}
-use Rattle.poets_syntax.specs.Width.{width}
+use Rattle.poets_syntax.specs.Width.{width, widest}
 use Rattle.poets_syntax.specs.Residual.{residual_after}
 use Rattle.poets_report.specs.Plain.{Report, Answer}
 use Rattle.poets_report.specs.Answers.{IsAnswer}
@@ -31,10 +31,6 @@ When Condition First Second = (Condition × First) ⊎ ((Condition → ⊥) × S
 -- the first where the condition does not hold, else the second
 abbrev pub Unless : Type 0 → Type 0 → Type 0 → Type 0
 Unless Condition First Second = ((Condition → ⊥) × First) ⊎ (Condition × Second)
-
--- the greatest width of a contract that is kept
-abbrev pub widest : ℕ
-widest = 1000
 
 abbrev pub IsTooLarge : Frame → Contract → Type 0
 IsTooLarge f c = widest < width f.book f.marks c

@@ -2,6 +2,7 @@
 ghost use Rattle.std.specs.Prelude.{◌≡◌, ◌<◌, ◌≤◌, [], length, map, None, All, IfOk};
 ghost use Rattle.std.specs.Arc.{arc_value};
 ghost use Rattle.std.specs.List.{flat_map};
+ghost use Rattle.poets_value.specs.Limits.{most_clerks};
 ghost use Rattle.poets_clerks.specs.Histories.{AreInOrder, AreReplies, FillPlaces, HasScripts, HoldReplies};
 ghost use Rattle.poets_clerks.specs.Scripts.{answers_of, calls_of, pairs_of};
 
@@ -31,7 +32,7 @@ where
     M::Call: Send + Sync,
     M::Reply: Send,
     M::Kept: Send,
-    requires scripts { (0 < length scripts.now.items) × (length scripts.now.items ≤ 64) }
+    requires scripts { (0 < length scripts.now.items) × (length scripts.now.items ≤ most_clerks) }
     requires new { M.history machine ≡ [] }
     requires takes { All (λ s. All (λ c. M.takes (M.frame machine) (arc_value c)) s.items) scripts.now.items }
     ensures frame { IfOk result (λ r. M.frame r.0 ≡ M.frame machine) }

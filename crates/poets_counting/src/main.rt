@@ -5,12 +5,13 @@
 ghost use Rattle.std.specs.Prelude.{◌≡◌, ◌<◌, ◌≤◌, length, All, IfOk, IfSome};
 ghost use Rattle.std.specs.Thread.{IsSync};
 ghost use Rattle.std.specs.Arc.{arc_value};
+ghost use Rattle.poets_value.specs.Limits.{most_clerks};
 ghost use Rattle.poets_machine.specs.code.Adders.{most_of};
 ghost use Rattle.poets_turn.specs.Clerks.{AreNumbered, IsClerkOf, clerk_count, number, turn_frame};
 
 use poets_machine::Adder;
 use poets_turn::{Clerk, Turn};
-use poets_value::{List, Memory, push};
+use poets_value::{List, MOST_CLERKS, Memory, push};
 use std::alloc::Global;
 use std::process::ExitCode;
 use std::sync::{Arc, Wait};
@@ -34,12 +35,12 @@ fn main(rt: HostRuntime) -> ExitCode {
 
 // The two words of the command line.
 fn asked(rt: &HostRuntime) -> Option<(u32, u32)>
-    ensures { IfSome result (λ r. (0 < r.0) × (r.0 ≤ 64)) }
+    ensures { IfSome result (λ r. (0 < r.0) × (r.0 ≤ most_clerks)) }
 {
     let mut words = env::args(rt).ok()?.skip(1);
     let clerks: u32 = words.next()?.parse().ok()?;
     let calls: u32 = words.next()?.parse().ok()?;
-    if clerks == 0 || clerks > 64 {
+    if clerks == 0 || u64::from(clerks) > MOST_CLERKS {
         return None;
     }
     Some((clerks, calls))
@@ -47,7 +48,7 @@ fn asked(rt: &HostRuntime) -> Option<(u32, u32)>
 
 // The turnstile, with its clerks.
 fn opened(alloc: Global, clerks: u32) -> Result<(Turn<Adder>, List<Clerk<Adder>>), Memory>
-    requires { (0 < clerks) × (clerks ≤ 64) }
+    requires { (0 < clerks) × (clerks ≤ most_clerks) }
     ensures turn { IfOk result (λ r. (clerk_count r.0 ≡ clerks) × (turn_frame most_of r.0 ≡ 1)) }
     ensures clerks { IfOk result (λ r. (length r.1.items ≡ clerks) × AreNumbered r.1.items × All (λ c. IsClerkOf most_of r.0 c) r.1.items) }
 {
@@ -64,7 +65,7 @@ fn counted<R: Threads + Wait + Sync>(
     clerks: u32,
     calls: u32,
 ) -> Result<Adder, Memory>
-    requires { (0 < clerks) × (clerks ≤ 64) }
+    requires { (0 < clerks) × (clerks ≤ most_clerks) }
 {
     let share = calls / clerks;
     let one = Arc::new(alloc, 1)?;

@@ -1,6 +1,7 @@
 //! The text of the demonstration.
 ghost use Rattle.std.specs.Prelude.{◌≡◌, ◌++◌, ◌≤◌, ◌-◌, IfOk, OnOk, Some, codes, length, string_bytes};
 ghost use Rattle.std.specs.List.{flat_map, range_with_len};
+ghost use Rattle.poets_value.specs.Limits.{longest_text, most_sales};
 ghost use Rattle.poets_demo.specs.Text.{numbers_to, portfolio, sale_lines, sale_name, section};
 ghost use Rattle.poets_demo.specs.Text as spec;
 
@@ -44,9 +45,9 @@ impl fmt::Display for SaleName {
 /// In each sale the buyer pays twice: at first too little, which the contract refuses, and then the
 /// price. A clerk's last command asks what was paid for each of the clerk's sales.
 pub fn demo_text(alloc: Global, sales: u32) -> Result<String, Memory>
-    requires { (1 ≤ sales) × (sales ≤ 1000) }
+    requires { (1 ≤ sales) × (sales ≤ most_sales) }
     ensures text { IfOk result (λ text. string_bytes text ≡ spec.demo_text sales) }
-    ensures short { IfOk result (λ text. length (string_bytes text) ≤ 16_777_216) }
+    ensures short { IfOk result (λ text. length (string_bytes text) ≤ longest_text) }
 {
     let mut text = String::from_str(alloc, BOOK)?;
     for clerk in 1..=CLERKS {
@@ -57,7 +58,7 @@ pub fn demo_text(alloc: Global, sales: u32) -> Result<String, Memory>
 
 // Puts what a clerk does.
 fn put_section(text: &mut String, clerk: u32, sales: u32) -> Result<(), Memory>
-    requires { (1 ≤ sales) × (sales ≤ 1000) }
+    requires { (1 ≤ sales) × (sales ≤ most_sales) }
     ensures { OnOk result (string_bytes text.new ≡ string_bytes text.old ++ section clerk sales) }
 {
     writeln!(text, "clerk;;")?;
@@ -67,7 +68,7 @@ fn put_section(text: &mut String, clerk: u32, sales: u32) -> Result<(), Memory>
 
 // Puts the lines of a clerk's sales.
 fn put_sales(text: &mut String, clerk: u32, sales: u32) -> Result<(), Memory>
-    requires { (1 ≤ sales) × (sales ≤ 1000) }
+    requires { (1 ≤ sales) × (sales ≤ most_sales) }
     ensures { OnOk result (string_bytes text.new ≡ string_bytes text.old
         ++ flat_map (sale_lines clerk) (numbers_to sales)) }
 {
@@ -79,7 +80,7 @@ fn put_sales(text: &mut String, clerk: u32, sales: u32) -> Result<(), Memory>
 
 // Puts the lines of a sale.
 fn put_sale(text: &mut String, clerk: u32, sale: u32) -> Result<(), Memory>
-    requires { sale ≤ 1000 }
+    requires { sale ≤ most_sales }
     ensures { OnOk result (string_bytes text.new ≡ string_bytes text.old ++ sale_lines clerk sale) }
 {
     let name = SaleName { clerk, sale };

@@ -11,7 +11,7 @@ use Rattle.poets_syntax.specs.Applied.{CountsFit}
 use Rattle.poets_syntax.specs.Studied.{marks_of}
 use Rattle.poets_syntax.specs.Marks.{Hopeful}
 use Rattle.poets_syntax.specs.Normal.{normal}
-use Rattle.poets_syntax.specs.Width.{width}
+use Rattle.poets_syntax.specs.Width.{width, widest}
 use Rattle.poets_cons.specs.declared.node.Node.{Node}
 use Rattle.poets_cons.specs.Table.{contract_of_rows}
 use Rattle.poets_table.specs.TableView.{new_row, number_named}
@@ -19,7 +19,6 @@ use Rattle.poets_call.specs.declared.rules.Rules.{Rules}
 use Rattle.poets_call.specs.Rules.{book_of_rules, reports_of_rules}
 use Rattle.poets_call.specs.Plain.{Command, Reply}
 use Rattle.poets_call.specs.Ledger.{Ledger, contract_named}
-use Rattle.poets_call.specs.Replies.{widest}
 use Rattle.poets_call.specs.Taken.{IsTaken}
 use Rattle.poets_call.proofs.TypedCommands.{typed_registration}
 use Rattle.poets_engine.specs.Store.{StoreView}

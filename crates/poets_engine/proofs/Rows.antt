@@ -25,14 +25,13 @@ use Rattle.poets_norm.proofs.WholeNormals.{IsWhole-normal}
 use Rattle.poets_syntax.specs.Marks.{Hopeful}
 use Rattle.poets_syntax.specs.Residual.{after}
 use Rattle.poets_syntax.specs.Normal.{normal}
-use Rattle.poets_syntax.specs.Width.{width}
+use Rattle.poets_syntax.specs.Width.{width, widest}
 use Rattle.poets_residue.specs.Unfolding.{IsStudied}
 use Rattle.poets_residue.proofs.Traces.{residual_after-more, trace_fit}
 use Rattle.poets_cons.specs.declared.node.Node.{Node}
 use Rattle.poets_cons.specs.Table.{contract_of_rows}
 use Rattle.poets_table.specs.TableView.{RowView, changed_at, with_event, finished, new_row}
 use Rattle.poets_call.specs.Ledger.{Ledger, trace, is_ended, late_day, if_after}
-use Rattle.poets_call.specs.Replies.{widest}
 use Rattle.poets_engine.specs.Rows.{NeverFall, RowIs, RowsAre}
 use Rattle.poets_engine.specs.code.Judgements.{IsKept, AreKept}
 use Rattle.poets_engine.proofs.Named.{truth, named}

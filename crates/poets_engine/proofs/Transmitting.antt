@@ -14,7 +14,7 @@ use Rattle.poets_syntax.specs.WellFormed.{IsDeclaredEvent}
 use Rattle.poets_syntax.specs.Whole.{IsWholeContract}
 use Rattle.poets_syntax.specs.Studied.{marks_of}
 use Rattle.poets_syntax.specs.Residual.{after, residual_after}
-use Rattle.poets_syntax.specs.Width.{width}
+use Rattle.poets_syntax.specs.Width.{width, widest}
 use Rattle.poets_residue.proofs.WholeResiduals.{IsWhole-after_at}
 use Rattle.poets_residue.proofs.Traces.{residual_after-more}
 use Rattle.poets_cons.specs.declared.node.Node.{Node}
@@ -24,7 +24,7 @@ use Rattle.poets_call.specs.declared.rules.Rules.{Rules}
 use Rattle.poets_call.specs.Rules.{book_of_rules, reports_of_rules}
 use Rattle.poets_call.specs.Plain.{Command, Reply}
 use Rattle.poets_call.specs.Ledger.{Ledger, contract_named, number_in, trace, is_ended, late_day}
-use Rattle.poets_call.specs.Replies.{Transmits, Records, widest}
+use Rattle.poets_call.specs.Replies.{Transmits, Records}
 use Rattle.poets_call.specs.Taken.{IsTaken}
 use Rattle.poets_call.proofs.TypedCommands.{typed_event}
 use Rattle.poets_engine.specs.Store.{StoreView}

@@ -15,7 +15,7 @@ use Rattle.poets_syntax.specs.WellFormed.{IsWellFormed, IsDeclaredEvent}
 use Rattle.poets_syntax.specs.Whole.{IsWholeContract, IsWholeBook}
 use Rattle.poets_syntax.specs.Marks.{Hopeful}
 use Rattle.poets_syntax.specs.Residual.{residual_after}
-use Rattle.poets_syntax.specs.Width.{width}
+use Rattle.poets_syntax.specs.Width.{width, widest}
 use Rattle.poets_cons.specs.declared.node.Node.{Node}
 use Rattle.poets_cons.specs.Table.{contract_of_rows}
 use Rattle.poets_report.specs.Reports.{report_of}
@@ -26,7 +26,7 @@ use Rattle.poets_call.specs.Rules.{book_of_rules, reports_of_rules}
 use Rattle.poets_call.specs.Plain.{Entry}
 use Rattle.poets_call.specs.Calls.{Call, calls_of}
 use Rattle.poets_call.specs.Ledger.{Ledger, ledger_of, events, trace, is_ended}
-use Rattle.poets_call.specs.Replies.{report_in, widest}
+use Rattle.poets_call.specs.Replies.{report_in}
 use Rattle.poets_call.specs.Histories.{IsLegal}
 use Rattle.poets_engine.specs.Store.{StoreView}
 

@@ -2,8 +2,8 @@
 ghost use Rattle.std.specs.Prelude.{◌≡◌, nat_lt};
 ghost use Rattle.poets_syntax.specs.Applied.{CountsFit};
 ghost use Rattle.poets_syntax.specs.Book.{book_of};
+ghost use Rattle.poets_syntax.specs.Width.{widest};
 ghost use Rattle.poets_call.specs.Calls.{reply_of};
-ghost use Rattle.poets_call.specs.Replies.{widest};
 ghost use Rattle.poets_cons.specs.Row.{contract_by, row_of};
 ghost use Rattle.poets_cons.specs.Table.{contract_at, contract_of_rows};
 ghost use Rattle.poets_engine.specs.code.Judgements.{KeptFits, judgement_of};
@@ -13,10 +13,7 @@ ghost use Rattle.poets_engine.specs.code.Judgements as judgements;
 use poets_call::Reply;
 use poets_cons::{Node, Rows};
 use poets_residue::wide_rows;
-use poets_syntax::Studied;
-
-/// The greatest width of a contract that is kept.
-const WIDEST: u64 = 1000;
+use poets_syntax::{Studied, WIDEST};
 
 /// A refusal, or a contract that is kept.
 #[derive(Drop)]

@@ -6,6 +6,7 @@ use Rattle.poets_lex.specs.declared.token.Sign.{Sign}
 use Rattle.poets_lex.specs.declared.token.Sign.TheVariants as S
 use Rattle.poets_lex.specs.declared.token.Tok.{Tok}
 use Rattle.poets_lex.specs.declared.token.Tok.TheVariants as K
+use Rattle.poets_grammar.specs.declared.limits.TheConstants.{MOST_OPEN, MOST_OPERATORS}
 
 -- ---- brackets
 
@@ -57,10 +58,10 @@ operators tokens = count_by is_operator tokens
 -- ---- the limits
 
 abbrev pub most_open : ℕ
-most_open = 200
+most_open = MOST_OPEN
 
 abbrev pub most_operators : ℕ
-most_operators = 1000
+most_operators = MOST_OPERATORS
 
 -- more than 200 brackets are open after some of the first tokens, or there are more than 1,000 operators
 pub data IsTooDeep (tokens : List Tok) : Type 0 where

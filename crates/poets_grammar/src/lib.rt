@@ -3,3 +3,6 @@
 
 mod examples;
 pub mod laws;
+mod limits;
+
+pub use limits::{MOST_OPEN, MOST_OPERATORS};

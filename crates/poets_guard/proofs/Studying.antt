@@ -18,7 +18,7 @@ use Rattle.poets_syntax.specs.Marks.{Marks, AreRight, Nullable, Hopeful, BodySat
 use Rattle.poets_syntax.specs.Applied.{BodiesFit}
 use Rattle.poets_syntax.specs.Guarded.{UnguardedEdge, IsPath, IsCycle, IsGuarded}
 use Rattle.poets_syntax.specs.Typed.{is_among}
-use Rattle.poets_syntax.specs.Width.{wide_by, body_in, width}
+use Rattle.poets_syntax.specs.Width.{wide_by, body_in, width, cut}
 use Rattle.poets_syntax.specs.Studied.{marks_in, IsRightMark, IsStudiedBook}
 use Rattle.poets_syntax.specs.Plain as plain
 use Rattle.poets_syntax.proofs.Replacing.{truth}
@@ -29,7 +29,7 @@ use Rattle.poets_syntax.proofs.Unfolded.{width-unfolded}
 use Rattle.poets_guard.specs.declared.graph.Node.{Node}
 use Rattle.poets_guard.specs.code.Endings.{ends, MayEnd, IsExact}
 use Rattle.poets_guard.specs.FirstCycle.{IsFirstOf, IsFirstCycle}
-use Rattle.poets_guard.specs.code.Graph.{cut, own, exposures, held, holding, IsGraph, HasEdge}
+use Rattle.poets_guard.specs.code.Graph.{own, exposures, held, holding, IsGraph, HasEdge}
 use Rattle.poets_guard.specs.code.Marked.{IsMarked}
 use Rattle.poets_guard.specs.code.Searched.{HasNodesOf}
 use Rattle.poets_guard.specs.code.Walks.{PathsEnd, width_at, IsWidthOf, HasWidth}

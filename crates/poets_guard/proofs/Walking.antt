@@ -19,7 +19,8 @@ use Rattle.poets_syntax.specs.Typed.{is_among}
 use Rattle.poets_syntax.proofs.Guarding.{further}
 use Rattle.poets_syntax.proofs.Replacing.{truth}
 use Rattle.poets_guard.specs.declared.graph.Node.{Node}
-use Rattle.poets_guard.specs.code.Graph.{cut, HasEdge}
+use Rattle.poets_syntax.specs.Width.{cut}
+use Rattle.poets_guard.specs.code.Graph.{HasEdge}
 use Rattle.poets_guard.specs.code.Walks.{HasCycle, PathsEnd, width_at, IsWidthOf, HasWidth, HaveWidths, AllReach, HaveSameNames}
 use Rattle.poets_guard.proofs.Places.{name_cmp-same, same_name-self}
 use Rattle.poets_guard.proofs.Marking.{either_true, or_second, said}

@@ -5,17 +5,18 @@ ghost use Rattle.poets_value.specs.Names.{name_cmp};
 ghost use Rattle.poets_syntax.specs.Contract.{contract_of};
 ghost use Rattle.poets_syntax.specs.Book.{book_of};
 ghost use Rattle.poets_syntax.specs.Checked.{IsChecked};
+ghost use Rattle.poets_syntax.specs.Width.{cut};
 ghost use Rattle.poets_guard.specs.code.Endings.{ends};
-ghost use Rattle.poets_guard.specs.code.Graph.{cut, exposures, IsGraph};
+ghost use Rattle.poets_guard.specs.code.Graph.{exposures, IsGraph};
 ghost use Rattle.poets_guard.specs.code.Graph as spec;
 
-use poets_syntax::{Book, Term, size};
+use poets_syntax::{Book, Term, WIDEST, size};
 use poets_value::{List, Memory, Name, push};
 use std::alloc::Global;
 use std::collections::{BTreeMap, BTreeSet};
 
 // One more than the greatest width that a kept residual has.
-const CUT: u64 = 1001;
+const CUT: u64 = WIDEST + 1;
 
 // The sum of two widths, cut.
 pub(crate) fn add(a: u64, b: u64) -> u64

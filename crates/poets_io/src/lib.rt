@@ -15,4 +15,4 @@ pub use std_io::{StdSink, StdSource};
 pub use stream::{Sink, Source};
 pub use sure::{SureSink, SureSource};
 pub use text::{TextSink, TextSource};
-pub use whole::{read_up_to, write_all};
+pub use whole::{BLOCK, read_up_to, write_all};

@@ -2,18 +2,16 @@
 ghost use Rattle.std.specs.Prelude.{◌≡◌, Some, ◌+◌, ◌<◌, ◌≤◌, ◌↔◌, ◌⊎◌, [], ◌++◌, length, take, drop, min, IfOk, OnOk, OnErr, IsErr};
 ghost use Rattle.std.specs.Io.{ReadsAtMost, WritesAtMost};
 ghost use Rattle.std.specs.Io.KnownBytes.{ReadConsumes, WriteAppends};
+ghost use Rattle.poets_value.specs.Limits.{longest_text};
 ghost use Rattle.poets_io.specs.Causes.{HasCause};
 ghost use Rattle.poets_io.specs.States.{NextFails, new_plan, after_call, after_fault};
 
 use crate::bytes::Bytes;
 use crate::plan::Plan;
 use crate::{Failed, Sink, Source};
-use poets_value::{List, Memory};
+use poets_value::{LONGEST_TEXT, List, Memory};
 use std::alloc::Global;
 use std::marker::Model;
-
-/// The bytes that a `TextSink` has room for.
-const ROOM: usize = 16_777_216;
 
 /// A source that gives a text by steps, and fails at the calls named.
 #[derive(Drop)]
@@ -85,13 +83,14 @@ pub struct TextSink {
 
 impl Model for TextSink {
     ghost use Rattle.std.specs.Prelude.{◌≤◌, vec_len, vec_capacity};
+    ghost use Rattle.poets_value.specs.Limits.{longest_text};
     ghost use Rattle.poets_io.specs.States.{TextHeld};
 
     ghost Value = { TextHeld };
 
     ghost view = { λ s. record { held = s.held.items; plan = s.plan } };
 
-    ghost invariant = { λ s. (vec_len s.held ≤ 16777216) × (16777216 ≤ vec_capacity s.held) };
+    ghost invariant = { λ s. (vec_len s.held ≤ longest_text) × (longest_text ≤ vec_capacity s.held) };
 }
 
 impl TextSink {
@@ -101,7 +100,7 @@ impl TextSink {
         ensures plan { IfOk result (λ s. s.plan ≡ new_plan fails.items) }
     {
         Ok(TextSink {
-            held: Vec::with_capacity(alloc, ROOM)?,
+            held: Vec::with_capacity(alloc, LONGEST_TEXT)?,
             plan: Plan::new(fails),
         })
     }
@@ -125,13 +124,13 @@ impl Sink for TextSink {
         ensures some { IfOk result (λ n. 0 < n) }
         ensures bytes { WriteAppends (Some self.old.held) (Some self.new.held) result piece.now }
         ensures cause { HasCause self.old.plan.faults self.new.plan.faults result }
-        ensures fails { IsErr result ↔ (NextFails self.old.plan ⊎ (16777216 < length self.old.held + length piece.now)) }
+        ensures fails { IsErr result ↔ (NextFails self.old.plan ⊎ (longest_text < length self.old.held + length piece.now)) }
         ensures whole { IfOk result (λ n. n ≡ length piece.now) }
         ensures ok { OnOk result (self.new ≡ record self.old { held = self.old.held ++ piece.now; plan = after_call self.old.plan }) }
         ensures err { OnErr result (self.new ≡ record self.old { plan = after_fault self.old.plan }) }
     {
         let fails = self.plan.next_fails();
-        let fits = piece.len() <= ROOM - self.held.len();
+        let fits = piece.len() <= LONGEST_TEXT - self.held.len();
         if fails || !fits || self.held.extend_from_slice(piece).is_err() {
             self.plan.count_fault();
             return Err(Failed);

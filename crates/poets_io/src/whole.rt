@@ -9,7 +9,7 @@ use poets_value::{List, Memory};
 use std::alloc::Global;
 
 /// The most bytes that are asked of a source at once.
-const BLOCK: usize = 65_536;
+pub const BLOCK: usize = 65_536;
 
 /// Writes the whole piece, in as few calls as the sink allows, and in none where it is empty. It stops at the first fault.
 #[tactic(auto, using(crate::proofs::Transfers::transfers))]
@@ -39,7 +39,7 @@ pub fn read_up_to<S: Source>(
     ensures short { IfOk result (λ text. length text.items ≤ limit) }
     ensures whole { IfOk result (λ text. GivesAll (S.left source.old) (S.left source.new) text.items) }
     ensures longer { IsErrOf result ReadFault.TooLong → IfSome (S.left source.old) (λ xs. limit < length xs) }
-    ensures too_long { IsErrOf result ReadFault.TooLong → LosesFront (limit + 1) (limit + 65536) (S.left source.old) (S.left source.new) }
+    ensures too_long { IsErrOf result ReadFault.TooLong → LosesFront (limit + 1) (limit + BLOCK) (S.left source.old) (S.left source.new) }
     ensures stopped { IsErrOf result ReadFault.Failed → LosesFront 0 limit (S.left source.old) (S.left source.new) }
     ensures memory { IsErrOf result ReadFault.Memory → LosesFront 0 limit (S.left source.old) (S.left source.new) }
 {
@@ -49,7 +49,7 @@ pub fn read_up_to<S: Source>(
 
 // A buffer for reads.
 fn new_block(alloc: Global) -> Result<Vec<u8>, Memory>
-    ensures { IfOk result (λ block. length block.items ≡ 65536) }
+    ensures { IfOk result (λ block. length block.items ≡ BLOCK) }
 {
     Ok(vec![in alloc; 0u8; BLOCK]?)
 }

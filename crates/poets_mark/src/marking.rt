@@ -1,5 +1,6 @@
 //! A fault's line with a mark below it.
 ghost use Rattle.std.specs.Prelude.{◌≡◌, ◌≤◌, ◌++◌, length, map, replicate, IfOk, IfSome, IfNone, OnOk, string_bytes};
+ghost use Rattle.poets_value.specs.Limits.{longest_text};
 ghost use Rattle.poets_mark.specs.Marking.{IsFaultSpot, IsMarkOf, IsSomeSession};
 ghost use Rattle.poets_mark.specs.Lines.{text_line, mark_line};
 ghost use Rattle.poets_mark.specs.Lines as spec;
@@ -7,11 +8,8 @@ ghost use Rattle.poets_mark.specs.Lines as spec;
 use crate::places::place_of;
 use crate::spots::{Spot, spot_at};
 use poets_session::{Form, read};
-use poets_value::Memory;
+use poets_value::{LONGEST_TEXT, Memory};
 use std::alloc::Global;
-
-// The most bytes of a session.
-const LONGEST: usize = 16_777_216;
 
 // How much of a line is shown before its mark, and from there on.
 const BEFORE: usize = 20;
@@ -20,7 +18,7 @@ const AFTER: usize = 80;
 
 // Where the first fault of the text stands, as a session of the form. None where the text is a session.
 fn fault_spot(alloc: Global, text: &[u8], form: Form) -> Result<Option<Spot>, Memory>
-    requires { length text.now ≤ 16_777_216 }
+    requires { length text.now ≤ longest_text }
     ensures fault { IfOk result (λ found. IfSome found (IsFaultSpot text.now form)) }
     ensures none { IfOk result (λ found. IfNone found (IsSomeSession text.now form)) }
 {
@@ -88,10 +86,10 @@ fn place_line(alloc: Global, spot: &Spot) -> Result<String, Memory>
 /// Where the first fault of the text stands, as a session of the form: its line and its column, counted from 1, the part of
 /// the line around it, and a mark below its first byte. None where the text is a session, or is longer than one may be.
 pub fn mark_of(alloc: Global, text: &[u8], form: Form) -> Result<Option<String>, Memory>
-    ensures none { IfOk result (λ found. IfNone found (length text.now ≤ 16_777_216 → IsSomeSession text.now form)) }
+    ensures none { IfOk result (λ found. IfNone found (length text.now ≤ longest_text → IsSomeSession text.now form)) }
     ensures some { IfOk result (λ found. IfSome found (λ lines. IsMarkOf text.now form (string_bytes lines))) }
 {
-    if text.len() > LONGEST {
+    if text.len() > LONGEST_TEXT {
         return Ok(None);
     }
     let Some(spot) = fault_spot(alloc, text, form)? else {

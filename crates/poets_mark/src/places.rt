@@ -1,5 +1,6 @@
 //! The places of faults.
 ghost use Rattle.std.specs.Prelude.{◌≡◌, [], ◌<◌, ◌≤◌, ◌+◌, ◌-◌, length, take, drop, unwrap_or, IfOk, IfSome, IfNone};
+ghost use Rattle.poets_value.specs.Limits.{longest_text};
 ghost use Rattle.poets_session.specs.Pieces as pieces;
 ghost use Rattle.poets_mark.specs.Places.{first_place, statement_tokens, IsBeginOf, IsWithin, IsPlaceOf};
 ghost use Rattle.poets_mark.specs.Places as places;
@@ -78,7 +79,7 @@ fn place_of_first(tokens: &[Token], text: &[u8]) -> usize
 
 // Where the statement with the number begins, or the end of the text where there is none.
 fn begin_of(alloc: Global, text: &[u8], number: u64) -> Result<usize, Memory>
-    requires { length text.now ≤ 16_777_216 }
+    requires { length text.now ≤ longest_text }
     ensures { IfOk result (IsBeginOf text.now number) }
 {
     let mut names = Names::new(alloc);
@@ -92,7 +93,7 @@ fn begin_of(alloc: Global, text: &[u8], number: u64) -> Result<usize, Memory>
 // Where the statement with the number, which is no sentence, ceases to begin one: at the first of its tokens that cannot stand
 // there, or after them all.
 fn stop_of(alloc: Global, text: &[u8], number: u64) -> Result<usize, Memory>
-    requires { length text.now ≤ 16_777_216 }
+    requires { length text.now ≤ longest_text }
     ensures { IfOk result (IsWithin text.now number) }
 {
     let mut names = Names::new(alloc);
@@ -107,7 +108,7 @@ fn stop_of(alloc: Global, text: &[u8], number: u64) -> Result<usize, Memory>
 /// Where a fault of the text stands: the byte that it tells, or the begin of its statement, or of a statement that is no
 /// sentence the first token with which it begins none. Bytes count from 0. `Err` is want of memory, also where the fault is that.
 pub(crate) fn place_of(alloc: Global, text: &[u8], cause: &SessionCause) -> Result<usize, Memory>
-    requires { length text.now ≤ 16_777_216 }
+    requires { length text.now ≤ longest_text }
     ensures { IfOk result (IsPlaceOf text.now cause.now) }
 {
     match cause {

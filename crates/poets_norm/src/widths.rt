@@ -1,17 +1,17 @@
 //! The width of contracts, which bounds the residuals that are kept.
-ghost use Rattle.std.specs.Prelude.{◌≡◌, ◌+◌, ◌&&◌, min, false};
+ghost use Rattle.std.specs.Prelude.{◌≡◌, ◌+◌, ◌&&◌, false};
 ghost use Rattle.poets_syntax.specs.Applied.{CountsFit};
 ghost use Rattle.poets_syntax.specs.Book.{book_of, template_in};
 ghost use Rattle.poets_syntax.specs.Contract.{contract_of};
 ghost use Rattle.poets_syntax.specs.Marks.{nullable};
 ghost use Rattle.poets_syntax.specs.Studied.{marks_of};
-ghost use Rattle.poets_syntax.specs.Width.{body_in, wide_by, width};
+ghost use Rattle.poets_syntax.specs.Width.{body_in, cut, wide_by, width};
 ghost use Rattle.poets_syntax.specs.Width as spec;
 
-use poets_syntax::{Studied, Term, size};
+use poets_syntax::{Studied, Term, WIDEST, size};
 
 // One more than the greatest width that a kept residual has.
-const CUT: u64 = 1001;
+const CUT: u64 = WIDEST + 1;
 
 // The width of a contract, cut, and whether the empty trace performs it.
 #[derive(Clone, Copy)]
@@ -22,7 +22,7 @@ struct Measured {
 
 // A contract that exposes no application, and is not nullable.
 fn unexposed(term: &Term) -> Measured
-    ensures wide { result.wide ≡ min (spec.size (contract_of term.now)) 1001 }
+    ensures wide { result.wide ≡ cut (spec.size (contract_of term.now)) }
     ensures nullable { result.nullable ≡ false }
 {
     Measured {
@@ -33,14 +33,14 @@ fn unexposed(term: &Term) -> Measured
 
 // One node and its two parts, cut.
 fn node(a: u64, b: u64) -> u64
-    ensures { result ≡ min (1 + a + b) 1001 }
+    ensures { result ≡ cut (1 + a + b) }
 {
     a.saturating_add(b).saturating_add(1).min(CUT)
 }
 
 // Two parts that must both be performed.
 fn both(a: Measured, b: Measured) -> Measured
-    ensures wide { result.wide ≡ min (1 + a.wide + b.wide) 1001 }
+    ensures wide { result.wide ≡ cut (1 + a.wide + b.wide) }
     ensures nullable { result.nullable ≡ (a.nullable && b.nullable) }
 {
     Measured {
@@ -51,7 +51,7 @@ fn both(a: Measured, b: Measured) -> Measured
 
 // Measures a contract. The body of a template counts as its mark says.
 fn measure(studied: &Studied, term: &Term) -> Measured
-    ensures wide { result.wide ≡ min (wide_by (λ f. body_in (template_in (book_of studied.now.book).templates f) (width (book_of studied.now.book) (marks_of studied.now))) (marks_of studied.now) (contract_of term.now)) 1001 }
+    ensures wide { result.wide ≡ cut (wide_by (λ f. body_in (template_in (book_of studied.now.book).templates f) (width (book_of studied.now.book) (marks_of studied.now))) (marks_of studied.now) (contract_of term.now)) }
     ensures nullable { result.nullable ≡ nullable (marks_of studied.now) (contract_of term.now) }
 {
     match term {
@@ -86,10 +86,10 @@ fn measure(studied: &Studied, term: &Term) -> Measured
     }
 }
 
-/// The width of the contract, cut at 1,001.
+/// The width of the contract, cut at one more than the greatest.
 pub fn wide(studied: &Studied, term: &Term) -> u64
     requires { CountsFit (book_of studied.now.book) (contract_of term.now) }
-    ensures { result ≡ min (width (book_of studied.now.book) (marks_of studied.now) (contract_of term.now)) 1001 }
+    ensures { result ≡ cut (width (book_of studied.now.book) (marks_of studied.now) (contract_of term.now)) }
 {
     let _book = studied.book();
     measure(studied, term).wide

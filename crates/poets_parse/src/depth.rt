@@ -4,13 +4,8 @@ ghost use Rattle.poets_grammar.specs.Tokens.{toks};
 ghost use Rattle.poets_grammar.specs.TooDeep.{IsTooDeep, open_at_end};
 ghost use Rattle.poets_grammar.specs.TooDeep as depth;
 
+use poets_grammar::{MOST_OPEN, MOST_OPERATORS};
 use poets_lex::{Sign, Tok, Token, Word};
-
-// No statement has more brackets open at one place.
-const MOST_OPEN: usize = 200;
-
-// No statement has more operators.
-const MOST_OPERATORS: usize = 1000;
 
 fn is_operator_sign(sign: Sign) -> bool
     ensures { result ≡ depth.is_operator_sign sign }

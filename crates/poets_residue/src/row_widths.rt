@@ -1,20 +1,21 @@
 //! The width of contracts as rows. No more rows are looked at than the cut has units.
-ghost use Rattle.std.specs.Prelude.{◌≡◌, ◌+◌, ◌-◌, ◌≤◌, ◌<◌, false, length, map, min};
+ghost use Rattle.std.specs.Prelude.{◌≡◌, ◌+◌, ◌-◌, ◌≤◌, ◌<◌, false, length, map};
 ghost use Rattle.poets_expr.specs.Expression.{expression_of};
 ghost use Rattle.poets_expr.specs.Size.{nodes_of_all};
 ghost use Rattle.poets_syntax.specs.Applied.{CountsFit};
 ghost use Rattle.poets_syntax.specs.Book.{book_of, template_in};
 ghost use Rattle.poets_syntax.specs.Marks as marks;
 ghost use Rattle.poets_syntax.specs.Studied.{marks_of};
-ghost use Rattle.poets_syntax.specs.Width.{size, body_in, wide_by, width};
+ghost use Rattle.poets_syntax.specs.Width.{size, body_in, wide_by, width, widest};
+ghost use Rattle.poets_syntax.specs.Width as spec;
 ghost use Rattle.poets_cons.specs.Table.{contract_at, contract_of_rows, IsTable};
 
 use poets_cons::{Node, Rows, node_at};
 use poets_expr::Expr;
-use poets_syntax::Studied;
+use poets_syntax::{Studied, WIDEST};
 
 // One more than the greatest width that a kept residual has.
-const CUT: u64 = 1001;
+const CUT: u64 = WIDEST + 1;
 
 // What is left of a number when the width of a row is taken off; where something is, also
 // whether the empty trace performs the row.
@@ -75,7 +76,7 @@ fn unexposed(nodes: &[Node], place: usize, left: u64) -> Measured
 fn measure(studied: &Studied, nodes: &[Node], place: usize, left: u64) -> Measured
     requires table { IsTable nodes.now }
     requires within { place < length nodes.now }
-    requires cut { left ≤ 1001 }
+    requires cut { left ≤ 1 + widest }
     ensures left { result.left ≡ left - wide_by (λ f. body_in (template_in (book_of studied.now.book).templates f) (width (book_of studied.now.book) (marks_of studied.now))) (marks_of studied.now) (contract_at nodes.now place) }
     ensures nullable { 0 < result.left → result.nullable ≡ marks.nullable (marks_of studied.now) (contract_at nodes.now place) }
 {
@@ -127,10 +128,10 @@ fn measure(studied: &Studied, nodes: &[Node], place: usize, left: u64) -> Measur
     }
 }
 
-/// The width of the contract of the rows, cut at 1,001.
+/// The width of the contract of the rows, cut at one more than the greatest.
 pub fn wide_rows(studied: &Studied, rows: &Rows) -> u64
     requires { CountsFit (book_of studied.now.book) (contract_of_rows rows.now) }
-    ensures { result ≡ min (width (book_of studied.now.book) (marks_of studied.now) (contract_of_rows rows.now)) 1001 }
+    ensures { result ≡ spec.cut (width (book_of studied.now.book) (marks_of studied.now) (contract_of_rows rows.now)) }
 {
     // The book is checked and guarded, and the marks are right.
     let _book = studied.book();

@@ -1,8 +1,10 @@
 -- Where statements may stand, and how many of them.
 use Rattle.std.specs.Prelude.{ℕ, ◌+◌, Bool, true, false, ◌||◌, not, nat_le, nat_lt, List, [], ◌∷◌, ◌++◌, length, Option, Some, None, is_some, fold, option_and_then, if◌then◌else◌, count_by}
+use Rattle.poets_value.specs.Limits.{most_clerks}
 use Rattle.poets_call.specs.Said.{Statement, Agents, Kinds, Template, Report, Clerk, Journal, Command, Numbered}
 use Rattle.poets_session.specs.declared.form.Form.{Form}
 use Rattle.poets_session.specs.declared.form.Form.TheVariants as F
+use Rattle.poets_session.specs.declared.counting.TheConstants.{MOST_TEMPLATES, MOST_REPORTS, MOST_COMMANDS}
 
 -- a part of a session
 pub data Part : Type 0 where
@@ -53,18 +55,15 @@ is_command (Command command) = true
 is_command (Numbered clerk command) = true
 is_command s = false
 
--- the most clerks, templates, reports and commands
-abbrev pub most_clerks : ℕ
-most_clerks = 64
-
+-- the most templates, reports and commands
 abbrev pub most_templates : ℕ
-most_templates = 256
+most_templates = MOST_TEMPLATES
 
 abbrev pub most_reports : ℕ
-most_reports = 256
+most_reports = MOST_REPORTS
 
 abbrev pub most_commands : ℕ
-most_commands = 65_536
+most_commands = MOST_COMMANDS
 
 -- so many of a kind, or more, stand among the statements
 abbrev pub has_all : ℕ → (Statement → Bool) → List Statement → Bool

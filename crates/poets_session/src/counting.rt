@@ -8,8 +8,7 @@ ghost use Rattle.poets_session.specs.code.Counting.{part_of, fault_of, AreCounte
 
 use crate::Form;
 use poets_call::Statement;
-
-const MOST_CLERKS: u64 = 64;
+use poets_value::MOST_CLERKS;
 
 const MOST_TEMPLATES: u64 = 256;
 

@@ -1,6 +1,7 @@
 //! Reading a text as a session.
 ghost use Rattle.std.specs.Prelude.{◌≡◌, ◌≤◌, length, [], IfOk, IfErr};
 ghost use Rattle.std.specs.Prelude as prelude;
+ghost use Rattle.poets_value.specs.Limits.{longest_text};
 ghost use Rattle.poets_call.specs.Statements.{statements_of};
 ghost use Rattle.poets_call.specs.Said as said;
 ghost use Rattle.poets_session.specs.Sessions.{IsReadAs, IsSession, Represents};
@@ -21,7 +22,7 @@ fn read_statements(
     text: &[u8],
     names: &mut Names,
 ) -> Result<List<Statement>, SessionCause>
-    requires short { length text.now ≤ 16_777_216 }
+    requires short { length text.now ≤ longest_text }
     requires empty { names.old ≡ [] }
     ensures read { IfOk result (λ found. IsReadAs text.now names.new (statements_of found.items)) }
     ensures unreadable { IfErr result (IsCauseOf (IsUnreadable text.now names.new)) }
@@ -33,9 +34,9 @@ fn read_statements(
 /// Reads a text as a session of the form, phase by phase: tokens, statements, their places, declared names,
 /// types, and guardedness. The fault is that of the first phase that fails, and in it of the least statement.
 ///
-/// The rules are those of `docs/LANGUAGE.md`. A text has at most 16,777,216 bytes.
+/// The rules are those of `docs/LANGUAGE.md`.
 pub fn read(alloc: Global, text: &[u8], form: Form) -> Result<Session, SessionFault>
-    requires { length text.now ≤ 16_777_216 }
+    requires { length text.now ≤ longest_text }
     ensures session { IfOk result (λ s. (statements : prelude.List said.Statement) × IsSession text.now form s.names statements × Represents statements s) }
     ensures refused { IfErr result (IsFirstFault text.now form) }
 {

@@ -1,6 +1,7 @@
 //! Scripts over an adder, which is given the amount 5 each time, with gates and without.
 ghost use Rattle.std.specs.Prelude.{◌≡◌, ◌<◌, ◌≤◌, length, All, IfOk};
 ghost use Rattle.std.specs.Arc.{arc_value};
+ghost use Rattle.poets_value.specs.Limits.{most_clerks};
 
 use poets_clerks::{Done, Gate, NoGate, WorkedOf, make_history, work};
 use poets_machine::Adder;
@@ -61,7 +62,7 @@ fn run_scripts<G: Gate + Sync, R: Threads + Wait + Sync>(
     calls: usize,
     gate: &G,
 ) -> Result<Outcome, Fail>
-    requires { (0 < count) × (count ≤ 64) }
+    requires { (0 < count) × (count ≤ most_clerks) }
 {
     let amount = Arc::new(alloc, 5)?;
     let scripts = scripts(alloc, count as usize, calls, &amount)?;

@@ -1,6 +1,7 @@
 //! Clerks at a turnstile over an engine.
 ghost use Rattle.std.specs.Prelude.{◌≡◌, ◌<◌, ◌≤◌, [], length, All, IfOk};
 ghost use Rattle.std.specs.Arc.{arc_value};
+ghost use Rattle.poets_value.specs.Limits.{most_clerks};
 ghost use Rattle.poets_call.specs.Calls.{command_of};
 ghost use Rattle.poets_turn.specs.Clerks.{AreNumbered, IsClerkOf, clerk_count, number};
 ghost use Rattle.poets_shared.specs.code.Sharing.{IsScriptTakenByAll, IsTakenByAll, rules_of};
@@ -39,7 +40,7 @@ fn new_engine(alloc: Global) -> Result<Engine, Fail>
 }
 
 fn opened(alloc: Global, clerks: u32) -> Result<(Turn<Engine>, List<Clerk<Engine>>), Fail>
-    requires { (0 < clerks) × (clerks ≤ 64) }
+    requires { (0 < clerks) × (clerks ≤ most_clerks) }
     ensures turn { IfOk result (λ r. clerk_count r.0 ≡ clerks) }
     ensures clerks { IfOk result (λ r. (length r.1.items ≡ clerks) × AreNumbered r.1.items × All (λ c. IsClerkOf rules_of r.0 c) r.1.items) }
 {

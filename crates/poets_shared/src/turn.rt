@@ -1,6 +1,7 @@
 //! Clerks at a turnstile over an adder.
 ghost use Rattle.std.specs.Prelude.{◌≡◌, ◌<◌, ◌≤◌, [], length, All, IfOk};
 ghost use Rattle.std.specs.Thread.{IsSync};
+ghost use Rattle.poets_value.specs.Limits.{most_clerks};
 ghost use Rattle.poets_machine.specs.code.Adders.{most_of};
 ghost use Rattle.poets_turn.specs.Clerks.{AreNumbered, IsClerkOf, clerk_count, number, turn_frame};
 
@@ -15,7 +16,7 @@ use std::thread;
 use std::thread::Threads;
 
 fn opened(alloc: Global, clerks: u32) -> Result<(Turn<Adder>, List<Clerk<Adder>>), Fail>
-    requires { (0 < clerks) × (clerks ≤ 64) }
+    requires { (0 < clerks) × (clerks ≤ most_clerks) }
     ensures turn { IfOk result (λ r. (clerk_count r.0 ≡ clerks) × (turn_frame most_of r.0 ≡ 79)) }
     ensures clerks { IfOk result (λ r. (length r.1.items ≡ clerks) × AreNumbered r.1.items × All (λ c. IsClerkOf most_of r.0 c) r.1.items) }
 {

@@ -1,5 +1,5 @@
 -- Books that were studied: checked and guarded, with right marks.
-use Rattle.std.specs.Prelude.{◌≡◌, min, Bool, false, List, ◌∷◌, IsTrue, ◌↔◌, if◌then◌else◌}
+use Rattle.std.specs.Prelude.{◌≡◌, Bool, false, List, ◌∷◌, IsTrue, ◌↔◌, if◌then◌else◌}
 use Rattle.std.specs.List.{AllZip}
 use Rattle.poets_value.specs.declared.value.Name.{Name}
 use Rattle.poets_expr.specs.Env.{same_name}
@@ -10,7 +10,7 @@ use Rattle.poets_syntax.specs.Book.{book_of}
 use Rattle.poets_syntax.specs.Checked.{IsChecked}
 use Rattle.poets_syntax.specs.Guarded.{IsGuarded}
 use Rattle.poets_syntax.specs.Marks.{Marks, Nullable, Hopeful}
-use Rattle.poets_syntax.specs.Width.{width}
+use Rattle.poets_syntax.specs.Width.{width, cut}
 use Rattle.poets_syntax.specs.Plain as plain
 
 -- a book, and the marks of its templates in their order
@@ -34,11 +34,11 @@ marks_in templates marks = record {
 abbrev pub marks_of : StudiedBook → Marks
 marks_of s = marks_in (book_of s.book).templates s.marks
 
--- what a mark says of a template's body is so; its width is cut at 1,001
+-- what a mark says of a template's body is so; its width is cut at one more than the greatest
 pub record IsRightMark (book : plain.Book) (marks : Marks) (t : Template) (m : Mark) : Type 0 where
   pub nullable : IsTrue m.nullable ↔ Nullable book t.body
   pub hopeful : IsTrue m.hopeful ↔ Hopeful book t.body
-  pub wide : m.wide ≡ min (width book marks t.body) 1001
+  pub wide : m.wide ≡ cut (width book marks t.body)
 
 -- the book is checked and guarded, and each template's mark is right
 pub record IsStudiedBook (book : plain.Book) (marks : List Mark) : Type 0 where

@@ -1,11 +1,12 @@
 -- The size of a contract, and its width: the size, where exposed applications count with the bodies of their templates.
-use Rattle.std.specs.Prelude.{ℕ, zero, suc, ◌+◌, Option, Some, None, length, if◌then◌else◌}
+use Rattle.std.specs.Prelude.{ℕ, zero, suc, ◌+◌, min, Option, Some, None, length, if◌then◌else◌}
 use Rattle.poets_value.specs.declared.value.Name.{Name}
 use Rattle.poets_expr.specs.Size.{nodes, nodes_of_all}
 use Rattle.poets_syntax.specs.Contract.{Contract, Success, Failure, Transmit, Plus, Par, Seq, App}
 use Rattle.poets_syntax.specs.Plain.{Book, Template}
 use Rattle.poets_syntax.specs.Book.{template_in}
 use Rattle.poets_syntax.specs.Marks.{Marks, nullable}
+use Rattle.poets_syntax.specs.declared.sizes.TheConstants.{WIDEST}
 
 -- each node of the contract and of its expressions counts 1; binders count nothing
 abbrev pub size : Contract → ℕ
@@ -40,3 +41,11 @@ wide_at (suc d) book marks c = wide_by (λ f. body_in (template_in book.template
 -- the width: in a guarded book no more unfoldings than templates stand in a row
 abbrev pub width : Book → Marks → Contract → ℕ
 width book marks c = wide_at (length book.templates) book marks c
+
+-- the greatest width of a contract that is kept
+abbrev pub widest : ℕ
+widest = WIDEST
+
+-- a measured width is cut at one more
+abbrev pub cut : ℕ → ℕ
+cut n = min n (1 + widest)

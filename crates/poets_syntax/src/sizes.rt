@@ -8,6 +8,9 @@ ghost use Rattle.poets_syntax.specs.Width as width;
 use crate::term::Term;
 use poets_expr::Expr;
 
+/// The greatest width of a contract that is kept.
+pub const WIDEST: u64 = 1000;
+
 // One node and its two parts.
 fn node(a: u64, b: u64) -> u64
     ensures { result ≡ min (1 + a + b) (2 ^ 64 - 1) }

@@ -1,12 +1,12 @@
 //! Books that were studied.
-ghost use Rattle.std.specs.Prelude.{◌≡◌, min, false, map, option_map, IfOk, IfSome};
+ghost use Rattle.std.specs.Prelude.{◌≡◌, false, map, option_map, IfOk, IfSome};
 ghost use Rattle.std.specs.List.{IsDistinct};
 ghost use Rattle.std.specs.Option.{option_map_or};
 ghost use Rattle.poets_expr.specs.Env.{same_name};
 ghost use Rattle.poets_syntax.specs.Book.{template_of, book_of, template_in};
 ghost use Rattle.poets_syntax.specs.Contract.{contract_of};
 ghost use Rattle.poets_syntax.specs.Studied.{IsStudiedBook, marks_of};
-ghost use Rattle.poets_syntax.specs.Width.{width};
+ghost use Rattle.poets_syntax.specs.Width.{width, cut};
 
 use crate::term::{Book, Template};
 use indexmap::IndexSet;
@@ -21,7 +21,7 @@ pub struct Mark {
     pub nullable: bool,
     /// Some number of granted steps performs it.
     pub hopeful: bool,
-    /// Its width, cut at 1,001.
+    /// Its width, cut at one more than the greatest.
     pub wide: u64,
 }
 
@@ -100,7 +100,7 @@ impl Studied {
         ensures nullable { option_map_or (λ p. p.1.now.nullable) result false ≡ (marks_of self.now).nullable name }
         ensures hopeful { option_map_or (λ p. p.1.now.hopeful) result false ≡ (marks_of self.now).hopeful name }
         ensures wide { IfSome result (λ p. p.1.now.wide
-            ≡ min (width (book_of self.now.book) (marks_of self.now) (contract_of p.0.now.body)) 1001) }
+            ≡ cut (width (book_of self.now.book) (marks_of self.now) (contract_of p.0.now.body))) }
     {
         let place = self.names.get_index_of(&name)?;
         let templates = self.book.templates.as_slice();

@@ -6,14 +6,15 @@ use Rattle.std.specs.declared.sync.Arc.{Arc}
 use Rattle.std.specs.Arc.{arc_value}
 use Rattle.poets_value.specs.Listed.{Listed}
 use Rattle.poets_value.specs.declared.event.Event.{Event}
+use Rattle.poets_table.specs.declared.events.TheConstants.{PIECE_LENGTH, MOST_PIECES}
 
 -- how many events a sealed piece has
 abbrev pub piece_length : ℕ
-piece_length = 256
+piece_length = PIECE_LENGTH
 
 -- so many sealed pieces can be counted in a word
 abbrev pub most_pieces : ℕ
-most_pieces = 18_014_398_509_481_983
+most_pieces = MOST_PIECES
 
 -- the events of shared pieces
 abbrev pub pieces_of : List (Arc (Listed Event) Global) → List (List Event)

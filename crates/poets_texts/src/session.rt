@@ -1,10 +1,11 @@
 //! Texts read, and statements checked, with ample memory.
 ghost use Rattle.std.specs.Prelude.{◌≤◌, length};
+ghost use Rattle.poets_value.specs.Limits.{longest_text};
 
 use crate::names::names_of;
 use poets_call::Statement;
 use poets_session::{Form, SessionFault, fault_text, read, session_of};
-use poets_value::{List, Memory, Name, push};
+use poets_value::{LONGEST_TEXT, List, Memory, Name, push};
 use std::alloc::Global;
 use std::process::Abort;
 use std::test::Fail;
@@ -13,7 +14,7 @@ const TWO_CLERKS: &[u8] = b"agents a;; clerk;; register x = Success;; show x;; c
 
 // The number of scripts of a session of clerks.
 fn scripts_in(alloc: Global, text: &[u8]) -> Result<usize, SessionFault>
-    requires { length text.now ≤ 16_777_216 }
+    requires { length text.now ≤ longest_text }
 {
     Ok(read(alloc, text, Form::Clerks)?.scripts.len())
 }
@@ -31,7 +32,7 @@ fn each_clerk_has_a_script(rt: HostRuntime) -> Result<(), Memory> {
 
 // The line of the text's first fault, and no bytes for a session of the form.
 fn line_of(alloc: Global, text: &[u8], form: Form) -> Result<String, Memory> {
-    if text.len() > 16_777_216 {
+    if text.len() > LONGEST_TEXT {
         return Ok(String::new(alloc));
     }
     match read(alloc, text, form) {

@@ -9,6 +9,7 @@ use Rattle.poets_demo.specs.Text.{demo_text}
 use Rattle.poets_session.specs.declared.form.Form.TheVariants as F
 use Rattle.poets_session.specs.Sessions.{IsSession}
 use Rattle.poets_top.specs.Running.{IsHistoryOf}
+use Rattle.poets_top.specs.declared.outcome.TheConstants.{DONE}
 
 -- the demonstration's text is a session of clerks, of which a history was made, and this is the line that sums it up
 pub record IsDemonstrated (sales : ℕ) (h : List Entry) (line : List ℕ) : Type 0 where
@@ -20,7 +21,7 @@ pub record IsDemonstrated (sales : ℕ) (h : List Entry) (line : List ℕ) : Typ
 
 -- what a demonstration asks for: its history, and its line
 pub data IsDemonstration (sales : ℕ) : (status : ℕ) → List Entry → (text : List ℕ) → Type 0 where
-  Demonstrated : {h : List Entry} {line : List ℕ} → IsDemonstrated sales h line → IsDemonstration sales 0 h line
+  Demonstrated : {h : List Entry} {line : List ℕ} → IsDemonstrated sales h line → IsDemonstration sales DONE h line
 
 -- a demonstration was shown: what the sink held before and after, and the history
 pub record HasDemonstrated (sales : ℕ) (held held' : Option (List ℕ)) (h : List Entry) : Type 0 where

@@ -1,5 +1,7 @@
 -- What a run answers, and how it ends.
 use Rattle.std.specs.Prelude.{◌≡◌, ℕ, ◌+◌, ◌≤◌, ◌<◌, ◌⊎◌, List, [], ◌∷◌, ◌++◌, codes, length, Option, Some}
+use Rattle.poets_value.specs.Limits.{longest_text}
+use Rattle.poets_io.specs.declared.whole.TheConstants.{BLOCK}
 use Rattle.poets_io.specs.Causes.{Rose}
 use Rattle.poets_io.specs.Streams.{GivesAll, LosesFront}
 use Rattle.poets_lex.specs.Table.{Table}
@@ -18,14 +20,15 @@ use Rattle.poets_top.specs.Writing.{Stream, HasFailed, IsWritten}
 use Rattle.poets_top.specs.Tasks.{form_of}
 use Rattle.poets_words.specs.declared.mode.Task.{Task}
 use Rattle.poets_words.specs.declared.mode.Task.TheVariants as T
+use Rattle.poets_top.specs.declared.outcome.TheConstants.{DONE, NO_MEMORY, NO_SESSION, READ_FAULT, TOO_LONG}
 
 -- the most bytes of a session
 abbrev pub longest : ℕ
-longest = 16_777_216
+longest = longest_text
 
 -- the most bytes that are read at once
 abbrev pub block : ℕ
-block = 65_536
+block = BLOCK
 
 abbrev pub too_long_text : List ℕ
 too_long_text = codes "refused: longer than 16777216 bytes" ++ 10 ∷ []
@@ -41,9 +44,9 @@ pub data IsAnswerTo (text : Text) (task : Task) : (status : ℕ) → List Entry 
   -- a session
   Made :
       {names : Table} {statements : List Statement} {h : List Entry} {written : List ℕ} →
-      IsSession text (form_of task) names statements → IsMade task names statements h written → IsAnswerTo text task 0 h written
+      IsSession text (form_of task) names statements → IsMade task names statements h written → IsAnswerTo text task DONE h written
   -- no session: the line of its first fault
-  Refused : {names : Table} {r : Refusal} → IsRefused text (form_of task) names r → IsAnswerTo text task 1 [] (refusal_text names r)
+  Refused : {names : Table} {r : Refusal} → IsRefused text (form_of task) names r → IsAnswerTo text task NO_SESSION [] (refusal_text names r)
 
 -- what a source asks for that was like this before the run, and like that after it
 pub data IsResult (task : Task) (source source' : Stream) : (status : ℕ) → List Entry → List ℕ → Type 0 where
@@ -52,7 +55,7 @@ pub data IsResult (task : Task) (source source' : Stream) : (status : ℕ) → L
       {text written : List ℕ} {status : ℕ} {h : List Entry} →
       GivesAll source.bytes source'.bytes text → length text ≤ longest → IsAnswerTo text task status h written → IsResult task source source' status h written
   -- it gave more bytes than a session may have; they come in blocks, so that at most a block too many was taken
-  TooLong : LosesFront (longest + 1) (longest + block) source.bytes source'.bytes → IsResult task source source' 6 [] too_long_text
+  TooLong : LosesFront (longest + 1) (longest + block) source.bytes source'.bytes → IsResult task source source' TOO_LONG [] too_long_text
 
 -- how a run ends, by its source and its sink before and after
 pub data IsEnding (task : Task) (source source' sink sink' : Stream) : (status : ℕ) → List Entry → Type 0 where
@@ -62,7 +65,7 @@ pub data IsEnding (task : Task) (source source' sink sink' : Stream) : (status :
       source'.faults ≡ source.faults → IsWritten (IsResult task source source') sink sink' status h → IsEnding task source source' sink sink' status h
   -- the source failed, and nothing was written
   ReadFailed :
-      HasFailed source source' → LosesFront 0 longest source.bytes source'.bytes → sink' ≡ sink → IsEnding task source source' sink sink' 4 []
+      HasFailed source source' → LosesFront 0 longest source.bytes source'.bytes → sink' ≡ sink → IsEnding task source source' sink sink' READ_FAULT []
 
 -- how a run ends that was asked for a task with a text, or for a demonstration
 pub data Ends (source source' sink sink' : Stream) (status : ℕ) (h : List Entry) : Mode → Type 0 where
@@ -72,19 +75,19 @@ pub data Ends (source source' sink sink' : Stream) (status : ℕ) (h : List Entr
 
 -- the status that a text deserves
 pub data Deserves (task : Task) (text : Text) : (status : ℕ) → Type 0 where
-  OfSession : {names : Table} {statements : List Statement} → length text ≤ longest → IsSession text (form_of task) names statements → Deserves task text 0
-  OfNoSession : length text ≤ longest → IsNoSession text (form_of task) → Deserves task text 1
-  OfTooLong : longest < length text → Deserves task text 6
+  OfSession : {names : Table} {statements : List Statement} → length text ≤ longest → IsSession text (form_of task) names statements → Deserves task text DONE
+  OfNoSession : length text ≤ longest → IsNoSession text (form_of task) → Deserves task text NO_SESSION
+  OfTooLong : longest < length text → Deserves task text TOO_LONG
 
 -- the status that a run deserves: for a task that of the text that the source has left, where it tells it; for a
 -- demonstration 0
 pub data DeservesRun (left : Option Text) : Mode → (status : ℕ) → Type 0 where
   OfTask : {task : Task} {text : Text} {status : ℕ} → left ≡ Some text → Deserves task text status → DeservesRun left (M.Read task) status
-  OfDemo : {sales : ℕ} → DeservesRun left (M.Demo sales) 0
+  OfDemo : {sales : ℕ} → DeservesRun left (M.Demo sales) DONE
 
 -- the status, or that of want of memory
 abbrev pub IsStatusOrMemory : (wanted status : ℕ) → Type 0
-IsStatusOrMemory wanted status = (status ≡ wanted) ⊎ (status ≡ 3)
+IsStatusOrMemory wanted status = (status ≡ wanted) ⊎ (status ≡ NO_MEMORY)
 
 -- neither the source's count of faults rose nor the sink's
 pub record NoFaultRose (read read' write write' : ℕ) : Type 0 where

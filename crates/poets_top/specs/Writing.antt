@@ -6,6 +6,7 @@ use Rattle.poets_io.specs.Streams.{AppendsPart}
 use Rattle.poets_lex.specs.Table.{Table}
 use Rattle.poets_call.specs.Plain.{Entry}
 use Rattle.poets_print.specs.Lines.{history_text}
+use Rattle.poets_top.specs.declared.outcome.TheConstants.{DONE, NO_MEMORY, WRITE_FAULT}
 
 -- a source or a sink: the bytes that it has left or holds, where it tells them, and its count of faults
 pub record Stream : Type 0 where
@@ -30,10 +31,10 @@ pub data IsWritten (Is : (status : ℕ) → List Entry → (text : List ℕ) →
   -- the sink failed: a front of the text was written
   Failed :
       {status : ℕ} {h : List Entry} {text : List ℕ} →
-      Is status h text → AppendsPart sink.bytes sink'.bytes text → HasFailed sink sink' → IsWritten Is sink sink' 5 h
+      Is status h text → AppendsPart sink.bytes sink'.bytes text → HasFailed sink sink' → IsWritten Is sink sink' WRITE_FAULT h
   -- want of memory while the lines of a history are written: a front of them was written, and not all, without a fault
   MemoryBetween :
       {h : List Entry} (names : Table) →
-      Is 0 h (history_text names h) → h ≢ [] → AppendsPart sink.bytes sink'.bytes (history_text names h) → sink'.faults ≡ sink.faults → IsWritten Is sink sink' 3 h
+      Is DONE h (history_text names h) → h ≢ [] → AppendsPart sink.bytes sink'.bytes (history_text names h) → sink'.faults ≡ sink.faults → IsWritten Is sink sink' NO_MEMORY h
   -- want of memory ahead of all writing: nothing was written, and no history is handed out
-  MemoryBefore : sink' ≡ sink → IsWritten Is sink sink' 3 []
+  MemoryBefore : sink' ≡ sink → IsWritten Is sink sink' NO_MEMORY []

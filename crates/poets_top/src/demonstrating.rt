@@ -1,5 +1,6 @@
 //! The word `demo`: eight clerks make the scripts of a text that is made for them.
 ghost use Rattle.std.specs.Prelude.{◌≡◌, ◌≤◌, IfOk, string_bytes};
+ghost use Rattle.poets_value.specs.Limits.{most_sales};
 ghost use Rattle.poets_call.specs.Calls.{history_of};
 ghost use Rattle.poets_top.specs.Demonstrating.{IsDemonstrated, IsDemonstration};
 ghost use Rattle.poets_top.specs.Writing.{IsWritten, stream};
@@ -25,7 +26,7 @@ pub(crate) fn demonstrate<K: Sink, G: Gate + Sync, R: Threads + Wait + Sync>(
     sales: u32,
     gate: &G,
 ) -> Outcome
-    requires { (1 ≤ sales) × (sales ≤ 1000) }
+    requires { (1 ≤ sales) × (sales ≤ most_sales) }
     ensures { IsWritten (IsDemonstration sales) (stream (K.held sink.old) (K.faults sink.old)) (stream (K.held sink.new) (K.faults sink.new))
         result.status (history_of result.history.items) }
 {
@@ -48,7 +49,7 @@ fn demonstration<G: Gate + Sync, R: Threads + Wait + Sync>(
     sales: u32,
     gate: &G,
 ) -> Result<(List<Entry>, String), Memory>
-    requires { (1 ≤ sales) × (sales ≤ 1000) }
+    requires { (1 ≤ sales) × (sales ≤ most_sales) }
     ensures { IfOk result (λ r. IsDemonstrated sales (history_of r.0.items) (string_bytes r.1)) }
 {
     let text = demo_text(alloc, sales)?;

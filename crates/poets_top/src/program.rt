@@ -12,6 +12,7 @@ ghost use Rattle.poets_top.specs.Runs.{DeservesRun, Ends, IsAnswerTo, IsEnding, 
 ghost use Rattle.poets_top.specs.Tasks as spec;
 ghost use Rattle.poets_words.specs.Words.{AskFor, IsCommandForm};
 ghost use Rattle.poets_top.specs.Writing.{IsWritten, stream};
+ghost use Rattle.poets_top.specs.declared.outcome.TheConstants.{DONE};
 ghost use Rattle.poets_words.specs.declared.mode.Mode.{Mode as SMode};
 ghost use Rattle.poets_words.specs.declared.mode.Mode.TheVariants as M;
 ghost use Rattle.poets_words.specs.declared.mode.Task.{Task as STask};
@@ -29,13 +30,11 @@ use crate::writing::write_line;
 use poets_clerks::Gate;
 use poets_io::{ReadFault, Sink, Source, read_up_to};
 use poets_session::{SessionFault, fault_text, read};
+use poets_value::LONGEST_TEXT;
 use poets_words::{Mode, Task, mode_of};
 use std::alloc::Global;
 use std::sync::Wait;
 use std::thread::Threads;
-
-/// The most bytes of a session.
-const LONGEST: usize = 16_777_216;
 
 /// Does all that the program does: reads a session, makes its calls, and writes the history, one line by each call of
 /// `write` where the sink takes whole pieces; or reads a book, and writes what it declares; or reads nothing, and shows
@@ -53,18 +52,18 @@ pub fn run<S: Source, K: Sink, G: Gate + Sync, R: Threads + Wait + Sync>(
     sink: &mut K,
     gate: &G,
 ) -> Outcome
-    ensures usage { result.status ≡ 2 → ¬ (IsCommandForm (map string_bytes words.now)) }
-    ensures no_form { ¬ (IsCommandForm (map string_bytes words.now)) → IsStatusOrMemory 2 result.status
+    ensures usage { result.status ≡ USAGE → ¬ (IsCommandForm (map string_bytes words.now)) }
+    ensures no_form { ¬ (IsCommandForm (map string_bytes words.now)) → IsStatusOrMemory USAGE result.status
         × (source.new ≡ source.old) × (sink.new ≡ sink.old) × (result.history.items ≡ []) }
     ensures ends { (mode : SMode) → AskFor (map string_bytes words.now) mode →
         Ends (stream (S.left source.old) (S.faults source.old)) (stream (S.left source.new) (S.faults source.new))
         (stream (K.held sink.old) (K.faults sink.old)) (stream (K.held sink.new) (K.faults sink.new)) result.status (history_of result.history.items) mode }
-    ensures has_run { AskFor (map string_bytes words.now) (M.Read T.Run) → result.status ≡ 0 →
+    ensures has_run { AskFor (map string_bytes words.now) (M.Read T.Run) → result.status ≡ DONE →
         HasRun (S.left source.old) (S.left source.new) (K.held sink.old) (K.held sink.new) (history_of result.history.items) }
-    ensures has_replayed { AskFor (map string_bytes words.now) (M.Read T.Replay) → result.status ≡ 0 →
+    ensures has_replayed { AskFor (map string_bytes words.now) (M.Read T.Replay) → result.status ≡ DONE →
         HasReplayed (S.left source.old) (S.left source.new) (K.held sink.old) (K.held sink.new) (history_of result.history.items) }
     ensures has_demonstrated { (sales : ℕ) → AskFor (map string_bytes words.now) (M.Demo sales) →
-        (source.new ≡ source.old) × (result.status ≡ 0 → HasDemonstrated sales (K.held sink.old) (K.held sink.new) (history_of result.history.items)) }
+        (source.new ≡ source.old) × (result.status ≡ DONE → HasDemonstrated sales (K.held sink.old) (K.held sink.new) (history_of result.history.items)) }
     ensures status { (mode : SMode) (wanted : ℕ) → AskFor (map string_bytes words.now) mode → DeservesRun (S.left source.old) mode wanted →
         NoFaultRose (S.faults source.old) (S.faults source.new) (K.faults sink.old) (K.faults sink.new) → IsStatusOrMemory wanted result.status }
     ensures later { (S.faults source.old ≤ S.faults source.new) × (K.faults sink.old ≤ K.faults sink.new) }
@@ -90,11 +89,11 @@ fn read_and_answer<S: Source, K: Sink, G: Gate + Sync, R: Threads + Wait + Sync>
     sink: &mut K,
     gate: &G,
 ) -> Outcome
-    ensures status { result.status ≢ 2 }
+    ensures status { result.status ≢ USAGE }
     ensures ends { IsEnding task (stream (S.left source.old) (S.faults source.old)) (stream (S.left source.new) (S.faults source.new))
         (stream (K.held sink.old) (K.faults sink.old)) (stream (K.held sink.new) (K.faults sink.new)) result.status (history_of result.history.items) }
 {
-    match read_up_to(alloc, source, LONGEST) {
+    match read_up_to(alloc, source, LONGEST_TEXT) {
         Ok(text) => answer(rt, alloc, task, text.as_slice(), sink, gate),
         Err(ReadFault::TooLong) => write_line(
             alloc,

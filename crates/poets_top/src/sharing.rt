@@ -1,6 +1,7 @@
 //! The clerks' scripts, made all at once on one engine.
 ghost use Rattle.std.specs.Prelude.{◌≡◌, ◌≤◌, length, All, IfOk};
 ghost use Rattle.std.specs.Arc.{arc_value};
+ghost use Rattle.poets_value.specs.Limits.{most_clerks};
 ghost use Rattle.poets_clerks.specs.Histories.{HasScripts};
 ghost use Rattle.poets_call.specs.Calls.{calls_of, history_of, reply_of};
 ghost use Rattle.poets_call.specs.Histories.{IsRightHistory};
@@ -29,7 +30,7 @@ pub(crate) fn make_scripts<G: Gate + Sync, R: Threads + Wait + Sync>(
 ) -> Result<List<Entry>, Memory>
     requires whole { IsWholeBook (book_of_rules rules) }
     requires taken { AreScriptsTaken rules scripts.now.items }
-    requires few { length scripts.now.items ≤ 64 }
+    requires few { length scripts.now.items ≤ most_clerks }
     ensures right { IfOk result (λ entries. IsRightHistory (book_of_rules rules) (reports_of_rules rules) (history_of entries.items)) }
     ensures scripts { IfOk result (λ entries. HasScripts (commands_in scripts.now.items) (calls_of (history_of entries.items))) }
 {

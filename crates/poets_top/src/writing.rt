@@ -74,7 +74,7 @@ pub(crate) fn write<K: Sink>(
     names: &Names,
     history: List<Entry>,
 ) -> Outcome
-    ensures { (text : Text) (task : Task) → IsAnswerTo text task 0 (history_of history.items) (history_text names.now (history_of history.items)) →
+    ensures { (text : Text) (task : Task) → IsAnswerTo text task DONE (history_of history.items) (history_text names.now (history_of history.items)) →
         IsWritten (IsAnswerTo text task) (stream (K.held sink.old) (K.faults sink.old)) (stream (K.held sink.new) (K.faults sink.new)) result.status (history_of result.history.items) }
 {
     match write_history(alloc, sink, names, history.as_slice()) {
@@ -97,7 +97,7 @@ pub(crate) fn write<K: Sink>(
 pub(crate) fn write_line<K: Sink>(alloc: Global, sink: &mut K, status: u8, line: &str) -> Outcome
     ensures history { result.history.items ≡ [] }
     ensures line { ((result.status ≡ status) × Appends (K.held sink.old) (K.held sink.new) line.now × (K.faults sink.new ≡ K.faults sink.old))
-        ⊎ ((result.status ≡ 5) × AppendsPart (K.held sink.old) (K.held sink.new) line.now
+        ⊎ ((result.status ≡ WRITE_FAULT) × AppendsPart (K.held sink.old) (K.held sink.new) line.now
         × HasFailed (stream (K.held sink.old) (K.faults sink.old)) (stream (K.held sink.new) (K.faults sink.new))) }
 {
     write_outcome(sink, without_history(alloc, status), line)
@@ -107,7 +107,7 @@ pub(crate) fn write_line<K: Sink>(alloc: Global, sink: &mut K, status: u8, line:
 pub(crate) fn write_outcome<K: Sink>(sink: &mut K, outcome: Outcome, line: &str) -> Outcome
     ensures history { result.history ≡ outcome.history }
     ensures line { ((result.status ≡ outcome.status) × Appends (K.held sink.old) (K.held sink.new) line.now × (K.faults sink.new ≡ K.faults sink.old))
-        ⊎ ((result.status ≡ 5) × AppendsPart (K.held sink.old) (K.held sink.new) line.now
+        ⊎ ((result.status ≡ WRITE_FAULT) × AppendsPart (K.held sink.old) (K.held sink.new) line.now
         × HasFailed (stream (K.held sink.old) (K.faults sink.old)) (stream (K.held sink.new) (K.faults sink.new))) }
 {
     match write_all(sink, line.as_bytes()) {

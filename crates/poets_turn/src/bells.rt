@@ -2,12 +2,13 @@
 ghost use Rattle.std.specs.Prelude.{◌≡◌, ⊤};
 
 use atomic_table::{Play, Table, TableRule};
+use poets_value::MOST_CLERKS;
 use std::alloc::{AllocError, Global};
 use std::sync::Wait;
 use std::thread;
 
 // As many as there may be clerks, so that no two tickets that wait share a bell.
-const BELLS: u64 = 64;
+const BELLS: u64 = MOST_CLERKS;
 // How many of the next tickets are near.
 const NEAR: u64 = 8;
 
@@ -37,7 +38,7 @@ impl Play<(), ()> for Ring {
 #[derive(Drop)]
 pub(crate) struct Bells {
     table: Table<(), (), (), AnyWords, Global>,
-    ghost sized: { table.shared.table_id.words ≡ 64 },
+    ghost sized: { table.shared.table_id.words ≡ MOST_CLERKS },
 }
 
 /// How a clerk waits.
@@ -58,7 +59,11 @@ impl Patience {
 
 impl Bells {
     pub(crate) fn silent(alloc: Global) -> Result<Bells, AllocError> {
-        let (table, _) = Table::<_, _, _, AnyWords, Global>::of_words(alloc, &[SILENT; 64], &())?;
+        let (table, _) = Table::<_, _, _, AnyWords, Global>::of_words(
+            alloc,
+            &[SILENT; MOST_CLERKS as usize],
+            &(),
+        )?;
         Ok(Bells { table })
     }
 

@@ -1,5 +1,6 @@
 //! A turnstile is made, with its clerks.
 ghost use Rattle.std.specs.Prelude.{◌≡◌, ◌+◌, ◌<◌, ◌≤◌, [], length, All, IfOk, IfErr};
+ghost use Rattle.poets_value.specs.Limits.{most_clerks};
 ghost use Rattle.poets_turn.specs.code.Steps.{first_view};
 ghost use Rattle.poets_turn.specs.Clerks.{number, AreNumbered, clerk_count, turn_frame, IsFresh};
 
@@ -16,7 +17,7 @@ impl<M: Machine> Turn<M> {
     /// A turnstile for a machine that took no call yet, with its clerks, numbered from 1. For want of memory the
     /// machine comes back.
     pub fn start(alloc: Global, machine: M, clerks: u32) -> Result<(Turn<M>, List<Clerk<M>>), M>
-        requires clerks { (0 < clerks) × (clerks ≤ 64) }
+        requires clerks { (0 < clerks) × (clerks ≤ most_clerks) }
         requires new { M.history machine ≡ [] }
         ensures frame { IfOk result (λ r. (turn_frame M.frame r.0 ≡ M.frame machine) × (clerk_count r.0 ≡ clerks)) }
         ensures clerks { IfOk result (λ r. (length r.1.items ≡ clerks) × All (λ c. IsFresh M.frame r.0 c) r.1.items) }

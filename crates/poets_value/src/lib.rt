@@ -5,11 +5,13 @@ mod day;
 mod event;
 mod fault;
 pub mod laws;
+mod limits;
 mod list;
 mod value;
 
 pub use day::Day;
 pub use event::Event;
 pub use fault::{DayFault, Memory};
+pub use limits::{LONGEST_TEXT, MOST_CLERKS, MOST_SALES};
 pub use list::{List, push};
 pub use value::{Name, Resource, Ty, Value};

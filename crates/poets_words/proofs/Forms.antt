@@ -6,6 +6,7 @@ use Rattle.std.specs.Str.Parse.{starts_with_minus}
 use Rattle.std.proofs.lemmas.Fmt.{decimal_injective, first_decimal}
 use Rattle.std.proofs.lemmas.Bool.{or_from}
 use Rattle.std.proofs.lemmas.Bool.Decides.{nat_tests}
+use Rattle.poets_value.specs.Limits.{most_sales}
 use Rattle.poets_words.specs.Words.{AskFor, IsCommandForm, IsMode, words_of}
 use Rattle.poets_words.specs.code.Reading.{IsPlain}
 use Rattle.poets_words.specs.declared.mode.Mode.{Mode}
@@ -13,7 +14,7 @@ use Rattle.poets_words.specs.declared.mode.Mode.TheVariants as M
 use Rattle.poets_words.specs.declared.mode.Task.TheVariants as T
 
 -- the decimal of a number that is not 0 has no sign
-no_sign : (n : ℕ) → 1 ≤ n → n ≤ 1000 → starts_with_minus (decimal n) ≡ false
+no_sign : (n : ℕ) → 1 ≤ n → n ≤ most_sales → starts_with_minus (decimal n) ≡ false
 no_sign n low high = let first = first_decimal n low (omega arith) in grind (arith, nat_tests)
 
 -- such words are plain

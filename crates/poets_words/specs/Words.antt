@@ -1,6 +1,7 @@
 -- What the words of the command line ask for.
 use Rattle.std.specs.Prelude.{◌≡◌, ℕ, ◌≤◌, List, [], ◌∷◌, codes}
 use Rattle.std.specs.Fmt.{decimal}
+use Rattle.poets_value.specs.Limits.{most_sales}
 use Rattle.poets_words.specs.declared.mode.Mode.{Mode}
 use Rattle.poets_words.specs.declared.mode.Mode.TheVariants as M
 use Rattle.poets_words.specs.declared.mode.Task.{Task}
@@ -20,7 +21,7 @@ words_of (M.Demo sales) = codes "demo" ∷ decimal sales ∷ []
 -- a demonstration has 1 to 1,000 sales of each clerk
 abbrev pub IsMode : Mode → Type 0
 IsMode (M.Read task) = Unit {0}
-IsMode (M.Demo sales) = (1 ≤ sales) × (sales ≤ 1000)
+IsMode (M.Demo sales) = (1 ≤ sales) × (sales ≤ most_sales)
 
 -- the words are those of the mode, and a demonstration has 1 to 1,000 sales of each clerk
 abbrev pub AskFor : List (List ℕ) → Mode → Type 0

@@ -5,17 +5,18 @@ ghost use Rattle.std.specs.Int.{IsInRange};
 ghost use Rattle.poets_words.specs.Words.{IsMode};
 ghost use Rattle.poets_words.specs.declared.mode.Mode.TheVariants as M;
 
-/// The most sales of each clerk.
-const MOST: u32 = 1000;
+use poets_value::MOST_SALES;
 
-/// The number of sales that the text writes, from 1 to 1,000, without a sign or a leading zero.
+/// The number of sales that the text writes, from 1 to the most, without a sign or a leading zero.
 pub(crate) fn sales_of(text: &str) -> Option<u32>
     ensures range { IfSome result (λ sales. IsMode (M.Demo sales)) }
     ensures written { IfSome result (λ sales. text.now ≡ decimal sales) }
     ensures none { IfNone result ((sales : ℕ) → IsMode (M.Demo sales) → text.now ≢ decimal sales) }
 {
     match text.parse() {
-        Ok(sales) if (1..=MOST).contains(&sales) && begins_with_nonzero_digit(text) => Some(sales),
+        Ok(sales) if (1..=MOST_SALES).contains(&sales) && begins_with_nonzero_digit(text) => Some(
+            sales,
+        ),
         _ => None,
     }
 }

@@ -8,14 +8,13 @@ use Rattle.poets_syntax.specs.Plain.{Book}
 use Rattle.poets_syntax.specs.Book.{book_of}
 use Rattle.poets_syntax.specs.Studied.{StudiedBook, marks_of}
 use Rattle.poets_syntax.specs.Residual.{after}
-use Rattle.poets_syntax.specs.Width.{width}
+use Rattle.poets_syntax.specs.Width.{width, widest}
 use Rattle.poets_cons.specs.declared.node.Node.{Node}
 use Rattle.poets_cons.specs.Table.{contract_of_rows}
 use Rattle.poets_table.specs.TableView.{RowView}
 use Rattle.poets_call.specs.Plain.{Reply}
 use Rattle.poets_call.specs.Calls.{reply_of}
 use Rattle.poets_call.specs.Ledger.{late_day}
-use Rattle.poets_call.specs.Replies.{widest}
 use Rattle.poets_engine.specs.declared.judging.Decision.{Decision}
 use Rattle.poets_engine.specs.declared.judging.Decision.TheVariants as D
 

@@ -1,5 +1,5 @@
 -- The graph of unguarded edges: of each template what its body has in unguarded positions.
-use Rattle.std.specs.Prelude.{◌≡◌, ℕ, ◌+◌, min, Bool, true, false, List, [], ◌∷◌, ◌++◌, Some, option_map, if◌then◌else◌}
+use Rattle.std.specs.Prelude.{◌≡◌, ℕ, ◌+◌, Bool, true, false, List, [], ◌∷◌, ◌++◌, Some, option_map, if◌then◌else◌}
 use Rattle.std.specs.BTreeMap.{BTreeMap, get}
 use Rattle.poets_value.specs.declared.value.Name.{Name}
 use Rattle.poets_value.specs.Names.{name_cmp}
@@ -8,13 +8,9 @@ use Rattle.poets_syntax.specs.Contract.{Contract, Success, Failure, Transmit, Pl
 use Rattle.poets_syntax.specs.Plain.{Template}
 use Rattle.poets_syntax.specs.Book.{template_in}
 use Rattle.poets_syntax.specs.Typed.{is_among}
-use Rattle.poets_syntax.specs.Width.{size}
+use Rattle.poets_syntax.specs.Width.{size, cut}
 use Rattle.poets_guard.specs.declared.graph.Node.{Node}
 use Rattle.poets_guard.specs.code.Endings.{ends}
-
--- widths are cut here
-abbrev pub cut : ℕ → ℕ
-cut n = min n 1001
 
 -- the width of a contract without the bodies of the templates that it applies, where `says` tells the nullable ones
 abbrev pub own : (says : Name → Bool) → Contract → ℕ

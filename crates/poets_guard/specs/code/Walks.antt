@@ -6,7 +6,8 @@ use Rattle.poets_value.specs.declared.value.Name.{Name}
 use Rattle.poets_value.specs.Names.{name_cmp}
 use Rattle.poets_syntax.specs.Guarded.{IsPath, IsCycle}
 use Rattle.poets_guard.specs.declared.graph.Node.{Node}
-use Rattle.poets_guard.specs.code.Graph.{cut, HasEdge}
+use Rattle.poets_syntax.specs.Width.{cut}
+use Rattle.poets_guard.specs.code.Graph.{HasEdge}
 
 -- some path of edges leads from the first name to the second
 abbrev pub Reaches : BTreeMap Name Node → Name → Name → Type 0

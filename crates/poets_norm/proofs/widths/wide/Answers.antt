@@ -1,4 +1,4 @@
-use Rattle.std.proofs.Common.{sym, ◌∙◌, ap, min}
+use Rattle.std.proofs.Common.{sym, ◌∙◌, ap}
 use Rattle.poets_syntax.specs.Book.{book_of}
 use Rattle.poets_syntax.specs.Contract.{contract_of}
 use Rattle.poets_norm.proofs.StudiedBooks.{width-studied}
@@ -7,4 +7,4 @@ use Rattle.poets_norm.proofs.widths.wide.Goals as goal
 pub returns : goal.returns
 returns c =
     let studied = c.args.studied.now in
-    c.measure.ensures.wide ∙ ap (λ n. min n 1001) (sym (width-studied (book_of studied.book) studied.marks c.book-book.ensures.studied (contract_of c.args.term.now) c.requires))
+    c.measure.ensures.wide ∙ ap cut (sym (width-studied (book_of studied.book) studied.marks c.book-book.ensures.studied (contract_of c.args.term.now) c.requires))

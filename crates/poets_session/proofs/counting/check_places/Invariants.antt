@@ -1,5 +1,7 @@
 use Rattle.std.proofs.Common.{◌≤◌, take, drop}
+use Rattle.poets_value.specs.Limits.{most_clerks}
 use Rattle.poets_call.specs.Statements.{statements_of}
+use Rattle.poets_session.specs.Places.{most_templates, most_reports, most_commands}
 use Rattle.poets_session.proofs.Placing.{Placed}
 use Rattle.poets_session.proofs.counting.check_places.Given as goal
 
@@ -7,4 +9,4 @@ use Rattle.poets_session.proofs.counting.check_places.Given as goal
 abbrev pub invariant-loop-place : goal.invariant-loop-place
 invariant-loop-place l =
     Placed l.form (statements_of l.statements) l.part l.counts (statements_of (take l.place l.statements)) (statements_of (drop l.place l.statements))
-    × (l.counts.clerks ≤ 64) × (l.counts.templates ≤ 256) × (l.counts.reports ≤ 256) × (l.counts.commands ≤ 65_536)
+    × (l.counts.clerks ≤ most_clerks) × (l.counts.templates ≤ most_templates) × (l.counts.reports ≤ most_reports) × (l.counts.commands ≤ most_commands)

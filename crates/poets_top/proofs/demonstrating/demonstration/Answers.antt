@@ -1,4 +1,5 @@
 use Rattle.std.proofs.Common.{◌≡◌, ◌≤◌, length, sym, ◌∙◌, ap, subst}
+use Rattle.poets_value.specs.Limits.{longest_text}
 use Rattle.poets_call.specs.Calls.{history_of}
 use Rattle.poets_demo.specs.Line.{demo_line}
 use Rattle.poets_demo.specs.Text.{demo_text}
@@ -10,7 +11,7 @@ use Rattle.poets_top.proofs.Taking.{session_taken, session_whole}
 use Rattle.poets_top.proofs.demonstrating.demonstration.Goals as goal
 
 pub read-requires : goal.read-requires
-read-requires g c = subst (λ t. length t ≤ 16_777_216) (sym c.as_bytes.ensures.value) c.in_ok-text.ensures.short
+read-requires g c = subst (λ t. length t ≤ longest_text) (sym c.as_bytes.ensures.value) c.in_ok-text.ensures.short
 
 pub make_scripts-requires-clause-whole : goal.make_scripts-requires-clause-whole
 make_scripts-requires-clause-whole g c = λ _ _. let found = c.in-Ok.ensures.session in session_whole c.as_bytes.result.now found.0 c.in-Ok.session found.1 found.2

@@ -1,4 +1,4 @@
-use Rattle.std.proofs.Common.{arith, ◌≡◌, ◌∙◌, Bool, false, sym, ap, get_or, min}
+use Rattle.std.proofs.Common.{arith, ◌≡◌, ◌∙◌, Bool, false, sym, ap, get_or}
 use Rattle.std.specs.List.{list_any}
 use Rattle.std.specs.Option.{option_map_or}
 use Rattle.poets_expr.specs.Env.{same_name}
@@ -7,7 +7,7 @@ use Rattle.poets_syntax.specs.Contract.{contract_of}
 use Rattle.poets_syntax.specs.Plain.{Template}
 use Rattle.poets_syntax.specs.Book.{book_of, template_in}
 use Rattle.poets_syntax.specs.Studied.{has_mark, marks_in, marks_of, IsRightMark}
-use Rattle.poets_syntax.specs.Width.{width}
+use Rattle.poets_syntax.specs.Width.{width, cut}
 use Rattle.poets_syntax.proofs.Found.{IsFound, IsFound-place, IsNowhere, IsNowhere-unknown, marks_reach}
 use Rattle.poets_syntax.proofs.studied.Studied.template.Goals as goal
 
@@ -76,4 +76,4 @@ returns-clause-hopeful c = marked (λ m. m.hopeful) c
 pub returns-clause-wide : goal.returns-clause-wide
 returns-clause-wide c =
     ap (λ ms. (get_or ms c.in_ok-place.place no_mark).wide) c.as_slice-marks.ensures ∙ (found c).right.wide
-    ∙ ap (λ s. min (width (book_of s.book) (marks_of s) (contract_of c.index-templates-place.result.body)) 1001) c.self.view_is
+    ∙ ap (λ s. cut (width (book_of s.book) (marks_of s) (contract_of c.index-templates-place.result.body))) c.self.view_is

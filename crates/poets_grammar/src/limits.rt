@@ -1,0 +1,7 @@
+//! How deep a statement may be nested.
+
+/// No statement has more brackets open at one place.
+pub const MOST_OPEN: usize = 200;
+
+/// No statement has more operators.
+pub const MOST_OPERATORS: usize = 1000;
