@@ -13,6 +13,9 @@ WORD = re.compile(r"[^\s(){}\[\];,.\"]+")
 ITEM = re.compile(r"(?:abbrev |opaque |unfoldable )?pub (?:data |record )?([^\s:({]+)")
 NO_ITEM = re.compile(r"(?:pub )?(?:use|mod) |unfolding")
 IMPORT = re.compile(r"^\s*(?:ghost |pub )*use (Rattle[^;\n]*(?:\n[ \t}][^;\n]*)*)", re.MULTILINE)
+# `ghost use MODULE as name`, and what is then written `name.definition`
+MODULE = re.compile(r"^ *ghost use (Rattle[^;\n{]*) as (\w+);", re.MULTILINE)
+WITHIN = re.compile(r"(?<![\w'.])(\w+)\.([^\s(){}\[\];,.\"]+)")
 CONTRACT = re.compile(
     r"^ *pub fn [^{]*?(?=^\s*(?:requires|ensures) |\{)(.*?)(?=^ *\{\s*$|^ *\{\}|;\s*$)", re.MULTILINE | re.DOTALL)
 # what callers see of a type, and what it keeps
@@ -51,11 +54,12 @@ def definitions():
     """By the path of a module of definitions: its file, its definitions with their comments, and its imports. Contracts
     and tokens that are worked out as examples are none."""
     found = {}
-    for path in sorted(TOP.glob("crates/*/specs/*.antt")):
+    for path in sorted(TOP.glob("crates/*/specs/**/*.antt")):
         if path.stem == "Examples":
             continue
         text = path.read_text()
-        found[f"Rattle.{path.parts[-3]}.specs.{path.stem}"] = (path, comments_of(text), imports_of(text))
+        module = ".".join(path.relative_to(TOP / "crates").with_suffix("").parts)
+        found[f"Rattle.{module}"] = (path, comments_of(text), imports_of(text))
     return found
 
 
@@ -73,8 +77,11 @@ def named(modules):
     for path in sorted(TOP.glob("crates/*/src/**/*.rt")):
         text = path.read_text()
         imports = imports_of(text)
+        aliases = {alias: module for module, alias in MODULE.findall(text)}
         for contract in CONTRACT.findall(text) + MODEL.findall(text):
             found.update(standing(modules, *imports[word]) for word in WORD.findall(contract) if word in imports)
+            found.update(
+                standing(modules, aliases[alias], word) for alias, word in WITHIN.findall(contract) if alias in aliases)
     return found - {None}
 
 
@@ -84,7 +91,9 @@ def index():
     lines = []
     for module, name in named(modules):
         path, comments, _ = modules[module]
-        lines.append(f"- `{name}` (`{path.parts[-3]}/specs/{path.stem}`): {comments[name]}\n")
+        place = path.relative_to(TOP / "crates").with_suffix("")
+        assert "code" not in place.parts, f"a public function names {name}, which stands in {place}"
+        lines.append(f"- `{name}` (`{place}`): {comments[name]}\n")
     return "".join(sorted(lines, key=lambda line: (line.lower(), line)))
 
 

@@ -20,6 +20,7 @@ use Rattle.poets_report.specs.Reports.{folded, key_on, with_key}
 use Rattle.poets_report.specs.Keyed.{row_at}
 use Rattle.poets_report.proofs.FoldsByKey.{if_any, rows_by_key}
 use Rattle.poets_call.specs.Plain.{Command, Reply, Entry}
+use Rattle.poets_call.specs.Gathered.{recorded}
 use Rattle.poets_call.specs.Frame.{Frame}
 use Rattle.poets_call.specs.NoTemplates.{frame_without_templates}
 use Rattle.poets_syntax.specs.Width.{widest}
@@ -206,6 +207,10 @@ trade_is_legal =
     ) in
     let h₁₄ : Legal frame (take 14 trade) = Legal.More _ h₁₃ refl in
     Legal.More _ h₁₄ (inr (no, inr (two_are_enough, refl)))
+
+-- both events are of the first contract
+pub trade_recorded : recorded trade ≡ (1, moves (pos 5) 2) ∷ (1, moves (pos 2) 2) ∷ []
+trade_recorded = refl
 
 -- transmit(s, v, r, t | kind(r) = USD). Success
 abbrev usd_then_success : Contract

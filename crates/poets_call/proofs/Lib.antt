@@ -1,5 +1,6 @@
 pub mod OneReplies
 pub mod Histories
+pub mod Gathering
 pub mod OneFrames
 pub mod Examples
 pub mod TypedCommands

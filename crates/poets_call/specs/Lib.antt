@@ -1,6 +1,7 @@
 pub mod Plain
 pub mod Calls
 pub mod Ledger
+pub mod Gathered
 pub mod Frame
 pub mod NoTemplates
 pub mod Replies

@@ -1,4 +1,5 @@
 //! Laws of replies, each carried by a function that does nothing.
+ghost use Rattle.poets_call.specs.Gathered.{LedgerIsGathered};
 ghost use Rattle.poets_call.specs.Laws.{OneReply, OneHistory, OneFrame, AnyFrame, AnyFrameAnswers, TypedRegistration, TypedEvent, TypedReport};
 
 /// After the same history a command has at most one reply.
@@ -9,6 +10,11 @@ pub fn one_reply()
 /// There is at most one legal history of the same calls.
 pub fn one_history()
     ensures { OneHistory }
+{}
+
+/// The ledger of a history is four lists, each gathered from the history itself.
+pub fn ledger_is_gathered()
+    ensures { LedgerIsGathered }
 {}
 
 /// Which histories are legal depends on the book and the reports alone.

@@ -1,5 +1,6 @@
 //! Where clerks sleep until their tickets are served. Nothing that is proved rests on it: a clerk that wakes looks.
 ghost use Rattle.std.specs.Prelude.{◌≡◌, ⊤};
+ghost use Rattle.poets_value.specs.Limits.{most_clerks};
 
 use atomic_table::{Play, Table, TableRule};
 use poets_value::MOST_CLERKS;
@@ -38,7 +39,7 @@ impl Play<(), ()> for Ring {
 #[derive(Drop)]
 pub(crate) struct Bells {
     table: Table<(), (), (), AnyWords, Global>,
-    ghost sized: { table.shared.table_id.words ≡ MOST_CLERKS },
+    ghost sized: { table.shared.table_id.words ≡ most_clerks },
 }
 
 /// How a clerk waits.
