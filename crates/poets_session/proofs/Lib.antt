@@ -1,4 +1,5 @@
 pub mod Placing
+pub mod Shaping
 pub mod Cutting
 pub mod Saying
 pub mod Typing

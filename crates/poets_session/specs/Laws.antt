@@ -1,8 +1,10 @@
 -- The laws of sessions, as statements.
-use Rattle.std.specs.Prelude.{◌≡◌, ℕ, List, ◌∷◌, All}
+use Rattle.std.specs.Prelude.{◌≡◌, ℕ, true, false, List, [], ◌∷◌, ◌++◌, Some, None, IsSome, All, ◌↔◌}
 use Rattle.poets_value.specs.declared.value.Name.{Name}
 use Rattle.poets_lex.specs.Table.{Table, IsTable}
 use Rattle.poets_call.specs.Said.{Statement}
+use Rattle.poets_session.specs.Places.{Misplaced, part_after, is_misplaced, lacks_journal, place_fault}
+use Rattle.poets_session.specs.Shapes.{HasShape, Begins, GoesWrongAt}
 use Rattle.poets_session.specs.Sessions.{Text, AreValid, IsReadAs, IsSession, IsNoSession, scripts_of, journal_of}
 use Rattle.poets_session.specs.Refusals.{Refusal, Unguarded, AreRefused, IsRefused}
 use Rattle.poets_session.specs.Causes.{IsFirstFaultOf, IsFirstFault}
@@ -82,3 +84,31 @@ abbrev pub FaultsOfStatementsAreListed : Type 0
 FaultsOfStatementsAreListed =
     (form : Form) (statements : List Statement) (fault : SessionFault)
     → All (IsWritten fault.names) statements → IsFirstFaultOf form statements fault → HasListedNames fault
+
+-- statements begin a session's shape exactly where each of them stands in its place
+abbrev pub PlacesByShape : Type 0
+PlacesByShape = (form : Form) (front : List Statement) → IsSome (part_after form front) ↔ Begins form front
+
+-- a statement is misplaced exactly where those before it begin no session's shape with it
+abbrev pub MisplacedByShape : Type 0
+MisplacedByShape =
+    (form : Form) (before : List Statement) (s : Statement)
+    → (is_misplaced form before s ≡ true) ↔ ¬ (Begins form (before ++ s ∷ []))
+
+-- statements have a session's shape exactly where each of them stands in its place and no `journal` is missing
+abbrev pub WholeByShape : Type 0
+WholeByShape =
+    (form : Form) (statements : List Statement)
+    → HasShape form statements
+    ↔ (IsSome (part_after form statements) × (lacks_journal form (part_after form statements) ≡ false))
+
+-- the fault `Misplaced` has the number of the first statement, or of the end, with which the shape goes wrong
+abbrev pub FirstMisplaced : Type 0
+FirstMisplaced =
+    (form : Form) (statements : List Statement) (number : ℕ)
+    → place_fault form statements ≡ Some (Misplaced number) → GoesWrongAt form statements number
+
+-- statements without a fault of their places have a session's shape
+abbrev pub PlacedHaveShape : Type 0
+PlacedHaveShape =
+    (form : Form) (statements : List Statement) → place_fault form statements ≡ None → HasShape form statements

@@ -1,5 +1,5 @@
 //! The laws of sessions.
-ghost use Rattle.poets_session.specs.Laws.{OneSession, NoSessionRefused, NoValidRefused, OneRefusal, OneRefusalOfStatements, OneLine, EveryTextIsRead, AllStatementsAreJudged, SessionsAreWritten, CommandsAreWritten, FaultsOfTextsAreListed, FaultsOfStatementsAreListed};
+ghost use Rattle.poets_session.specs.Laws.{OneSession, NoSessionRefused, NoValidRefused, OneRefusal, OneRefusalOfStatements, OneLine, EveryTextIsRead, AllStatementsAreJudged, SessionsAreWritten, CommandsAreWritten, FaultsOfTextsAreListed, FaultsOfStatementsAreListed, PlacesByShape, MisplacedByShape, WholeByShape, FirstMisplaced, PlacedHaveShape};
 
 /// A text is one session of a form at most.
 pub fn one_session()
@@ -37,4 +37,14 @@ pub fn sessions_are_written()
 pub fn faults_are_listed()
     ensures texts { FaultsOfTextsAreListed }
     ensures statements { FaultsOfStatementsAreListed }
+{}
+
+/// Statements stand in their places exactly where they begin a session by its shape: a book, and what its form has
+/// after it. So the first misplaced one is the first with which they begin none.
+pub fn places_by_shape()
+    ensures front { PlacesByShape }
+    ensures misplaced { MisplacedByShape }
+    ensures whole { WholeByShape }
+    ensures first { FirstMisplaced }
+    ensures placed { PlacedHaveShape }
 {}
