@@ -3,9 +3,9 @@ ghost use Rattle.std.specs.Prelude.{◌≡◌, ◌++◌, OnOk, IfOk, string_byte
 ghost use Rattle.poets_call.specs.Calls.{entry_of};
 ghost use Rattle.poets_print.specs.Lines as lines;
 
+use crate::commands::put_command;
 use crate::pieces::{put, put_count};
 use crate::replies::put_reply;
-use crate::requests::put_command;
 use poets_call::Entry;
 use poets_lex::Names;
 use poets_value::Memory;
