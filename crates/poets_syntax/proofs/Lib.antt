@@ -13,6 +13,7 @@ pub mod Copying
 pub mod Inversions
 pub mod WholeContracts
 pub mod Typedness
+pub mod TypingRules
 pub mod Soundness
 pub mod TypedReplacing
 pub mod TypedGivens

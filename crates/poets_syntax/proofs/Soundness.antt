@@ -17,7 +17,8 @@ use Rattle.poets_expr.specs.Val.{val, unary, binary, strict, resource_of, chosen
 use Rattle.poets_expr.specs.Fold.{HasDeclaredNames}
 use Rattle.poets_expr.proofs.SameTrees.{ty_one}
 use Rattle.poets_expr.proofs.FoldClosed.{known-name, known-val_under}
-use Rattle.poets_syntax.specs.TypeOf.{Scope, type_in, Verdict, Passes, Fails, ◌>>=◌, must_be, must_be_number_or_day, same_type, of_one, of_two, unary_type, binary_type, sum_type, difference_type, equal_type, order_type, make_type, if_type, name_type, resource_type, literal_type, type_of, HasType}
+use Rattle.poets_syntax.specs.TypeOf.{Scope, type_in, Verdict, Passes, Fails, ◌>>=◌, must_be, must_be_number_or_day, same_type, of_one, of_two, unary_type, binary_type, sum_type, difference_type, equal_type, order_type, make_type, if_type, name_type, resource_type, literal_type, type_of}
+use Rattle.poets_syntax.specs.code.Passing.{HasType}
 use Rattle.poets_syntax.specs.Plain.{WrongType}
 use Rattle.poets_syntax.specs.OfType.{value_type, IsOfType, IsTypedEnv}
 use Rattle.poets_syntax.proofs.Replacing.{truth as either}

@@ -20,13 +20,14 @@ use Rattle.poets_syntax.specs.Book.{template_in}
 use Rattle.poets_syntax.specs.Replace.{replace}
 use Rattle.poets_syntax.specs.WellFormed.{IsDeclaredEvent}
 use Rattle.poets_syntax.specs.Residual.{event_givens, argument_givens}
-use Rattle.poets_syntax.specs.TypeOf.{Verdict, Passes, Fails, Scope, type_in, name_type, HasType}
-use Rattle.poets_syntax.specs.Typed.{is_among, in_use, check_new, scope_of, check_type, check_args, check_application, IsTyped, IsTypedBook}
+use Rattle.poets_syntax.specs.TypeOf.{Verdict, Passes, Fails, Scope, type_in, name_type}
+use Rattle.poets_syntax.specs.Typed.{is_among, in_use, check_new, scope_of, check_type, check_args, check_application}
+use Rattle.poets_syntax.specs.code.Passing.{HasType, ContractPasses, BookPasses}
 use Rattle.poets_syntax.specs.OfType.{AreOfTypes, types_given, IsUndeclaredScope}
 use Rattle.poets_syntax.proofs.Replacing.{truth}
 use Rattle.poets_syntax.proofs.Givens.{HaveDeclaredNames, HaveDeclaredNames-arguments}
 use Rattle.poets_syntax.proofs.Typedness.{passed, IsWellFormed-typed}
-use Rattle.poets_syntax.proofs.TypedReplacing.{KeepsTypes, KeepsTypes-nil, HasType-literal_of, HasType-literal_of_val, HasType-checked, KeepsTypes-undeclared, Fits, HasType-subst, application_parts, transmit_parts, IsTyped-replace}
+use Rattle.poets_syntax.proofs.TypedReplacing.{KeepsTypes, KeepsTypes-nil, HasType-literal_of, HasType-literal_of_val, HasType-checked, KeepsTypes-undeclared, Fits, HasType-subst, application_parts, transmit_parts, ContractPasses-replace}
 
 -- names that are checked one after the other are none of those before them
 unfailed : (used among : Bool) (x : Name) (next : Verdict (Unit {0})) → (if used || among then Fails (Twice x) else next) ≡ Passes tt → (among ≡ false) × (next ≡ Passes tt)
@@ -125,26 +126,26 @@ module _ (declared : Declared) where
 -- ---- contracts
 
 module _ (book : Book) (reports : List Name) where
-  pub IsTyped-given : (given : Givens) (scope : Scope) (c : Contract) → AreOfTypes book.declared given → IsUndeclaredScope book.declared scope →
-      IsTyped book reports (types_given given ++ scope) c → IsTyped book reports scope (replace given c)
-  IsTyped-given given s c h k =
-      IsTyped-replace book reports (types_given given ++ s) given s (HaveDeclaredNames-typed book.declared given h)
+  pub ContractPasses-given : (given : Givens) (scope : Scope) (c : Contract) → AreOfTypes book.declared given → IsUndeclaredScope book.declared scope →
+      ContractPasses book reports (types_given given ++ scope) c → ContractPasses book reports scope (replace given c)
+  ContractPasses-given given s c h k =
+      ContractPasses-replace book reports (types_given given ++ s) given s (HaveDeclaredNames-typed book.declared given h)
       (Fits-given book.declared given s (KeepsTypes-undeclared book.declared s k) h) c
 
   -- below a transmit that took an event
-  pub IsTyped-event : (b : Binders) (p : Expression) (c : Contract) (e : Event) → IsDeclaredEvent book.declared e →
-      IsTyped book reports [] (Transmit b p c) → IsTyped book reports [] (replace (event_givens b e) c)
-  IsTyped-event b p c e h k =
-      IsTyped-given (event_givens b e) [] c (AreOfTypes-event book.declared b e h) (All-nil (λ q. book.declared q.0 ≡ None))
+  pub ContractPasses-event : (b : Binders) (p : Expression) (c : Contract) (e : Event) → IsDeclaredEvent book.declared e →
+      ContractPasses book reports [] (Transmit b p c) → ContractPasses book reports [] (replace (event_givens b e) c)
+  ContractPasses-event b p c e h k =
+      ContractPasses-given (event_givens b e) [] c (AreOfTypes-event book.declared b e h) (All-nil (λ q. book.declared q.0 ≡ None))
       (transmit_parts book reports [] b p c k).2
 
   -- an unfolded body
-  pub IsTyped-arguments : IsTypedBook book reports → (f : Name) (args : List Expression) (t : Template) → template_in book.templates f ≡ Some t →
-      IsTyped book reports [] (App f args) → IsTyped book reports [] (replace (argument_givens book.declared t.params args) t.body)
-  IsTyped-arguments typed f args t i h =
+  pub ContractPasses-arguments : BookPasses book reports → (f : Name) (args : List Expression) (t : Template) → template_in book.templates f ≡ Some t →
+      ContractPasses book reports [] (App f args) → ContractPasses book reports [] (replace (argument_givens book.declared t.params args) t.body)
+  ContractPasses-arguments typed f args t i h =
       let parts = application_parts book.declared [] f (Some t) args (along (λ o. check_application book.declared [] f o args ≡ Passes tt) i h) in
       let same : parts.0 ≡ t = some parts.1 in
-      IsTyped-replace book reports (scope_of t.params) (argument_givens book.declared t.params args) []
+      ContractPasses-replace book reports (scope_of t.params) (argument_givens book.declared t.params args) []
       (HaveDeclaredNames-arguments book.declared t.params args (IsWellFormed-typed book reports [] (App f args) h))
       (Fits-arguments book.declared (in_use book reports) [] t.params args (typed f t i).0
       (along (λ u. length u.params ≡ length args) same parts.2) (along (λ u. check_args book.declared [] u.params args ≡ Passes tt) same parts.3))

@@ -21,8 +21,9 @@ use Rattle.poets_syntax.specs.Contract.{Contract, Success, Failure, Transmit, Pl
 use Rattle.poets_syntax.specs.Plain.{Book, Template, WrongCount}
 use Rattle.poets_syntax.specs.Book.{template_in}
 use Rattle.poets_syntax.specs.Replace.{binds, without, replace, AreUndeclared}
-use Rattle.poets_syntax.specs.TypeOf.{Passes, ◌>>=◌, Scope, type_in, must_be, same_type, unary_type, binary_type, make_type, if_type, name_type, type_of, HasType}
-use Rattle.poets_syntax.specs.Typed.{in_use, check_new, names_bound, types_bound, check_type, check_args, check_application, check_contract, IsTyped}
+use Rattle.poets_syntax.specs.TypeOf.{Passes, ◌>>=◌, Scope, type_in, must_be, same_type, unary_type, binary_type, make_type, if_type, name_type, type_of}
+use Rattle.poets_syntax.specs.Typed.{in_use, check_new, names_bound, types_bound, check_type, check_args, check_application, check_contract}
+use Rattle.poets_syntax.specs.code.Passing.{HasType, ContractPasses}
 use Rattle.poets_syntax.specs.OfType.{IsOfType, IsUndeclaredScope}
 use Rattle.poets_syntax.proofs.Replacing.{truth, first_of_four, none_of_four, one_of_four, declared_free, replaced-free, replaced-bound, args_count}
 use Rattle.poets_syntax.proofs.Givens.{HaveDeclaredNames, HaveDeclaredNames-without}
@@ -189,53 +190,53 @@ module _ (declared : Declared) where
 
 module _ (book : Book) (reports : List Name) where
   pub two_parts : (scope : Scope) (a b : Contract) → (check_contract book reports scope a >>= λ _. check_contract book reports scope b) ≡ Passes tt →
-      IsTyped book reports scope a × IsTyped book reports scope b
+      ContractPasses book reports scope a × ContractPasses book reports scope b
   two_parts s a b h = let p = passed (check_contract book reports s a) (λ _. check_contract book reports s b) tt h in (p.1, p.2)
 
-  pub of_two_parts : (scope : Scope) (a b : Contract) → IsTyped book reports scope a → IsTyped book reports scope b →
+  pub of_two_parts : (scope : Scope) (a b : Contract) → ContractPasses book reports scope a → ContractPasses book reports scope b →
       (check_contract book reports scope a >>= λ _. check_contract book reports scope b) ≡ Passes tt
   of_two_parts s a b h k = rw (h, k) refl
 
   -- the three demands on a transmit
   abbrev pub TransmitParts : Scope → Binders → Expression → Contract → Type 0
   TransmitParts scope b p c = (check_new (in_use book reports) [] (names_bound b) ≡ Passes tt)
-      × HasType book.declared (types_bound b ++ scope) p T.Bool × IsTyped book reports (types_bound b ++ scope) c
+      × HasType book.declared (types_bound b ++ scope) p T.Bool × ContractPasses book reports (types_bound b ++ scope) c
 
-  pub transmit_parts : (scope : Scope) (b : Binders) (p : Expression) (c : Contract) → IsTyped book reports scope (Transmit b p c) → TransmitParts scope b p c
+  pub transmit_parts : (scope : Scope) (b : Binders) (p : Expression) (c : Contract) → ContractPasses book reports scope (Transmit b p c) → TransmitParts scope b p c
   transmit_parts s b p c h =
       let binders = passed (check_new (in_use book reports) [] (names_bound b))
       (λ _. check_type book.declared (types_bound b ++ s) T.Bool p >>= λ _. check_contract book reports (types_bound b ++ s) c) tt h in
       let predicate = passed (check_type book.declared (types_bound b ++ s) T.Bool p) (λ _. check_contract book reports (types_bound b ++ s) c) tt binders.2 in
       (binders.1, HasType-checked book.declared (types_bound b ++ s) T.Bool p predicate.1, predicate.2)
 
-  pub of_transmit_parts : (scope : Scope) (b : Binders) (p : Expression) (c : Contract) → TransmitParts scope b p c → IsTyped book reports scope (Transmit b p c)
+  pub of_transmit_parts : (scope : Scope) (b : Binders) (p : Expression) (c : Contract) → TransmitParts scope b p c → ContractPasses book reports scope (Transmit b p c)
   of_transmit_parts s b p c h = rw (h.0, check_type-typed book.declared (types_bound b ++ s) T.Bool p h.1, h.2) refl
 
-  pub binders_undeclared : (scope : Scope) (b : Binders) (p : Expression) (c : Contract) → IsTyped book reports scope (Transmit b p c) → AreUndeclared book.declared b
+  pub binders_undeclared : (scope : Scope) (b : Binders) (p : Expression) (c : Contract) → ContractPasses book reports scope (Transmit b p c) → AreUndeclared book.declared b
   binders_undeclared s b p c h = (IsWellFormed-typed book reports s (Transmit b p c) h).0
 
-  pub IsTyped-replace : (scope : Scope) (given : Givens) (scope' : Scope) → HaveDeclaredNames book.declared given → Fits book.declared scope given scope' →
-      (c : Contract) → IsTyped book reports scope c → IsTyped book reports scope' (replace given c)
-  IsTyped-replace s g s' names f Success h = refl
-  IsTyped-replace s g s' names f Failure h = refl
-  IsTyped-replace s g s' names f (Transmit b p c) h =
+  pub ContractPasses-replace : (scope : Scope) (given : Givens) (scope' : Scope) → HaveDeclaredNames book.declared given → Fits book.declared scope given scope' →
+      (c : Contract) → ContractPasses book reports scope c → ContractPasses book reports scope' (replace given c)
+  ContractPasses-replace s g s' names f Success h = refl
+  ContractPasses-replace s g s' names f Failure h = refl
+  ContractPasses-replace s g s' names f (Transmit b p c) h =
       let parts = transmit_parts s b p c h in
       let fits = Fits-bound book.declared b s g s' (binders_undeclared s b p c h) names f in
       of_transmit_parts s' b (subst (without b g) p) (replace (without b g) c) (
         parts.0,
         HasType-subst book.declared (types_bound b ++ s) (without b g) (types_bound b ++ s') fits p T.Bool parts.1,
-        IsTyped-replace (types_bound b ++ s) (without b g) (types_bound b ++ s') (HaveDeclaredNames-without book.declared b g names) fits c parts.2,
+        ContractPasses-replace (types_bound b ++ s) (without b g) (types_bound b ++ s') (HaveDeclaredNames-without book.declared b g names) fits c parts.2,
       )
-  IsTyped-replace s g s' names f (Plus a b) h =
+  ContractPasses-replace s g s' names f (Plus a b) h =
       let parts = two_parts s a b h in
-      of_two_parts s' (replace g a) (replace g b) (IsTyped-replace s g s' names f a parts.0) (IsTyped-replace s g s' names f b parts.1)
-  IsTyped-replace s g s' names f (Par a b) h =
+      of_two_parts s' (replace g a) (replace g b) (ContractPasses-replace s g s' names f a parts.0) (ContractPasses-replace s g s' names f b parts.1)
+  ContractPasses-replace s g s' names f (Par a b) h =
       let parts = two_parts s a b h in
-      of_two_parts s' (replace g a) (replace g b) (IsTyped-replace s g s' names f a parts.0) (IsTyped-replace s g s' names f b parts.1)
-  IsTyped-replace s g s' names f (Seq a b) h =
+      of_two_parts s' (replace g a) (replace g b) (ContractPasses-replace s g s' names f a parts.0) (ContractPasses-replace s g s' names f b parts.1)
+  ContractPasses-replace s g s' names f (Seq a b) h =
       let parts = two_parts s a b h in
-      of_two_parts s' (replace g a) (replace g b) (IsTyped-replace s g s' names f a parts.0) (IsTyped-replace s g s' names f b parts.1)
-  IsTyped-replace s g s' names f (App n args) h =
+      of_two_parts s' (replace g a) (replace g b) (ContractPasses-replace s g s' names f a parts.0) (ContractPasses-replace s g s' names f b parts.1)
+  ContractPasses-replace s g s' names f (App n args) h =
       let parts = application_parts book.declared s n (template_in book.templates n) args h in
       application_of_parts book.declared s' n (template_in book.templates n) parts.0 (map (subst g) args) parts.1 (parts.2 ∙ sym (args_count g args))
       (check_args-subst book.declared s g s' f parts.0.params args parts.3)

@@ -16,10 +16,11 @@ use Rattle.poets_syntax.specs.Contract.{Contract, Success, Failure, Transmit, Pl
 use Rattle.poets_syntax.specs.Plain.{Book, Template, TypeCause, Twice, WrongCount}
 use Rattle.poets_syntax.specs.Book.{template_in}
 use Rattle.poets_syntax.specs.Replace.{AreUndeclared}
-use Rattle.poets_syntax.specs.Applied.{Takes, ApplicationsFit, BodiesFit}
+use Rattle.poets_syntax.specs.Applied.{Takes, ApplicationsFit}
 use Rattle.poets_syntax.specs.WellFormed.{HaveDeclaredLiterals, IsWellFormed}
 use Rattle.poets_syntax.specs.TypeOf.{Verdict, Passes, Fails, ◌>>=◌, Scope, must_be, unary_type, binary_type, make_type, if_type, resource_type, literal_type, type_of}
-use Rattle.poets_syntax.specs.Typed.{is_among, in_use, check_new, check_type, check_args, check_application, check_contract, names_bound, types_bound, scope_of, IsTyped, IsTypedBook}
+use Rattle.poets_syntax.specs.Typed.{is_among, in_use, check_new, check_type, check_args, check_application, check_contract, names_bound, types_bound}
+use Rattle.poets_syntax.specs.code.Passing.{ContractPasses}
 
 -- what passes two checks passes each
 pub passed : {A B : Type 0} (x : Verdict A) (next : A → Verdict B) (b : B) → (x >>= next) ≡ Passes b → (a : A) × (x ≡ Passes a) × (next a ≡ Passes b)
@@ -115,7 +116,7 @@ applied_literals declared scope f (Some t) args h =
     let p = as_many (length t.params) (length args) (WrongCount f (length t.params) (length args)) (check_args declared scope t.params args) h in
     HaveDeclaredLiterals-typed declared scope t.params args p.0 p.1
 
-pub IsWellFormed-typed : (book : Book) (reports : List Name) (scope : Scope) (c : Contract) → IsTyped book reports scope c → IsWellFormed book.declared c
+pub IsWellFormed-typed : (book : Book) (reports : List Name) (scope : Scope) (c : Contract) → ContractPasses book reports scope c → IsWellFormed book.declared c
 IsWellFormed-typed book reports scope Success h = tt
 IsWellFormed-typed book reports scope Failure h = tt
 IsWellFormed-typed book reports scope (Transmit b p c) h =
@@ -143,7 +144,7 @@ fitting book scope f args (Some t) e h =
     let p = as_many (length t.params) (length args) (WrongCount f (length t.params) (length args)) (check_args book.declared scope t.params args) h in
     (t, e, p.0)
 
-pub ApplicationsFit-typed : (book : Book) (reports : List Name) (scope : Scope) (c : Contract) → IsTyped book reports scope c → ApplicationsFit book c
+pub ApplicationsFit-typed : (book : Book) (reports : List Name) (scope : Scope) (c : Contract) → ContractPasses book reports scope c → ApplicationsFit book c
 ApplicationsFit-typed book reports scope Success h = tt
 ApplicationsFit-typed book reports scope Failure h = tt
 ApplicationsFit-typed book reports scope (Transmit b p c) h =
@@ -161,6 +162,3 @@ ApplicationsFit-typed book reports scope (Seq c₁ c₂) h =
     let p = passed (check_contract book reports scope c₁) (λ _. check_contract book reports scope c₂) tt h in
     (ApplicationsFit-typed book reports scope c₁ p.1, ApplicationsFit-typed book reports scope c₂ p.2)
 ApplicationsFit-typed book reports scope (App f args) h = fitting book scope f args (template_in book.templates f) refl h
-
-pub BodiesFit-typed : (book : Book) (reports : List Name) → IsTypedBook book reports → BodiesFit book
-BodiesFit-typed book reports typed f t i = ApplicationsFit-typed book reports (scope_of t.params) t.body (typed f t i).1

@@ -6,7 +6,7 @@ use Rattle.poets_value.specs.declared.value.Ty.{Ty}
 use Rattle.poets_value.specs.declared.value.Ty.TheVariants as T
 use Rattle.poets_expr.specs.Env.{same_name}
 use Rattle.poets_syntax.specs.Plain.{Book}
-use Rattle.poets_syntax.specs.Typed.{IsTypedBook}
+use Rattle.poets_syntax.specs.Typing.{IsTypedBook}
 
 -- the names of the templates, and those of reports beside them
 abbrev pub names_of_templates_and : Book → (reports : List Name) → List Name

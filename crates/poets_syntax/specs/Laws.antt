@@ -16,7 +16,7 @@ use Rattle.poets_syntax.specs.Applied.{ApplicationsFit}
 use Rattle.poets_syntax.specs.Replace.{replace, env_of, AreDeclared, BindersAreUndeclared}
 use Rattle.poets_syntax.specs.Marks.{Marks, AreRight, Nullable, Hopeful, nullable}
 use Rattle.poets_syntax.specs.TypeOf.{Scope}
-use Rattle.poets_syntax.specs.Typed.{IsTyped}
+use Rattle.poets_syntax.specs.Typing.{IsTyped}
 use Rattle.poets_syntax.specs.WellFormed.{IsWellFormed}
 
 -- with no granted step, to be performed perhaps is to be performed

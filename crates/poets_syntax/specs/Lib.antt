@@ -21,9 +21,11 @@ pub mod NoTemplates
 pub mod TypeOf
 pub mod OfType
 pub mod Typed
+pub mod Typing
 pub mod Checked
 pub mod Guarded
 pub mod Studied
 pub mod StudiedLaws
 pub mod TypedLaws
 pub mod Examples
+pub mod code

@@ -8,7 +8,7 @@ use Rattle.poets_syntax.specs.Book.{template_in}
 use Rattle.poets_syntax.specs.Applied.{ApplicationsFit, BodiesFit, CountsFit, BodiesCountsFit}
 use Rattle.poets_syntax.specs.Marks.{Marks, AreRight}
 use Rattle.poets_syntax.specs.TypeOf.{Scope}
-use Rattle.poets_syntax.specs.Typed.{IsTyped, IsTypedBook}
+use Rattle.poets_syntax.specs.Typing.{IsTyped, IsTypedBook}
 use Rattle.poets_syntax.specs.Guarded.{IsGuarded}
 use Rattle.poets_syntax.specs.Exposed.{UnfoldsWithin}
 use Rattle.poets_syntax.specs.Width.{body_in, wide_by, width}

@@ -1,5 +1,5 @@
 -- The types of expressions, or the first fault.
-use Rattle.std.specs.Prelude.{◌≡◌, ℕ, nat_eq, Bool, List, [], ◌∷◌, Option, Some, None, if◌then◌else◌}
+use Rattle.std.specs.Prelude.{nat_eq, Bool, List, [], ◌∷◌, Option, Some, None, if◌then◌else◌}
 use Rattle.poets_value.specs.declared.value.Name.{Name}
 use Rattle.poets_value.specs.declared.value.Ty.{Ty}
 use Rattle.poets_value.specs.declared.value.Ty.TheVariants as T
@@ -10,7 +10,7 @@ use Rattle.poets_expr.specs.declared.expr.Op.TheVariants as O
 use Rattle.poets_expr.specs.Expression.{UnaryOp, Minus, Not, AmountOf, KindOf, Expression, Literal, Undefined, Named, Unary, Make, Binary, If}
 use Rattle.poets_expr.specs.Env.{Declared, same_name}
 use Rattle.poets_expr.specs.Same.{ty_place}
-use Rattle.poets_syntax.specs.Plain.{TypeCause, Twice, Unknown, WrongCount, WrongType}
+use Rattle.poets_syntax.specs.Plain.{TypeCause, Unknown, WrongType}
 
 -- what passes a check, or the first fault
 pub data Verdict (A : Type 0) : Type 0 where
@@ -153,6 +153,3 @@ type_of declared scope (If a b c) = do
   y ← type_of declared scope b
   z ← type_of declared scope c
   if_type x y z
-
-abbrev pub HasType : Declared → Scope → Expression → Ty → Type 0
-HasType declared scope e t = type_of declared scope e ≡ Passes t

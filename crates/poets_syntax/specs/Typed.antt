@@ -1,5 +1,5 @@
 -- Typed contracts, or the first fault.
-use Rattle.std.specs.Prelude.{◌≡◌, nat_eq, Bool, ◌||◌, is_some, List, [], ◌∷◌, ◌++◌, length, map, Option, Some, None, if◌then◌else◌}
+use Rattle.std.specs.Prelude.{nat_eq, Bool, ◌||◌, is_some, List, [], ◌∷◌, ◌++◌, length, map, Option, Some, None, if◌then◌else◌}
 use Rattle.std.specs.List.{list_any}
 use Rattle.poets_value.specs.declared.value.Name.{Name}
 use Rattle.poets_value.specs.declared.value.Ty.{Ty}
@@ -76,14 +76,3 @@ check_contract book reports scope (Seq c₁ c₂) = do
   _ ← check_contract book reports scope c₁
   check_contract book reports scope c₂
 check_contract book reports scope (App f args) = check_application book.declared scope f (template_in book.templates f) args
-
--- no check finds a fault
-abbrev pub IsTyped : Book → (reports : List Name) → Scope → Contract → Type 0
-IsTyped book reports scope c = check_contract book reports scope c ≡ Passes tt
-
--- one template: its parameters are new, and its body is typed under them
-abbrev pub IsTypedTemplate : Book → (reports : List Name) → Template → Type 0
-IsTypedTemplate book reports t = (check_new (in_use book reports) [] (map (λ p. p.name) t.params) ≡ Passes tt) × IsTyped book reports (scope_of t.params) t.body
-
-abbrev pub IsTypedBook : Book → (reports : List Name) → Type 0
-IsTypedBook book reports = (f : Name) (t : Template) → template_in book.templates f ≡ Some t → IsTypedTemplate book reports t

@@ -1,7 +1,7 @@
 //! The laws of `Perf` and `May`, and of checked, guarded and studied books, each carried by a function that does nothing.
 ghost use Rattle.poets_syntax.specs.Laws.{NothingGranted, RestGranted, AllGranted, GrantedAnywhere, GrantedByShape, NullableByShape, HopefulByShape, NullableByMarks, WellFormedBindsUndeclared, ReplacedAlike, ReplacedPerformed, ReplacedIsWhole, TypedIsWellFormed};
 ghost use Rattle.poets_syntax.specs.StudiedLaws.{TypedApplicationsFit, TypedBodiesFit, TypedCountsFit, StudiedMarksAreRight, CountsFitWhereKnown, WidthUnfolds, EnoughDepth};
-ghost use Rattle.poets_syntax.specs.TypedLaws.{ValueIsOfType, FoldedHasType, ReplacedHasType, ReplacedIsTyped};
+ghost use Rattle.poets_syntax.specs.TypedLaws.{TypesByRules, ContractsByRules, ValueIsOfType, FoldedHasType, ReplacedHasType, ReplacedIsTyped};
 
 /// With no granted step, what may be performed is what is performed.
 pub fn nothing_granted()
@@ -59,7 +59,14 @@ pub fn replaced_whole()
     ensures { ReplacedIsWhole }
 {}
 
-/// A contract that passes typing is well-formed and has the right numbers of arguments, which the other laws ask for.
+/// Expressions and contracts pass their checks exactly where they are typed by the rules of typing (`docs/LANGUAGE.md`,
+/// "Names and types").
+pub fn typed_by_rules()
+    ensures expressions { TypesByRules }
+    ensures contracts { ContractsByRules }
+{}
+
+/// A typed contract is well-formed and has the right numbers of arguments, which the other laws ask for.
 pub fn typed_well_formed()
     ensures well_formed { TypedIsWellFormed }
     ensures counts { TypedCountsFit }
