@@ -9,7 +9,7 @@ use Rattle.poets_syntax.specs.Studied.{IsStudiedBook, marks_in}
 use Rattle.poets_syntax.specs.Width.{body_in, wide_by, width}
 use Rattle.poets_syntax.proofs.Nullability.{CountsFit-fit}
 use Rattle.poets_syntax.proofs.StudiedMarks.{AreRight-studied}
-use Rattle.poets_syntax.proofs.Typedness.{BodiesFit-typed}
+use Rattle.poets_syntax.proofs.TypingRules.{BodiesFit-typed}
 use Rattle.poets_syntax.proofs.Unfolded.{width-unfolded}
 
 -- the bodies of its templates apply templates to as many arguments as these have parameters

@@ -12,7 +12,8 @@ use Rattle.poets_syntax.specs.Book.{template_in}
 use Rattle.poets_syntax.specs.Marks.{Marks}
 use Rattle.poets_syntax.specs.Normal.{send, folded, params_in, normal}
 use Rattle.poets_syntax.specs.TypeOf.{Passes, Scope}
-use Rattle.poets_syntax.specs.Typed.{types_bound, check_type, check_args, IsTyped}
+use Rattle.poets_syntax.specs.Typed.{types_bound, check_type, check_args}
+use Rattle.poets_syntax.specs.code.Passing.{ContractPasses}
 use Rattle.poets_syntax.proofs.Replacing.{truth}
 use Rattle.poets_syntax.proofs.Typedness.{passed}
 use Rattle.poets_syntax.proofs.TypedReplacing.{KeepsTypes, KeepsTypes-bound, HasType-fold_closed, HasType-checked, check_type-typed, application_parts, application_of_parts, two_parts, of_two_parts, transmit_parts, of_transmit_parts, binders_undeclared}
@@ -38,8 +39,8 @@ params_in-known : (book : Book) (f : Name) (t : Template) → template_in book.t
 params_in-known book f t i = rw i refl
 
 module _ (book : Book) (reports : List Name) where
-  pub IsTyped-of_parts : (scope : Scope) → IsOfParts (IsTyped book reports scope)
-  IsTyped-of_parts s = record {
+  pub ContractPasses-of_parts : (scope : Scope) → IsOfParts (ContractPasses book reports scope)
+  ContractPasses-of_parts s = record {
     failure = refl;
     plus = of_two_parts book reports s;
     par = of_two_parts book reports s;
@@ -49,33 +50,33 @@ module _ (book : Book) (reports : List Name) where
     seq_parts = two_parts book reports s;
   }
 
-  IsTyped-send : (scope : Scope) (b : Binders) (p : Expression) (c : Contract) → IsTyped book reports scope (Transmit b p c) →
-      IsTyped book reports scope (send b p c)
-  IsTyped-send s b p Failure h = refl
-  IsTyped-send s b p _ h = h
+  ContractPasses-send : (scope : Scope) (b : Binders) (p : Expression) (c : Contract) → ContractPasses book reports scope (Transmit b p c) →
+      ContractPasses book reports scope (send b p c)
+  ContractPasses-send s b p Failure h = refl
+  ContractPasses-send s b p _ h = h
 
-  pub IsTyped-normal : (marks : Marks) (scope : Scope) → KeepsTypes book.declared scope → (c : Contract) → IsTyped book reports scope c →
-      IsTyped book reports scope (normal book marks c)
-  IsTyped-normal m s k Success h = refl
-  IsTyped-normal m s k Failure h = refl
-  IsTyped-normal m s k (Transmit b p c) h =
+  pub ContractPasses-normal : (marks : Marks) (scope : Scope) → KeepsTypes book.declared scope → (c : Contract) → ContractPasses book reports scope c →
+      ContractPasses book reports scope (normal book marks c)
+  ContractPasses-normal m s k Success h = refl
+  ContractPasses-normal m s k Failure h = refl
+  ContractPasses-normal m s k (Transmit b p c) h =
       let parts = transmit_parts book reports s b p c h in
       let below = KeepsTypes-bound book.declared b s (binders_undeclared book reports s b p c h) k in
-      IsTyped-send s b p (normal book m c)
-      (of_transmit_parts book reports s b p (normal book m c) (parts.0, parts.1, IsTyped-normal m (types_bound b ++ s) below c parts.2))
-  IsTyped-normal m s k (Plus a b) h =
+      ContractPasses-send s b p (normal book m c)
+      (of_transmit_parts book reports s b p (normal book m c) (parts.0, parts.1, ContractPasses-normal m (types_bound b ++ s) below c parts.2))
+  ContractPasses-normal m s k (Plus a b) h =
       let parts = two_parts book reports s a b h in
-      kept_by_plus (IsTyped book reports s) (IsTyped-of_parts s) (normal book m a) (normal book m b)
-      (IsTyped-normal m s k a parts.0) (IsTyped-normal m s k b parts.1)
-  IsTyped-normal m s k (Par a b) h =
+      kept_by_plus (ContractPasses book reports s) (ContractPasses-of_parts s) (normal book m a) (normal book m b)
+      (ContractPasses-normal m s k a parts.0) (ContractPasses-normal m s k b parts.1)
+  ContractPasses-normal m s k (Par a b) h =
       let parts = two_parts book reports s a b h in
-      kept_by_par (IsTyped book reports s) (IsTyped-of_parts s) (normal book m a) (normal book m b)
-      (IsTyped-normal m s k a parts.0) (IsTyped-normal m s k b parts.1)
-  IsTyped-normal m s k (Seq a b) h =
+      kept_by_par (ContractPasses book reports s) (ContractPasses-of_parts s) (normal book m a) (normal book m b)
+      (ContractPasses-normal m s k a parts.0) (ContractPasses-normal m s k b parts.1)
+  ContractPasses-normal m s k (Seq a b) h =
       let parts = two_parts book reports s a b h in
-      kept_by_seq (IsTyped book reports s) (IsTyped-of_parts s) (normal book m a) (normal book m b)
-      (IsTyped-normal m s k a parts.0) (IsTyped-normal m s k b parts.1)
-  IsTyped-normal m s k (App f args) h = elim (truth (m.hopeful f)) [
+      kept_by_seq (ContractPasses book reports s) (ContractPasses-of_parts s) (normal book m a) (normal book m b)
+      (ContractPasses-normal m s k a parts.0) (ContractPasses-normal m s k b parts.1)
+  ContractPasses-normal m s k (App f args) h = elim (truth (m.hopeful f)) [
     | inl e ↦ (let parts = application_parts book.declared s f (template_in book.templates f) args h in
         let params = parts.0.params in
         rw (e, params_in-known book f parts.0 parts.1)

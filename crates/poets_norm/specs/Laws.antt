@@ -13,7 +13,7 @@ use Rattle.poets_syntax.specs.Marks.{Marks, AreRight, Hopeful}
 use Rattle.poets_syntax.specs.Normal.{normal}
 use Rattle.poets_syntax.specs.WellFormed.{IsWellFormed, AreWellFormed}
 use Rattle.poets_syntax.specs.TypeOf.{Scope}
-use Rattle.poets_syntax.specs.Typed.{IsTyped}
+use Rattle.poets_syntax.specs.Typing.{IsTyped}
 use Rattle.poets_syntax.specs.OfType.{IsUndeclaredScope}
 use Rattle.poets_syntax.specs.NoTemplates.{without_templates, no_marks}
 
