@@ -22,8 +22,9 @@ use Rattle.poets_syntax.specs.Marks.{Marks, nullable}
 use Rattle.poets_syntax.specs.Normal.{folded, params_in, app, normal}
 use Rattle.poets_syntax.specs.Replace.{replace}
 use Rattle.poets_syntax.specs.Residual.{argument_givens, body_of}
-use Rattle.poets_syntax.specs.TypeOf.{Passes, name_type, unary_type, binary_type, make_type, if_type, ◌>>=◌, type_of, HasType}
-use Rattle.poets_syntax.specs.Typed.{check_type, check_args, IsTyped, IsTypedBook}
+use Rattle.poets_syntax.specs.TypeOf.{Passes, name_type, unary_type, binary_type, make_type, if_type, ◌>>=◌, type_of}
+use Rattle.poets_syntax.specs.Typed.{check_type, check_args}
+use Rattle.poets_syntax.specs.code.Passing.{HasType, ContractPasses, BookPasses}
 use Rattle.poets_syntax.specs.Width.{body_in}
 use Rattle.poets_syntax.proofs.Replacing.{truth}
 use Rattle.poets_syntax.proofs.Soundness.{HasDeclaredNames-val}
@@ -35,7 +36,7 @@ use Rattle.poets_norm.proofs.Parts.{FailureOr}
 use Rattle.poets_residue.specs.Once.{ready_by, ready_at, asked_of, IsAmong}
 use Rattle.poets_residue.proofs.Kept.{of_body}
 use Rattle.poets_residue.proofs.Ready.{among_one, among_two, ready_at-failure}
-use Rattle.poets_residue.proofs.TypedResiduals.{IsTyped-body_of}
+use Rattle.poets_residue.proofs.TypedResiduals.{ContractPasses-body_of}
 
 -- ---- expressions
 
@@ -138,7 +139,7 @@ module _ (book : Book) (reports : List Name) (marks : Marks) where
   params_known : (f : Name) (t : Template) → template_in book.templates f ≡ Some t → params_in book f ≡ t.params
   params_known f t q = rw q refl
 
-  AreLiterals-built : (f : Name) (args : List Expression) → IsTyped book reports [] (App f args) → app book marks f args ≡ App f args →
+  AreLiterals-built : (f : Name) (args : List Expression) → ContractPasses book reports [] (App f args) → app book marks f args ≡ App f args →
       AreLiterals book.declared args
   AreLiterals-built f args h built =
       let parts = application_parts book.declared [] f (template_in book.templates f) args h in
@@ -153,8 +154,8 @@ module _ (book : Book) (reports : List Name) (marks : Marks) where
   ApplyLiterals-both cs ds h k g xs m = elim (among_two (App g xs) cs ds m) [ inl n ↦ h g xs n | inr n ↦ k g xs n ]
 
   literals_by : (unfolded : Name → List Expression → List Contract) →
-      ((f : Name) (args : List Expression) → IsTyped book reports [] (App f args) → ApplyLiterals (unfolded f args)) →
-      (c : Contract) → IsTyped book reports [] c → IsBuilt book marks c → ApplyLiterals (ready_by unfolded marks c)
+      ((f : Name) (args : List Expression) → ContractPasses book reports [] (App f args) → ApplyLiterals (unfolded f args)) →
+      (c : Contract) → ContractPasses book reports [] c → IsBuilt book marks c → ApplyLiterals (ready_by unfolded marks c)
   literals_by u rest Success h k = λ g xs m. absurd cc
   literals_by u rest Failure h k = λ g xs m. absurd cc
   literals_by u rest (Transmit b p c) h k = λ g xs m. elim (among_one (App g xs) (Transmit b p c) [] m) [
@@ -179,21 +180,21 @@ module _ (book : Book) (reports : List Name) (marks : Marks) where
     | inr n ↦ rest f args h g xs n
   ]
 
-  module _ (typed : IsTypedBook book reports) where
+  module _ (typed : BookPasses book reports) where
     literals_of_failure : (d : ℕ) (c : Contract) → c ≡ Failure → ApplyLiterals (ready_at d book marks c)
     literals_of_failure d c e g xs m =
         let none : IsAmong (App g xs) [] = rw (e, ready_at-failure book marks d) at m in absurd cc
 
-    literals_at : (d : ℕ) (c : Contract) → IsTyped book reports [] c → FailureOr (IsBuilt book marks) c → ApplyLiterals (ready_at d book marks c)
+    literals_at : (d : ℕ) (c : Contract) → ContractPasses book reports [] c → FailureOr (IsBuilt book marks) c → ApplyLiterals (ready_at d book marks c)
     literals_at d c h (inl e) = literals_of_failure d c e
     literals_at zero c h (inr k) = literals_by (λ _ _. []) (λ f args i g xs m. absurd cc) c h k
     literals_at (suc d) c h (inr k) =
         literals_by (λ f args. ready_at d book marks (body_of book marks (template_in book.templates f) args))
-        (λ f args i. literals_at d (body_of book marks (template_in book.templates f) args) (IsTyped-body_of book reports marks typed f args i)
+        (λ f args i. literals_at d (body_of book marks (template_in book.templates f) args) (ContractPasses-body_of book reports marks typed f args i)
         (of_body book marks (FailureOr (IsBuilt book marks)) (inl refl) (template_in book.templates f) args
         (λ t q. built-normal book marks (replace (argument_givens book.declared t.params args) t.body)))) c h k
 
     -- the arguments of the applications that stand ready in a typed normal form are literals
-    pub ready_literals : (d : ℕ) (c : Contract) → IsTyped book reports [] c → normal book marks c ≡ c →
+    pub ready_literals : (d : ℕ) (c : Contract) → ContractPasses book reports [] c → normal book marks c ≡ c →
         (f : Name) (args : List Expression) → IsAmong (App f args) (ready_at d book marks c) → AreLiterals book.declared args
     ready_literals d c h n = literals_at d c h (built_of_normal book marks c n)

@@ -196,7 +196,7 @@ noted_besides old new x place next l memo more m d (inr h) = elim (truth (nat_eq
 ]
 
 -- what was asked for a row, once that is noted
-pub noted_spent : (book : Definitions) (marks : Marks) (old new : List Node) → Extends old new →
+pub noted_spent : (book : Book) (marks : Marks) (old new : List Node) → Extends old new →
     (place next : ℕ) → place < length old → (before mid more : ℕ → Option ℕ) (x y : ℕ) {E : Type 0} (r : Result ℕ E) →
     IsSpent book marks (contract_at old place) (IsNoted old before) (IsNotedBut (contract_at old place) new mid)
     x y {E = E} (Ok next) → IfOk r (λ _. (k : ℕ) → more k ≡ cond (nat_eq place k) (Some next) (mid k)) →

@@ -13,39 +13,39 @@ use Rattle.poets_syntax.specs.Marks.{Marks}
 use Rattle.poets_syntax.specs.Normal.{normal}
 use Rattle.poets_syntax.specs.WellFormed.{IsDeclaredEvent}
 use Rattle.poets_syntax.specs.Residual.{event_givens, argument_givens, after_at, after, body_of, residual_after}
-use Rattle.poets_syntax.specs.Typed.{IsTyped, IsTypedBook}
+use Rattle.poets_syntax.specs.code.Passing.{ContractPasses, BookPasses}
 use Rattle.poets_syntax.proofs.TypedReplacing.{KeepsTypes-nil}
-use Rattle.poets_syntax.proofs.TypedGivens.{IsTyped-event, IsTyped-arguments}
-use Rattle.poets_norm.proofs.TypedNormals.{IsTyped-of_parts, IsTyped-normal}
+use Rattle.poets_syntax.proofs.TypedGivens.{ContractPasses-event, ContractPasses-arguments}
+use Rattle.poets_norm.proofs.TypedNormals.{ContractPasses-of_parts, ContractPasses-normal}
 use Rattle.poets_residue.proofs.Kept.{kept_by_after_at, of_body}
 
 module _ (book : Book) (reports : List Name) (marks : Marks) where
-  closed_normal : (c : Contract) → IsTyped book reports [] c → IsTyped book reports [] (normal book marks c)
-  closed_normal = IsTyped-normal book reports marks [] (KeepsTypes-nil book.declared)
+  closed_normal : (c : Contract) → ContractPasses book reports [] c → ContractPasses book reports [] (normal book marks c)
+  closed_normal = ContractPasses-normal book reports marks [] (KeepsTypes-nil book.declared)
 
-  IsTyped-taken : (e : Event) → IsDeclaredEvent book.declared e → (b : Binders) (p : Expression) (c : Contract) →
-      IsTyped book reports [] (Transmit b p c) → IsTyped book reports [] (normal book marks (replace (event_givens b e) c))
-  IsTyped-taken e declared b p c h = closed_normal (replace (event_givens b e) c) (IsTyped-event book reports b p c e declared h)
+  ContractPasses-taken : (e : Event) → IsDeclaredEvent book.declared e → (b : Binders) (p : Expression) (c : Contract) →
+      ContractPasses book reports [] (Transmit b p c) → ContractPasses book reports [] (normal book marks (replace (event_givens b e) c))
+  ContractPasses-taken e declared b p c h = closed_normal (replace (event_givens b e) c) (ContractPasses-event book reports b p c e declared h)
 
-  module _ (typed : IsTypedBook book reports) where
-    pub IsTyped-body_of : (f : Name) (args : List Expression) → IsTyped book reports [] (App f args) →
-        IsTyped book reports [] (body_of book marks (template_in book.templates f) args)
-    IsTyped-body_of f args h =
-        of_body book marks (IsTyped book reports []) refl (template_in book.templates f) args
-        (λ t q. closed_normal (replace (argument_givens book.declared t.params args) t.body) (IsTyped-arguments book reports typed f args t q h))
+  module _ (typed : BookPasses book reports) where
+    pub ContractPasses-body_of : (f : Name) (args : List Expression) → ContractPasses book reports [] (App f args) →
+        ContractPasses book reports [] (body_of book marks (template_in book.templates f) args)
+    ContractPasses-body_of f args h =
+        of_body book marks (ContractPasses book reports []) refl (template_in book.templates f) args
+        (λ t q. closed_normal (replace (argument_givens book.declared t.params args) t.body) (ContractPasses-arguments book reports typed f args t q h))
 
-    pub IsTyped-after_at : (e : Event) → IsDeclaredEvent book.declared e → (d : ℕ) (c : Contract) → IsTyped book reports [] c →
-        IsTyped book reports [] (after_at d book marks e c)
-    IsTyped-after_at e declared =
-        kept_by_after_at book marks e (IsTyped book reports []) (IsTyped-of_parts book reports []) (IsTyped-taken e declared) IsTyped-body_of
+    pub ContractPasses-after_at : (e : Event) → IsDeclaredEvent book.declared e → (d : ℕ) (c : Contract) → ContractPasses book reports [] c →
+        ContractPasses book reports [] (after_at d book marks e c)
+    ContractPasses-after_at e declared =
+        kept_by_after_at book marks e (ContractPasses book reports []) (ContractPasses-of_parts book reports []) (ContractPasses-taken e declared) ContractPasses-body_of
 
-    through_typed : (s : List Event) (c : Contract) → All (IsDeclaredEvent book.declared) s → IsTyped book reports [] c →
-        IsTyped book reports [] (fold (λ d e. after book marks e d) c s)
+    through_typed : (s : List Event) (c : Contract) → All (IsDeclaredEvent book.declared) s → ContractPasses book reports [] c →
+        ContractPasses book reports [] (fold (λ d e. after book marks e d) c s)
     through_typed [] c events h = h
     through_typed (e ∷ s) c events h =
         through_typed s (after book marks e c) (All-tail (IsDeclaredEvent book.declared) e s events)
-        (IsTyped-after_at e (All-head (IsDeclaredEvent book.declared) e s events) (length book.templates) c h)
+        (ContractPasses-after_at e (All-head (IsDeclaredEvent book.declared) e s events) (length book.templates) c h)
 
-    pub IsTyped-residual_after : (o : Contract) (s : List Event) → All (IsDeclaredEvent book.declared) s → IsTyped book reports [] o →
-        IsTyped book reports [] (residual_after book marks o s)
-    IsTyped-residual_after o s events h = through_typed s (normal book marks o) events (closed_normal o h)
+    pub ContractPasses-residual_after : (o : Contract) (s : List Event) → All (IsDeclaredEvent book.declared) s → ContractPasses book reports [] o →
+        ContractPasses book reports [] (residual_after book marks o s)
+    ContractPasses-residual_after o s events h = through_typed s (normal book marks o) events (closed_normal o h)

@@ -12,7 +12,7 @@ use Rattle.poets_syntax.specs.Marks.{Marks}
 use Rattle.poets_syntax.specs.Normal.{normal}
 use Rattle.poets_syntax.specs.WellFormed.{IsDeclaredEvent}
 use Rattle.poets_syntax.specs.Residual.{after_at, after, residual_after}
-use Rattle.poets_syntax.specs.Typed.{IsTyped, IsTypedBook}
+use Rattle.poets_syntax.specs.Typing.{IsTyped, IsTypedBook}
 use Rattle.poets_syntax.specs.Width.{body_in}
 use Rattle.poets_norm.specs.Questions.{operated}
 use Rattle.poets_residue.specs.Once.{ready, asked_of, IsAmong}
