@@ -3,6 +3,7 @@ pub mod Histories
 pub mod Gathering
 pub mod OneFrames
 pub mod Examples
+pub mod TypingRules
 pub mod TypedCommands
 pub mod Reports
 pub mod Crossing

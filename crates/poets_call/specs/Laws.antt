@@ -1,11 +1,13 @@
--- The laws of replies, histories and typed commands, as statements.
+-- The laws of replies, histories and typed commands, and what checks of types say by the rules of typing, as statements.
 use Rattle.std.specs.Prelude.{◌≡◌, ◌↔◌, List, Some, length}
 use Rattle.poets_value.specs.declared.value.Name.{Name}
 use Rattle.poets_value.specs.declared.event.Event.{Event}
 use Rattle.poets_expr.specs.Expression.{Expression}
 use Rattle.poets_syntax.specs.Applied.{CountsFit}
-use Rattle.poets_syntax.specs.Plain.{Book}
+use Rattle.poets_syntax.specs.Plain.{Book, Template}
 use Rattle.poets_syntax.specs.Contract.{Contract}
+use Rattle.poets_syntax.specs.TypeOf.{Passes}
+use Rattle.poets_syntax.specs.Typing.{IsTypedTemplate}
 use Rattle.poets_syntax.specs.WellFormed.{IsWellFormed, IsDeclaredEvent}
 use Rattle.poets_report.specs.Plain.{Report}
 use Rattle.poets_call.specs.Plain.{Command, Reply, Entry}
@@ -14,7 +16,8 @@ use Rattle.poets_call.specs.Ledger.{Ledger}
 use Rattle.poets_call.specs.Frame.{Frame}
 use Rattle.poets_call.specs.Histories.{IsLegal, AnswersIn}
 use Rattle.poets_call.specs.Replies.{Replies, Legal, Answers, report_in}
-use Rattle.poets_call.specs.TypedStatements.{PassesAsCommand}
+use Rattle.poets_call.specs.TypedStatements.{check_template, check_report, check_command}
+use Rattle.poets_call.specs.Typing.{IsTypedReport, IsTypedCommand}
 
 -- a command has at most one reply
 abbrev pub OneReply : Type 0
@@ -38,15 +41,28 @@ abbrev pub AnyFrameAnswers : Type 0
 AnyFrameAnswers = (f : Frame) (calls : List Call) (command : Command) (r : Reply) →
     AnswersIn f.book f.reports calls command r ↔ Answers f calls command r
 
+-- a template passes exactly where it is typed by the rules
+abbrev pub TemplatesByRules : Type 0
+TemplatesByRules = (book : Book) (reports : List Name) (t : Template) → check_template book reports t ≡ Passes tt ↔ IsTypedTemplate book reports t
+
+-- a report passes exactly where it is typed by the rules
+abbrev pub ReportsByRules : Type 0
+ReportsByRules = (book : Book) (reports : List Name) (q : Report) → check_report book reports q ≡ Passes tt ↔ IsTypedReport book reports q
+
+-- a command passes exactly where it is typed by the rules
+abbrev pub CommandsByRules : Type 0
+CommandsByRules = (book : Book) (reports : List Report) (command : Command) →
+    check_command book reports command ≡ Passes tt ↔ IsTypedCommand book reports command
+
 -- a typed registration is of a well-formed contract with the right numbers of arguments
 abbrev pub TypedRegistration : Type 0
 TypedRegistration = (book : Book) (reports : List Report) (x : Name) (c : Contract) →
-    PassesAsCommand book reports (Command.Register x c) → IsWellFormed book.declared c × CountsFit book c
+    IsTypedCommand book reports (Command.Register x c) → IsWellFormed book.declared c × CountsFit book c
 
 -- a typed transmission is of a declared event
 abbrev pub TypedEvent : Type 0
 TypedEvent = (book : Book) (reports : List Report) (x : Name) (e : Event) →
-    PassesAsCommand book reports (Command.Transmit x e) → IsDeclaredEvent book.declared e
+    IsTypedCommand book reports (Command.Transmit x e) → IsDeclaredEvent book.declared e
 
 -- there is a report with the name, and it takes so many arguments
 abbrev pub IsReportOf : List Report → Name → List Expression → Type 0
@@ -55,8 +71,8 @@ IsReportOf reports x args = (q : Report) × (report_in reports x ≡ Some q) × 
 -- a typed tally, portfolio or watch is of a report that takes so many arguments
 pub record TypedReport : Type 0 where
   pub tally : (book : Book) (reports : List Report) (x : Name) (args : List Expression) →
-      PassesAsCommand book reports (Command.Tally x args) → IsReportOf reports x args
+      IsTypedCommand book reports (Command.Tally x args) → IsReportOf reports x args
   pub portfolio : (book : Book) (reports : List Report) (x : Name) (args : List Expression) (over : List Name) →
-      PassesAsCommand book reports (Command.Portfolio x args over) → IsReportOf reports x args
+      IsTypedCommand book reports (Command.Portfolio x args over) → IsReportOf reports x args
   pub watch : (book : Book) (reports : List Report) (x : Name) (args : List Expression) →
-      PassesAsCommand book reports (Command.Watch x args) → IsReportOf reports x args
+      IsTypedCommand book reports (Command.Watch x args) → IsReportOf reports x args

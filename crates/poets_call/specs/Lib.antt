@@ -10,6 +10,7 @@ pub mod Said
 pub mod Statements
 pub mod Declarations
 pub mod TypedStatements
+pub mod Typing
 pub mod Rules
 pub mod Histories
 pub mod Taken

@@ -6,7 +6,7 @@ use Rattle.poets_syntax.specs.Plain.{Book}
 use Rattle.poets_syntax.specs.Whole.{IsWholeContract}
 use Rattle.poets_report.specs.Plain.{Report}
 use Rattle.poets_call.specs.Plain.{Command}
-use Rattle.poets_call.specs.TypedStatements.{PassesAsCommand}
+use Rattle.poets_call.specs.Typing.{IsTypedCommand}
 
 -- each number in the command is a whole number of the language, and each day one of its days
 abbrev pub IsWholeCommand : Command → Type 0
@@ -21,5 +21,5 @@ IsWholeCommand (Command.Read n) = n < 2 ^ 63
 
 -- the command is typed in the book and its reports, and whole
 pub record IsTaken (book : Book) (reports : List Report) (command : Command) : Type 0 where
-  pub typed : PassesAsCommand book reports command
+  pub typed : IsTypedCommand book reports command
   pub whole : IsWholeCommand command

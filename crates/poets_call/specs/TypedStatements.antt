@@ -1,5 +1,5 @@
 -- Typed statements, or the first fault.
-use Rattle.std.specs.Prelude.{◌≡◌, ℕ, ◌+◌, List, [], ◌∷◌, ◌++◌, map, Option, Some, None}
+use Rattle.std.specs.Prelude.{ℕ, ◌+◌, List, [], ◌∷◌, ◌++◌, map, Option, Some, None}
 use Rattle.poets_value.specs.declared.value.Name.{Name}
 use Rattle.poets_value.specs.declared.event.Event.{Event}
 use Rattle.poets_value.specs.declared.value.Ty.{Ty}
@@ -103,7 +103,3 @@ first_of (Some fault) later = Some fault
 abbrev pub first_fault : List Statement → TypeFault
 first_fault statements =
     first_of (twice_from 1 [] statements) (mistyped_from 1 (book_from statements) (reports_of statements) statements)
-
--- a command that passes
-abbrev pub PassesAsCommand : Book → List plain.Report → plain.Command → Type 0
-PassesAsCommand book reports command = check_command book reports command ≡ Passes tt

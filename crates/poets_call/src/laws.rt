@@ -1,6 +1,6 @@
 //! Laws of replies, each carried by a function that does nothing.
 ghost use Rattle.poets_call.specs.Gathered.{LedgerIsGathered};
-ghost use Rattle.poets_call.specs.Laws.{OneReply, OneHistory, OneFrame, AnyFrame, AnyFrameAnswers, TypedRegistration, TypedEvent, TypedReport};
+ghost use Rattle.poets_call.specs.Laws.{OneReply, OneHistory, OneFrame, AnyFrame, AnyFrameAnswers, TemplatesByRules, ReportsByRules, CommandsByRules, TypedRegistration, TypedEvent, TypedReport};
 
 /// After the same history a command has at most one reply.
 pub fn one_reply()
@@ -30,6 +30,14 @@ pub fn any_frame()
 /// So may be asked which reply answers a command after those calls.
 pub fn any_frame_answers()
     ensures { AnyFrameAnswers }
+{}
+
+/// Templates, reports and commands pass their checks exactly where they are typed by the rules of typing
+/// (`docs/LANGUAGE.md`, "Names and types").
+pub fn typed_by_rules()
+    ensures templates { TemplatesByRules }
+    ensures reports { ReportsByRules }
+    ensures commands { CommandsByRules }
 {}
 
 /// A typed registration is of a well-formed contract with the right numbers of arguments.

@@ -285,7 +285,7 @@ args_fit declared scope (p ∷ params) (a ∷ args) e h =
     let rest : length params ≡ length args = cc in
     (has_wanted declared scope p.ty a q.0 q.1, args_fit declared scope params args rest q.2)
 
-fit_long : (declared : Declared) (scope : Scope) (params : List Param) (args : List Expression) → Fit declared scope params args → length params ≡ length args
+pub fit_long : (declared : Declared) (scope : Scope) (params : List Param) (args : List Expression) → Fit declared scope params args → length params ≡ length args
 fit_long declared scope [] [] f = refl
 fit_long declared scope [] (a ∷ args) f = absurd f
 fit_long declared scope (p ∷ params) [] f = absurd f
