@@ -17,13 +17,15 @@ use Rattle.poets_syntax.specs.Plain.{Book, Twice}
 use Rattle.poets_syntax.specs.Book.{template_in}
 use Rattle.poets_syntax.specs.Checked.{IsCheckedBook, names_of_templates_and}
 use Rattle.poets_syntax.specs.TypeOf.{Verdict, Passes, Fails, Scope, type_in}
-use Rattle.poets_syntax.specs.Typed.{is_among, in_use, check_new, check_contract, scope_of, IsTypedTemplate}
+use Rattle.poets_syntax.specs.Typed.{is_among, in_use, check_new, check_contract, scope_of}
+use Rattle.poets_syntax.specs.code.Passing.{TemplatePasses}
 use Rattle.poets_call.specs.Said.{Statement, Agents, Kinds, Template, Report, Clerk, Journal, Command, Numbered}
 use Rattle.poets_call.specs.Declarations.{agents_and_kinds, declared_by, template_in_statement, book_from, reports_of}
 use Rattle.poets_call.specs.Plain.{TypeFault}
 use Rattle.poets_call.specs.TypedStatements.{report_names, check_template, check_statement, or_else, twice_from, mistyped_from}
 use Rattle.poets_syntax.proofs.TypedGivens.{neither}
 use Rattle.poets_syntax.proofs.Typedness.{passed}
+use Rattle.poets_syntax.proofs.TypingRules.{book_typed}
 use Rattle.poets_types.proofs.Scopes.{same_name_laws}
 use Rattle.poets_report.specs.Plain as plain
 
@@ -52,12 +54,12 @@ found_here P true t u o e here later = let same : t ≡ u = cc in subst P same h
 found_here P false t u o e here later = later e
 
 typed_from : (book : Book) (reports : List plain.Report) (n : ℕ) (statements : List Statement) → mistyped_from n book reports statements ≡ None →
-    (f : Name) (t : plain.Template) → template_in (flat_map template_in_statement statements) f ≡ Some t → IsTypedTemplate book (report_names reports) t
+    (f : Name) (t : plain.Template) → template_in (flat_map template_in_statement statements) f ≡ Some t → TemplatePasses book (report_names reports) t
 typed_from book reports n [] e f t h = absurd cc
 typed_from book reports n (Template u ∷ statements) e f t h =
     let parts = or_else-none (check_template book (report_names reports) u) n (mistyped_from (n + 1) book reports statements) e in
     let typed = passed (check_new (in_use book (report_names reports)) [] (map (λ p. p.name) u.params)) (λ _. check_contract book (report_names reports) (scope_of u.params) u.body) tt parts.0 in
-    found_here (IsTypedTemplate book (report_names reports)) (same_name u.name f) u t (template_in (flat_map template_in_statement statements) f) h (typed.1, typed.2) (typed_from book reports (n + 1) statements parts.1 f t)
+    found_here (TemplatePasses book (report_names reports)) (same_name u.name f) u t (template_in (flat_map template_in_statement statements) f) h (typed.1, typed.2) (typed_from book reports (n + 1) statements parts.1 f t)
 typed_from book reports n (Agents names ∷ statements) e f t h = typed_from book reports (n + 1) statements e f t h
 typed_from book reports n (Kinds names ∷ statements) e f t h = typed_from book reports (n + 1) statements e f t h
 typed_from book reports n (Clerk ∷ statements) e f t h = typed_from book reports (n + 1) statements e f t h
@@ -192,7 +194,7 @@ IsCheckedBook-none statements book reports twice mistyped b r =
     let new = names_new 1 [] statements twice in
     let names = template_and_report_names statements in
     rw (b, r) (record {
-      typed = typed_from (book_from statements) (reports_of statements) 1 statements (rw (b, r) at mistyped);
+      typed = book_typed (book_from statements) (report_names (reports_of statements)) (typed_from (book_from statements) (reports_of statements) 1 statements (rw (b, r) at mistyped));
       distinct = new.apart;
       undeclared = All-weaker (IsFree [] (declared_by statements)) (λ f. declared_by statements f ≡ None) (λ x f. f.1) names new.free;
       agent_or_kind = agent_or_kind statements;

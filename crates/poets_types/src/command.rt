@@ -4,13 +4,14 @@ ghost use Rattle.poets_expr.specs.Env.{declared_of};
 ghost use Rattle.poets_expr.specs.Expression.{expression_of};
 ghost use Rattle.poets_syntax.specs.Book.{book_of};
 ghost use Rattle.poets_syntax.specs.Contract.{contract_of};
-ghost use Rattle.poets_syntax.specs.TypeOf.{Passes};
 ghost use Rattle.poets_syntax.specs.Typed as typed;
+ghost use Rattle.poets_syntax.specs.Typing.{IsTyped};
 ghost use Rattle.poets_report.specs.Reports.{report_of};
 ghost use Rattle.poets_call.specs.Calls.{command_of};
 ghost use Rattle.poets_call.specs.Replies.{report_in};
 ghost use Rattle.poets_call.specs.TypedStatements.{report_names};
 ghost use Rattle.poets_call.specs.TypedStatements as typed_statements;
+ghost use Rattle.poets_call.specs.Typing.{IsTypedCommand};
 ghost use Rattle.poets_types.specs.Faults.{IsFaultOf};
 ghost use Rattle.poets_types.specs.code.Answers.{answer_of};
 ghost use Rattle.poets_types.specs.code.Indices.{book_in};
@@ -86,7 +87,7 @@ pub fn check_term(
     reports: &[Report],
     term: &Term,
 ) -> Result<(), TypeCause>
-    ensures passes { IfOk result (λ _. typed.check_contract (book_of book.now) (report_names (map report_of reports.now)) [] (contract_of term.now) ≡ Passes tt) }
+    ensures passes { IfOk result (λ _. IsTyped (book_of book.now) (report_names (map report_of reports.now)) [] (contract_of term.now)) }
     ensures fault { IfErr result (IsFaultOf (typed.check_contract (book_of book.now) (report_names (map report_of reports.now)) [] (contract_of term.now))) }
 {
     let index = Index::new(alloc, book, reports)?;
@@ -102,7 +103,7 @@ pub fn check_call(
     reports: &[Report],
     command: &Command,
 ) -> Result<(), TypeCause>
-    ensures passes { IfOk result (λ _. typed_statements.check_command (book_of book.now) (map report_of reports.now) (command_of command.now) ≡ Passes tt) }
+    ensures passes { IfOk result (λ _. IsTypedCommand (book_of book.now) (map report_of reports.now) (command_of command.now)) }
     ensures fault { IfErr result (IsFaultOf (typed_statements.check_command (book_of book.now) (map report_of reports.now) (command_of command.now))) }
 {
     let index = Index::new(alloc, book, reports)?;

@@ -1,0 +1,5 @@
+use Rattle.poets_types.proofs.TypedAnswers.{command_told}
+use Rattle.poets_types.proofs.command.check_call.Goals as goal
+
+pub returns-clause-passes : goal.returns-clause-passes
+returns-clause-passes c = command_told _ _ _ c.check_command.result (rw (c.in_ok-index.ensures.book, c.in_ok-index.ensures.reports) at c.check_command.ensures)
