@@ -21,7 +21,7 @@ use Rattle.poets_call.specs.Frame.{Frame}
 use Rattle.poets_call.specs.Histories.{shown}
 use Rattle.poets_call.specs.Ledger.{Ledger, ledger_of, empty_ledger, with_entry, contract_from, contract_named, trace}
 use Rattle.poets_call.specs.Replies.{Legal, Replies}
-use Rattle.poets_call.specs.TypedStatements.{PassesAsCommand}
+use Rattle.poets_call.specs.Typing.{IsTypedCommand}
 use Rattle.poets_call.proofs.Histories.{legal_reply}
 use Rattle.poets_call.proofs.OneFrames.{one_frame}
 use Rattle.poets_call.proofs.TypedCommands.{typed_registration, typed_event}
@@ -42,7 +42,7 @@ module _ (book : Book) (reports : List Report) where
     pub contracts : All (λ p. Fits p.1) l.contracts
     pub log : All (λ p. IsDeclaredEvent book.declared p.1) l.log
 
-  sound_more : (l : Ledger) (command : Command) (response : Reply) → IsSound l → PassesAsCommand book reports command → IsSound (with_entry l command response)
+  sound_more : (l : Ledger) (command : Command) (response : Reply) → IsSound l → IsTypedCommand book reports command → IsSound (with_entry l command response)
   sound_more l (Command.Register x c) (Reply.Registered n) h t = record {
     contracts = All-append (λ p. Fits p.1) l.contracts ((x, c) ∷ []) h.contracts (All-cons (λ p. Fits p.1) (x, c) [] (typed_registration book reports x c t) (All-nil (λ p. Fits p.1)));
     log = h.log;
@@ -57,22 +57,22 @@ module _ (book : Book) (reports : List Report) where
   sound_more l command response h t = h
 
   abbrev AreTyped : List Entry → Type 0
-  AreTyped h = All (λ e. PassesAsCommand book reports e.command) h
+  AreTyped h = All (λ e. IsTypedCommand book reports e.command) h
 
   sound_from : (h : List Entry) (l : Ledger) → IsSound l → AreTyped h → IsSound (fold (λ m e. with_entry m e.command e.reply) l h)
   sound_from [] l s t = s
   sound_from (e ∷ h) l s t =
       sound_from h (with_entry l e.command e.reply)
-      (sound_more l e.command e.reply s (All-head (λ x. PassesAsCommand book reports x.command) e h t)) (All-tail (λ x. PassesAsCommand book reports x.command) e h t)
+      (sound_more l e.command e.reply s (All-head (λ x. IsTypedCommand book reports x.command) e h t)) (All-tail (λ x. IsTypedCommand book reports x.command) e h t)
 
   -- the ledger of typed commands is sound
   sound : (h : List Entry) → AreTyped h → IsSound (ledger_of h)
   sound h t = sound_from h empty_ledger (record { contracts = All-nil (λ p. Fits p.1); log = All-nil (λ p. IsDeclaredEvent book.declared p.1) }) t
 
   front : (before after : List Entry) → AreTyped (before ++ after) → AreTyped before
-  front [] after t = All-nil (λ e. PassesAsCommand book reports e.command)
-  front (e ∷ before) after t = All-cons (λ x. PassesAsCommand book reports x.command) e before (All-head (λ x. PassesAsCommand book reports x.command) e (before ++ after) t)
-      (front before after (All-tail (λ x. PassesAsCommand book reports x.command) e (before ++ after) t))
+  front [] after t = All-nil (λ e. IsTypedCommand book reports e.command)
+  front (e ∷ before) after t = All-cons (λ x. IsTypedCommand book reports x.command) e before (All-head (λ x. IsTypedCommand book reports x.command) e (before ++ after) t)
+      (front before after (All-tail (λ x. IsTypedCommand book reports x.command) e (before ++ after) t))
 
   named_fits : (i : ℕ) (x : Name) (contracts : List (Name × Contract)) (n : ℕ) (o : Contract) → All (λ p. Fits p.1) contracts →
       contract_from i x contracts ≡ Some (n, o) → Fits o

@@ -6,9 +6,9 @@ use Rattle.poets_syntax.specs.Studied.{IsStudiedBook}
 use Rattle.poets_report.specs.Plain.{Report}
 use Rattle.poets_call.specs.Plain.{Entry}
 use Rattle.poets_call.specs.Histories.{IsLegal, ShowsCompletions}
-use Rattle.poets_call.specs.TypedStatements.{PassesAsCommand}
+use Rattle.poets_call.specs.Typing.{IsTypedCommand}
 
 -- a legal history of typed commands under a studied book shows what is still owed
 abbrev pub LegalHistoriesShow : Type 0
 LegalHistoriesShow = (book : Book) (marks : List Mark) (reports : List Report) (h : List Entry) →
-    IsStudiedBook book marks → IsLegal book reports h → All (λ e. PassesAsCommand book reports e.command) h → ShowsCompletions book h
+    IsStudiedBook book marks → IsLegal book reports h → All (λ e. IsTypedCommand book reports e.command) h → ShowsCompletions book h

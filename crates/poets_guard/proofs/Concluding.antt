@@ -19,7 +19,7 @@ use Rattle.poets_syntax.specs.Checked.{IsChecked}
 use Rattle.poets_syntax.specs.Applied.{ApplicationsFit}
 use Rattle.poets_syntax.specs.May.{May}
 use Rattle.poets_syntax.specs.Plain as plain
-use Rattle.poets_syntax.proofs.Typedness.{BodiesFit-typed}
+use Rattle.poets_syntax.proofs.TypingRules.{BodiesFit-typed}
 use Rattle.poets_guard.specs.declared.rules.Rule.{Rule}
 use Rattle.poets_guard.specs.declared.endings.Rules.{Rules}
 use Rattle.poets_guard.specs.code.Endings.{ends, MayEnd, IsExact}

@@ -24,7 +24,7 @@ use Rattle.poets_syntax.specs.Plain as plain
 use Rattle.poets_syntax.proofs.Replacing.{truth}
 use Rattle.poets_syntax.proofs.StudiedMarks.{has_mark_iff}
 use Rattle.poets_syntax.proofs.Nullability.{CountsFit-fit}
-use Rattle.poets_syntax.proofs.Typedness.{BodiesFit-typed}
+use Rattle.poets_syntax.proofs.TypingRules.{BodiesFit-typed}
 use Rattle.poets_syntax.proofs.Unfolded.{width-unfolded}
 use Rattle.poets_guard.specs.declared.graph.Node.{Node}
 use Rattle.poets_guard.specs.code.Endings.{ends, MayEnd, IsExact}

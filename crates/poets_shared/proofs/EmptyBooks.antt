@@ -13,7 +13,7 @@ use Rattle.poets_expr.specs.Env.{Declared, declared_of, same_name}
 use Rattle.poets_syntax.specs.Book.{template_of}
 use Rattle.poets_syntax.specs.declared.term.Template.{Template}
 use Rattle.poets_syntax.specs.Checked.{IsChecked}
-use Rattle.poets_syntax.specs.Typed.{IsTypedBook}
+use Rattle.poets_syntax.specs.Typing.{IsTypedBook}
 
 none_distinct : IsDistinct same_name []
 unfolding IsDistinct

@@ -7,7 +7,8 @@ use Rattle.poets_syntax.specs.declared.term.Binders.{Binders}
 use Rattle.poets_syntax.specs.Plain.{Template}
 use Rattle.poets_syntax.specs.Book.{template_in}
 use Rattle.poets_syntax.specs.Checked.{IsChecked, names_of_templates_and}
-use Rattle.poets_syntax.specs.Typed.{IsTypedTemplate}
+use Rattle.poets_syntax.specs.code.Passing.{TemplatePasses}
+use Rattle.poets_syntax.proofs.TypingRules.{book_typed}
 use Rattle.poets_syntax.proofs.Replacing.{truth}
 use Rattle.poets_terms.specs.GuardBooks.{book_of, looping, looping_first, sending, hopeless, circling}
 
@@ -18,12 +19,12 @@ typed_named P (u ∷ templates) h f t i = elim (truth (same_name u.name f)) [
   | inr e ↦ typed_named P templates h.1 f t (rw e at i)
 ]
 
-checked_by : (templates : List Template) → AllByRecursion (IsTypedTemplate (book_of templates) []) templates →
+checked_by : (templates : List Template) → AllByRecursion (TemplatePasses (book_of templates) []) templates →
     IsDistinct same_name (names_of_templates_and (book_of templates) []) → IsChecked (book_of templates)
 checked_by templates typed distinct = (
   [],
   record {
-    typed = λ f t i. typed_named (IsTypedTemplate (book_of templates) []) templates typed f t i;
+    typed = book_typed (book_of templates) [] (λ f t i. typed_named (TemplatePasses (book_of templates) []) templates typed f t i);
     distinct = distinct;
     undeclared = λ k d l. refl;
     agent_or_kind = λ x ty e. absurd cc;

@@ -16,7 +16,8 @@ use Rattle.poets_syntax.specs.Guarded.{Exposes, UnguardedEdge, IsPath, IsGuarded
 use Rattle.poets_syntax.specs.May.{May}
 use Rattle.poets_syntax.specs.Perf.{Perf}
 use Rattle.poets_syntax.specs.Studied.{IsStudiedBook}
-use Rattle.poets_syntax.specs.Typed.{IsTypedTemplate}
+use Rattle.poets_syntax.specs.code.Passing.{TemplatePasses}
+use Rattle.poets_syntax.proofs.TypingRules.{book_typed}
 use Rattle.poets_syntax.proofs.Replacing.{truth}
 use Rattle.poets_terms.specs.NormBook.{anything, book_of, marks}
 
@@ -70,7 +71,7 @@ unfolding IsDistinct
 checked = (
   [],
   record {
-    typed = λ f t q. each_template (IsTypedTemplate example []) (refl, refl) (refl, refl) f t q;
+    typed = book_typed example [] (λ f t q. each_template (TemplatePasses example []) (refl, refl) (refl, refl) f t q);
     distinct = ((refl, tt), (tt, tt));
     undeclared = λ k d l. refl;
     agent_or_kind = λ x ty e. absurd cc;

@@ -15,7 +15,8 @@ use Rattle.poets_syntax.specs.Guarded.{Exposes, UnguardedEdge, IsPath, IsGuarded
 use Rattle.poets_syntax.specs.May.{May}
 use Rattle.poets_syntax.specs.Perf.{Perf}
 use Rattle.poets_syntax.specs.Studied.{IsStudiedBook}
-use Rattle.poets_syntax.specs.Typed.{IsTypedTemplate}
+use Rattle.poets_syntax.specs.code.Passing.{TemplatePasses}
+use Rattle.poets_syntax.proofs.TypingRules.{book_typed}
 use Rattle.poets_syntax.proofs.Replacing.{truth}
 use Rattle.poets_norm.proofs.StudiedBooks.{BodiesCountsFit-studied}
 use Rattle.poets_terms.specs.ResidueBook.{of_amount, one_more, counting, marks}
@@ -66,7 +67,7 @@ unfolding IsDistinct
 checked = (
   [],
   record {
-    typed = λ f t q. each_template (IsTypedTemplate example []) (refl, refl) f t q;
+    typed = book_typed example [] (λ f t q. each_template (TemplatePasses example []) (refl, refl) f t q);
     distinct = (tt, tt);
     undeclared = λ k d l. refl;
     agent_or_kind = λ x ty e. absurd cc;

@@ -20,7 +20,7 @@ use Rattle.poets_call.specs.Calls.{Call, calls_of, entry_of, history_of, command
 use Rattle.poets_call.specs.Histories.{AnswersIn, IsLegal, IsRightHistory}
 use Rattle.poets_call.specs.Rules.{book_of_rules, reports_of_rules}
 use Rattle.poets_call.specs.Taken.{IsTaken}
-use Rattle.poets_call.specs.TypedStatements.{PassesAsCommand}
+use Rattle.poets_call.specs.Typing.{IsTypedCommand}
 use Rattle.poets_call.specs.declared.rules.Rules.{Rules}
 use Rattle.poets_call.specs.Plain as plain
 use Rattle.poets_call.proofs.Histories.{calls_append, calls_last}
@@ -99,7 +99,7 @@ pub right_none : (rules : Rules) (es : List Entry) → es ≡ [] → IsStudiedBo
     IsRightHistory (book_of_rules rules) (reports_of_rules rules) (history_of es)
 right_none rules es none studied legal =
     subst (λ l. IsRightHistory (book_of_rules rules) (reports_of_rules rules) (history_of l)) (sym none)
-    (right_history rules [] studied legal (All-nil (λ call. PassesAsCommand (book_of_rules rules) (reports_of_rules rules) call.1)))
+    (right_history rules [] studied legal (All-nil (λ call. IsTypedCommand (book_of_rules rules) (reports_of_rules rules) call.1)))
 
 pub no_scripts : (scripts : List (Listed (Arc CodeCommand Global))) (es : List Entry) → scripts ≡ [] → es ≡ [] → HasScripts (commands_in scripts) (calls_of (history_of es))
 no_scripts scripts es none empty =
@@ -120,7 +120,7 @@ module _ (rules found : Rules) (scripts : List (Listed (Arc CodeCommand Global))
       let made_legal : IsLegal (book_of_rules found) (reports_of_rules found) (history_of es) =
       subst (IsLegal (book_of_rules found) (reports_of_rules found)) (sym (are ∙ ap (λ cs. entries_of cs replies) same)) (legal_entries (book_of_rules found) (reports_of_rules found) calls replies (subst (λ r. IsLegal (book_of_rules r) (reports_of_rules r) []) (sym frame) legal) right) in
       right_history rules (history_of es) studied (subst (λ r. IsLegal (book_of_rules r) (reports_of_rules r) (history_of es)) frame made_legal)
-      (scripts_hold (λ r. PassesAsCommand (book_of_rules rules) (reports_of_rules rules) r) (commands_in scripts) (calls_of (history_of es)) scripts_entered
+      (scripts_hold (λ r. IsTypedCommand (book_of_rules rules) (reports_of_rules rules) r) (commands_in scripts) (calls_of (history_of es)) scripts_entered
       (λ k d lt j r inside. (plain_taken k d lt j r inside).typed))
     where
       plain_taken : All (All (λ r. IsTaken (book_of_rules rules) (reports_of_rules rules) r)) (commands_in scripts)

@@ -10,7 +10,7 @@ use Rattle.std.specs.declared.sync.Arc.{Arc}
 use Rattle.poets_syntax.specs.Studied.{IsStudiedBook}
 use Rattle.poets_call.specs.declared.call.Command.{Command as CodeCommand}
 use Rattle.poets_call.specs.Taken.{IsTaken}
-use Rattle.poets_call.specs.TypedStatements.{PassesAsCommand}
+use Rattle.poets_call.specs.Typing.{IsTypedCommand}
 use Rattle.poets_engine.proofs.ShownResiduals.{legal_histories_show}
 use Rattle.poets_call.specs.Plain.{Command, Entry}
 use Rattle.poets_call.specs.Calls.{Call, calls_of, own_calls, command_of}
@@ -45,11 +45,11 @@ own_same clerk (c ∷ calls) = dite (ℕ_discrete c.0 clerk)
 
 -- a legal history of typed calls is right
 pub right_history : (rules : Rules) (h : List Entry) → IsStudiedBook (R.book_of_rules rules) rules.studied.marks → IsLegal (R.book_of_rules rules) (R.reports_of_rules rules) h →
-    All (λ (call : Call). PassesAsCommand (R.book_of_rules rules) (R.reports_of_rules rules) call.1) (calls_of h) → IsRightHistory (R.book_of_rules rules) (R.reports_of_rules rules) h
+    All (λ (call : Call). IsTypedCommand (R.book_of_rules rules) (R.reports_of_rules rules) call.1) (calls_of h) → IsRightHistory (R.book_of_rules rules) (R.reports_of_rules rules) h
 right_history rules h studied legal typed = record {
   legal = legal;
   shows = legal_histories_show (R.book_of_rules rules) rules.studied.marks (R.reports_of_rules rules) h studied legal
-      (All-of_map (λ (call : Call). PassesAsCommand (R.book_of_rules rules) (R.reports_of_rules rules) call.1) (λ (e : Entry). (e.clerk, e.command)) h typed);
+      (All-of_map (λ (call : Call). IsTypedCommand (R.book_of_rules rules) (R.reports_of_rules rules) call.1) (λ (e : Entry). (e.clerk, e.command)) h typed);
 }
 
 -- a legal history of calls that are taken is right
@@ -59,8 +59,8 @@ pub right_made : (rules found : Rules) (h : List Entry) (calls : List (ℕ × Ar
 right_made rules found h calls n same studied legal taken made =
     let front = All-take (λ (p : ℕ × Arc CodeCommand Global). IsTaken (R.book_of_rules rules) (R.reports_of_rules rules) (command_of (arc_value p.1))) n calls taken in
     right_history rules h studied (subst (λ r. IsLegal (R.book_of_rules r) (R.reports_of_rules r) h) same legal)
-    (subst (All (λ call. PassesAsCommand (R.book_of_rules rules) (R.reports_of_rules rules) call.1)) (sym made)
-    (All-map (λ (call : Call). PassesAsCommand (R.book_of_rules rules) (R.reports_of_rules rules) call.1) (λ (p : ℕ × Arc CodeCommand Global). (p.0, command_of (arc_value p.1))) (take n calls)
+    (subst (All (λ call. IsTypedCommand (R.book_of_rules rules) (R.reports_of_rules rules) call.1)) (sym made)
+    (All-map (λ (call : Call). IsTypedCommand (R.book_of_rules rules) (R.reports_of_rules rules) call.1) (λ (p : ℕ × Arc CodeCommand Global). (p.0, command_of (arc_value p.1))) (take n calls)
     (λ k d lt. (front k d lt).typed)))
 
 -- a right history for rules is one for what they say

@@ -17,7 +17,9 @@ use Rattle.poets_call.specs.Said.{Statement, Clerk, Command, Numbered, Template}
 use Rattle.poets_call.specs.Declarations.{book_from, reports_of}
 use Rattle.poets_call.specs.Taken.{IsTaken}
 use Rattle.poets_call.specs.Plain.{TypeFault}
-use Rattle.poets_call.specs.TypedStatements.{PassesAsCommand, check_command, check_statement, first_of, twice_from, mistyped_from, first_fault}
+use Rattle.poets_call.specs.TypedStatements.{check_command, check_statement, first_of, twice_from, mistyped_from, first_fault}
+use Rattle.poets_call.specs.Typing.{IsTypedCommand}
+use Rattle.poets_call.proofs.TypingRules.{command_typed}
 use Rattle.poets_call.specs.Plain as plain
 use Rattle.poets_lex.specs.Table.{Table}
 use Rattle.poets_types.proofs.CheckedBooks.{or_else-none}
@@ -37,14 +39,14 @@ no_later_fault (Some f) later h = absurd cc
 
 module _ (book : Book) (reports : List Report) where
   abbrev Typed : plain.Command → Type 0
-  Typed r = PassesAsCommand book reports r
+  Typed r = IsTypedCommand book reports r
 
   typed_ahead : (number : ℕ) (statements : List Statement) → mistyped_from number book reports statements ≡ None → All Typed (commands_ahead statements)
   typed_ahead number [] h = All-nil Typed
   typed_ahead number (Clerk ∷ statements) h = All-nil Typed
   typed_ahead number (Command r ∷ statements) h =
       let p = or_else-none (check_command book reports r) number (mistyped_from (number + 1) book reports statements) h in
-      All-cons Typed r (commands_ahead statements) p.0 (typed_ahead (number + 1) statements p.1)
+      All-cons Typed r (commands_ahead statements) (command_typed book reports r p.0) (typed_ahead (number + 1) statements p.1)
   typed_ahead number (s ∷ statements) h =
       typed_ahead (number + 1) statements (or_else-none (check_statement book reports s) number (mistyped_from (number + 1) book reports statements) h).1
 
@@ -59,7 +61,7 @@ module _ (book : Book) (reports : List Report) where
   typed_journal number [] h = All-nil (λ call. Typed call.1)
   typed_journal number (Numbered clerk r ∷ statements) h =
       let p = or_else-none (check_command book reports r) number (mistyped_from (number + 1) book reports statements) h in
-      All-cons (λ call. Typed call.1) (clerk, r) (journal_of statements) p.0 (typed_journal (number + 1) statements p.1)
+      All-cons (λ call. Typed call.1) (clerk, r) (journal_of statements) (command_typed book reports r p.0) (typed_journal (number + 1) statements p.1)
   typed_journal number (s ∷ statements) h =
       typed_journal (number + 1) statements (or_else-none (check_statement book reports s) number (mistyped_from (number + 1) book reports statements) h).1
 
