@@ -33,20 +33,9 @@ use Rattle.poets_grammar.specs.Statements.{ReadsParameter, ReadsParameters, IsSt
 use Rattle.poets_print.specs.Laws.{IsListed, CanWrite}
 use Rattle.poets_session.specs.Pieces.{Piece, is_end, with_token, pieces_of}
 use Rattle.poets_session.specs.Sessions.{Text, IsStatementPiece, IsReadAs, commands_ahead, scripts_of, journal_of}
-use Rattle.poets_session.specs.Written.{IsWrittenExpression, IsWrittenContract, IsWrittenCommand, AreListedParameters, AreListedBinders, IsWritten}
+use Rattle.poets_session.specs.Written.{Fits, AllFit, IsWrittenExpression, IsWrittenContract, IsWrittenCommand, AreListedParameters, AreListedBinders, IsWritten}
 
 -- ---- tokens
-
--- a name stands in the table, and a number or a day is one of the language
-abbrev pub Fits : Table → Tok → Type 0
-Fits names (K.Name x) = IsListed names x
-Fits names (K.Number (pos n)) = n < 2 ^ 63
-Fits names (K.Day d) = IsTrue (is_day d)
-Fits names _ = Unit {0}
-
-abbrev pub AllFit : Table → List Tok → Type 0
-AllFit names [] = Unit {0}
-AllFit names (t ∷ ts) = Fits names t × AllFit names ts
 
 day_fits : (d : ℤ) → IsDayNumber d → IsTrue (is_day d)
 day_fits d h = search (rules, h)
@@ -195,7 +184,7 @@ step_fits : (names : Table) {ts : List Tok} {step : Expression} {key : Option Ex
 step_fits names (IsStep.WithoutKey r) h = ((expression_fits names r h).0, tt)
 step_fits names (IsStep.WithKey r s) h = let a = expression_fits names r h in (a.0, (expression_fits names s a.1.1).0)
 
-statement_fits : (names : Table) {ts : List Tok} {s : Statement} → IsStatement ts s → AllFit names ts → IsWritten names s
+pub statement_fits : (names : Table) {ts : List Tok} {s : Statement} → IsStatement ts s → AllFit names ts → IsWritten names s
 statement_fits names (IsStatement.Agents r) h = (names_fit names r h.1).0
 statement_fits names (IsStatement.Kinds r) h = (names_fit names r h.1).0
 statement_fits names (IsStatement.Template r c) h =

@@ -2,14 +2,16 @@
 use Rattle.std.specs.Prelude.{◌≡◌, ℕ, true, false, List, [], ◌∷◌, ◌++◌, Some, None, IsSome, All, ◌↔◌}
 use Rattle.poets_value.specs.declared.value.Name.{Name}
 use Rattle.poets_lex.specs.Table.{Table, IsTable}
+use Rattle.poets_lex.specs.declared.token.Tok.{Tok}
 use Rattle.poets_call.specs.Said.{Statement}
+use Rattle.poets_grammar.specs.Statements.{IsStatement}
 use Rattle.poets_session.specs.Places.{Misplaced, part_after, is_misplaced, lacks_journal, place_fault}
 use Rattle.poets_session.specs.Shapes.{HasShape, Begins, GoesWrongAt}
 use Rattle.poets_session.specs.Sessions.{Text, AreValid, IsReadAs, IsSession, IsNoSession, scripts_of, journal_of}
 use Rattle.poets_session.specs.Refusals.{Refusal, Unguarded, AreRefused, IsRefused}
 use Rattle.poets_session.specs.Causes.{IsFirstFaultOf, IsFirstFault}
 use Rattle.poets_session.specs.Texts.{refusal_text}
-use Rattle.poets_session.specs.Written.{IsWrittenCommand, IsWritten, HasListedNames}
+use Rattle.poets_session.specs.Written.{AllFit, IsWrittenCommand, IsWritten, HasListedNames}
 use Rattle.poets_session.specs.declared.form.Form.{Form}
 use Rattle.poets_session.specs.declared.fault.SessionFault.{SessionFault}
 
@@ -65,6 +67,11 @@ abbrev pub SessionsAreWritten : Type 0
 SessionsAreWritten =
     (text : Text) (names : Table) (statements : List Statement)
     → IsReadAs text names statements → IsTable names × All (IsWritten names) statements
+
+-- what tokens say as a statement is written with a table, where each name among the tokens stands in it, and the numbers and
+-- days are those of the language
+abbrev pub StatementIsWritten : Type 0
+StatementIsWritten = (names : Table) (ts : List Tok) (s : Statement) → AllFit names ts → IsStatement ts s → IsWritten names s
 
 -- the commands of statements that are written with the names of a table are written with them: each can be printed, and
 -- reads back

@@ -1,5 +1,6 @@
 -- What a text says is written with its names, and with numbers and days of the language; and a fault tells names of the text.
-use Rattle.std.specs.Prelude.{List, [], ◌∷◌, All, IfSome}
+use Rattle.std.specs.Prelude.{ℤ, pos, ◌<◌, ◌^◌, IsTrue, List, [], ◌∷◌, All, IfSome}
+use Rattle.poets_value.specs.Whole.{is_day}
 use Rattle.poets_expr.specs.Expression.{Expression}
 use Rattle.poets_expr.specs.Whole.{IsWholeExpression}
 use Rattle.poets_syntax.specs.declared.term.Binders.{Binders}
@@ -9,12 +10,26 @@ use Rattle.poets_syntax.specs.Whole.{IsWholeContract}
 use Rattle.poets_syntax.specs.Plain.{TypeCause, Twice, Unknown, WrongCount, WrongType}
 use Rattle.poets_call.specs.Said.{Statement, Agents, Kinds, Template, Report, Clerk, Journal, Command, Numbered}
 use Rattle.poets_lex.specs.Table.{Table}
+use Rattle.poets_lex.specs.declared.token.Tok.{Tok}
+use Rattle.poets_lex.specs.declared.token.Tok.TheVariants as K
 use Rattle.poets_call.specs.Taken.{IsWholeCommand}
 use Rattle.poets_call.specs.Plain as plain
 use Rattle.poets_print.specs.Laws.{IsListed, CanWrite, CanWriteContract, CanWriteCommand}
 use Rattle.poets_session.specs.Refusals.{Refusal, Mistyped, Unguarded}
 use Rattle.poets_session.specs.Causes.{refusal_of}
 use Rattle.poets_session.specs.declared.fault.SessionFault.{SessionFault}
+
+-- a name stands in the table, and a number or a day is one of the language
+abbrev pub Fits : Table → Tok → Type 0
+Fits names (K.Name x) = IsListed names x
+Fits names (K.Number (pos n)) = n < 2 ^ 63
+Fits names (K.Day d) = IsTrue (is_day d)
+Fits names _ = Unit {0}
+
+-- each of the tokens does
+abbrev pub AllFit : Table → List Tok → Type 0
+AllFit names [] = Unit {0}
+AllFit names (t ∷ ts) = Fits names t × AllFit names ts
 
 abbrev pub IsWrittenExpression : Table → Expression → Type 0
 IsWrittenExpression names e = CanWrite names e × IsWholeExpression e

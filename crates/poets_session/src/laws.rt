@@ -1,5 +1,5 @@
 //! The laws of sessions.
-ghost use Rattle.poets_session.specs.Laws.{OneSession, NoSessionRefused, NoValidRefused, OneRefusal, OneRefusalOfStatements, OneLine, EveryTextIsRead, AllStatementsAreJudged, SessionsAreWritten, CommandsAreWritten, FaultsOfTextsAreListed, FaultsOfStatementsAreListed, PlacesByShape, MisplacedByShape, WholeByShape, FirstMisplaced, PlacedHaveShape};
+ghost use Rattle.poets_session.specs.Laws.{OneSession, NoSessionRefused, NoValidRefused, OneRefusal, OneRefusalOfStatements, OneLine, EveryTextIsRead, AllStatementsAreJudged, SessionsAreWritten, StatementIsWritten, CommandsAreWritten, FaultsOfTextsAreListed, FaultsOfStatementsAreListed, PlacesByShape, MisplacedByShape, WholeByShape, FirstMisplaced, PlacedHaveShape};
 
 /// A text is one session of a form at most.
 pub fn one_session()
@@ -27,9 +27,10 @@ pub fn every_text_is_read()
 {}
 
 /// What a text says has its names in the text's table, and its numbers and days are those of the language. So it is
-/// with the commands of statements of which this holds.
+/// with what any tokens of which this holds say as a statement, and with the commands of statements of which it holds.
 pub fn sessions_are_written()
     ensures statements { SessionsAreWritten }
+    ensures statement { StatementIsWritten }
     ensures commands { CommandsAreWritten }
 {}
 
