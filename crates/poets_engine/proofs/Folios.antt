@@ -156,8 +156,8 @@ prepared_makes rules command store work p =
     let q = report_of (arc_value work.report) in
     let found = rows_exist (declared_of (arc_value work.decls).names) q work.args.items work.parts.items in
     let reply = Reply.Folio found.0 (total_of q found.0) in (
-      response,
-      subst (λ c. Makes rules c store store response) (sym p.asked) (leaves rules (Command.Portfolio p.report p.args p.over) response store (λ l. refl)
+      reply,
+      subst (λ c. Makes rules c store store reply) (sym p.asked) (leaves rules (Command.Portfolio p.report p.args p.over) reply store (λ l. refl)
           (λ l h right. gives (book_of_rules rules) (reports_of_rules rules) l p.report p.args p.over work (p.holds l h) (frame_by rules right) refl refl found.0 found.1)),
     )
 

@@ -42,4 +42,4 @@ OwesNext e command kept = Owes (book_of_rules e.rules) (reports_of_rules e.rules
 -- the response answers whatever command the kept value is owed to
 abbrev pub Fulfils : Kept → Reply → Type 0
 Fulfils kept reply = (book : Book) (reports : List Report) (calls : List Call) (request : plain.Command) →
-    Owes book reports calls request kept → AnswersIn book reports calls request response
+    Owes book reports calls request kept → AnswersIn book reports calls request reply

@@ -8,7 +8,7 @@ use Rattle.poets_syntax.specs.Plain.{Book}
 use Rattle.poets_syntax.specs.Book.{book_of}
 use Rattle.poets_syntax.specs.Studied.{StudiedBook, marks_of}
 use Rattle.poets_syntax.specs.Residual.{after}
-use Rattle.poets_syntax.specs.Width.{width, widest}
+use Rattle.poets_syntax.specs.Width.{widest}
 use Rattle.poets_cons.specs.declared.node.Node.{Node}
 use Rattle.poets_cons.specs.Table.{contract_of_rows}
 use Rattle.poets_table.specs.TableView.{RowView}
@@ -17,6 +17,7 @@ use Rattle.poets_call.specs.Calls.{reply_of}
 use Rattle.poets_call.specs.Ledger.{late_day}
 use Rattle.poets_engine.specs.declared.judging.Decision.{Decision}
 use Rattle.poets_engine.specs.declared.judging.Decision.TheVariants as D
+use Rattle.poets_engine.specs.Evaluations.{width_in}
 
 -- a refusal, or the contract that is owed from then on
 pub data Judgement : Type 0 where

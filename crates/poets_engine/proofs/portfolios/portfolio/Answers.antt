@@ -2,9 +2,16 @@ use Rattle.std.proofs.Common.{◌≡◌, [], sym, refl, ap, ◌∙◌, map}
 use Rattle.poets_expr.specs.Env.{declared_of}
 use Rattle.poets_expr.specs.Expression.{expression_of}
 use Rattle.poets_expr.specs.Val.{val}
+use Rattle.poets_call.specs.Rules.{book_of_rules, reports_of_rules}
+use Rattle.poets_call.proofs.TypedCommands.{typed_report}
 use Rattle.poets_engine.proofs.Folios.{portfolio_absent, portfolio_prepared}
 use Rattle.poets_engine.proofs.Tallying.{values_by}
 use Rattle.poets_engine.proofs.portfolios.portfolio.Goals as goal
+
+pub report_called-report-requires : goal.report_called-report-requires
+report_called-report-requires g c =
+    let rules = c.args.rules.now in
+    typed_report.portfolio (book_of_rules rules) (reports_of_rules rules) c.args.name (map expression_of c.args.args.now) c.args.over.now c.requires.taken.typed
 
 pub returns-in-Some-clause-ok : goal.returns-in-Some-clause-ok
 returns-in-Some-clause-ok g c =

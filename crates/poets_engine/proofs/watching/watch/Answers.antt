@@ -2,9 +2,16 @@ use Rattle.std.proofs.Common.{◌≡◌, [], Some, sym, ap, ◌∙◌, subst, ma
 use Rattle.poets_expr.specs.Env.{declared_of}
 use Rattle.poets_expr.specs.Expression.{expression_of}
 use Rattle.poets_expr.specs.Val.{val}
+use Rattle.poets_call.specs.Rules.{book_of_rules, reports_of_rules}
+use Rattle.poets_call.proofs.TypedCommands.{typed_report}
 use Rattle.poets_engine.specs.code.Changes.{AddsWatch}
 use Rattle.poets_engine.proofs.Tallying.{watch_made, values_by}
 use Rattle.poets_engine.proofs.watching.watch.Goals as goal
+
+pub report_called-report-requires : goal.report_called-report-requires
+report_called-report-requires g c =
+    let rules = c.args.rules.now in
+    typed_report.watch (book_of_rules rules) (reports_of_rules rules) c.args.name (map expression_of c.args.args.now) c.requires.typed
 
 pub returns-clause-ok : goal.returns-clause-ok
 returns-clause-ok g c =
