@@ -19,7 +19,7 @@ use Rattle.poets_syntax.specs.Studied.{IsStudiedBook}
 use Rattle.poets_syntax.specs.code.Passing.{TemplatePasses}
 use Rattle.poets_syntax.proofs.TypingRules.{book_typed}
 use Rattle.poets_syntax.proofs.Replacing.{truth}
-use Rattle.poets_terms.specs.NormBook.{anything, book_of, marks}
+use Rattle.poets_terms.specs.NormBook.{anything, two_templates, marks}
 
 abbrev name : ℕ → Name
 name n = record { id = n }
@@ -28,7 +28,7 @@ abbrev binders : Binders
 binders = record { sender = name 3; receiver = name 4; what = name 5; day = name 6 }
 
 abbrev pub example : Book
-example = book_of binders (name 0) (name 2) (name 1)
+example = two_templates binders (name 0) (name 2) (name 1)
 
 abbrev first : Template
 first = record { name = name 0; params = record { name = name 2; ty = T.Int } ∷ []; body = anything binders }

@@ -15,8 +15,8 @@ anything b = Transmit b (Literal (V.Bool true)) Success
 
 -- template f(n : Int) = transmit(a, b, r, t | true). Success;;
 -- template g() = Failure;;
-abbrev pub book_of : Binders → (f n g : Name) → Book
-book_of b f n g = record {
+abbrev pub two_templates : Binders → (f n g : Name) → Book
+two_templates b f n g = record {
   declared = λ _. None;
   templates = record { name = f; params = record { name = n; ty = T.Int } ∷ []; body = anything b } ∷ record { name = g; params = []; body = Failure } ∷ [];
 }

@@ -5,7 +5,6 @@ ghost use Rattle.poets_syntax.specs.Contract.{contract_of, Success, Transmit, Ap
 ghost use Rattle.poets_syntax.specs.Book.{book_of};
 ghost use Rattle.poets_syntax.specs.Studied.{marks_of};
 ghost use Rattle.poets_syntax.specs.Applied.{CountsFit};
-ghost use Rattle.poets_terms.specs.NormBook.{book_of};
 ghost use Rattle.poets_terms.specs.NormBook as examples;
 
 use poets_cons::to_term;
@@ -43,7 +42,7 @@ fn anything(alloc: Global) -> Result<Term, Memory>
 // template f(n : Int) = transmit(a, b, r, t | true). Success;;
 // template g() = Failure;;
 fn book(alloc: Global) -> Result<Book, Memory>
-    ensures { IfOk result (λ b. book_of b ≡ book_of BINDERS F N G) }
+    ensures { IfOk result (λ b. book_of b ≡ examples.two_templates BINDERS F N G) }
 {
     let mut params = List::new(alloc);
     let number = Param {
@@ -90,7 +89,7 @@ fn marks(alloc: Global) -> Result<List<Mark>, Memory>
 }
 
 fn studied(alloc: Global) -> Result<Studied, Memory>
-    ensures { IfOk result (λ s. book_of s.book ≡ book_of BINDERS F N G) }
+    ensures { IfOk result (λ s. book_of s.book ≡ examples.two_templates BINDERS F N G) }
 {
     let book = book(alloc)?;
     Studied::of(alloc, book, marks(alloc)?)
@@ -199,14 +198,14 @@ fn templates_are_found_with_their_marks(rt: HostRuntime) -> Result<(), Memory> {
 
 // f(2)
 fn two(alloc: Global) -> Result<Term, Memory>
-    ensures { IfOk result (λ c. CountsFit (book_of BINDERS F N G) (contract_of c)) }
+    ensures { IfOk result (λ c. CountsFit (examples.two_templates BINDERS F N G) (contract_of c)) }
 {
     applied(alloc, F, Expr::Int(2))
 }
 
 // transmit(a, b, r, t | 1 + .. + 1). Success, with as many `+`
 fn sums(alloc: Global, count: u32) -> Result<Term, Memory>
-    ensures { IfOk result (λ c. CountsFit (book_of BINDERS F N G) (contract_of c)) }
+    ensures { IfOk result (λ c. CountsFit (examples.two_templates BINDERS F N G) (contract_of c)) }
 {
     let mut sum = Expr::Int(1);
     for _ in 0..count {
