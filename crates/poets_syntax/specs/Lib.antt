@@ -25,6 +25,7 @@ pub mod Typing
 pub mod Checked
 pub mod Guarded
 pub mod Studied
+pub mod InStudied
 pub mod StudiedLaws
 pub mod TypedLaws
 pub mod Examples

@@ -1,0 +1,37 @@
+-- What is said of a contract in a studied book: with its templates and their marks.
+use Rattle.std.specs.Prelude.{ℕ, List, Option}
+use Rattle.poets_value.specs.declared.event.Event.{Event}
+use Rattle.poets_value.specs.declared.value.Name.{Name}
+use Rattle.poets_expr.specs.Expression.{Expression}
+use Rattle.poets_syntax.specs.Applied.{CountsFit}
+use Rattle.poets_syntax.specs.Book.{book_of, template_in}
+use Rattle.poets_syntax.specs.Contract.{Contract}
+use Rattle.poets_syntax.specs.Normal.{app, normal}
+use Rattle.poets_syntax.specs.Plain.{Template}
+use Rattle.poets_syntax.specs.Residual.{after}
+use Rattle.poets_syntax.specs.Studied.{StudiedBook, marks_of}
+use Rattle.poets_syntax.specs.Width.{width}
+
+-- the first template of the studied book with that name
+abbrev pub template_named : StudiedBook → Name → Option Template
+template_named s f = template_in (book_of s.book).templates f
+
+-- each application has as many arguments as its template has parameters
+abbrev pub CountsFitIn : StudiedBook → Contract → Type 0
+CountsFitIn s c = CountsFit (book_of s.book) c
+
+-- how wide the contract is
+abbrev pub width_in : StudiedBook → Contract → ℕ
+width_in s c = width (book_of s.book) (marks_of s) c
+
+-- the normal form of an application
+abbrev pub app_in : StudiedBook → Name → List Expression → Contract
+app_in s f args = app (book_of s.book) (marks_of s) f args
+
+-- the normal form
+abbrev pub normal_in : StudiedBook → Contract → Contract
+normal_in s c = normal (book_of s.book) (marks_of s) c
+
+-- the residual
+abbrev pub after_in : StudiedBook → Event → Contract → Contract
+after_in s e c = after (book_of s.book) (marks_of s) e c
