@@ -8,4 +8,6 @@ pub mod Free
 pub mod Fold
 pub mod Size
 pub mod Whole
+pub mod OfExpr
 pub mod Laws
+pub mod code

@@ -1,7 +1,8 @@
 //! Declared names, environments and the counter of evaluations.
-ghost use Rattle.std.specs.Prelude.{◌≡◌, ◌≤◌, ℕ, IfOk, reverse};
+ghost use Rattle.std.specs.Prelude.{◌≡◌, ◌≤◌, ℕ, IfOk};
 ghost use Rattle.poets_expr.specs.Asked.{one_more};
-ghost use Rattle.poets_expr.specs.Env.{declared_of, value_in, itself};
+ghost use Rattle.poets_expr.specs.Env.{declared_of, itself};
+ghost use Rattle.poets_expr.specs.code.Names.{value_of_name};
 
 use poets_value::{Memory, Name, Ty, Value};
 use std::collections::BTreeMap;
@@ -84,7 +85,7 @@ impl Decls {
 impl Env<'_> {
     // What a name stands for.
     pub(crate) fn value(&self, name: Name) -> Option<Value>
-        ensures { result ≡ value_in (declared_of self.now.decls.now.names) (reverse self.now.pairs.now) name }
+        ensures { result ≡ value_of_name self.now name }
     {
         let mut value = self.decls.meaning(name);
         for pair in self.pairs {

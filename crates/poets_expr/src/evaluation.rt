@@ -1,9 +1,7 @@
 //! The value of an expression.
-ghost use Rattle.std.specs.Prelude.{◌≡◌, ◌≤◌, reverse};
+ghost use Rattle.std.specs.Prelude.{◌≡◌, ◌≤◌};
 ghost use Rattle.poets_expr.specs.Asked.{one_more};
-ghost use Rattle.poets_expr.specs.Env.{declared_of};
-ghost use Rattle.poets_expr.specs.Expression.{expression_of};
-ghost use Rattle.poets_expr.specs.Val.{val};
+ghost use Rattle.poets_expr.specs.OfExpr.{value_of_expr};
 
 use crate::arith::{binary, make, truth_value};
 use crate::env::{Asks, Env};
@@ -13,7 +11,7 @@ use poets_value::Value;
 
 /// The value of an expression, or none where it is undefined. It counts as one evaluation.
 pub fn eval<L>(env: &Env, e: &Expr, asks: &mut Asks<L>) -> Option<Value>
-    ensures value { result ≡ val (declared_of env.now.decls.now.names) (reverse env.now.pairs.now) (expression_of e.now) }
+    ensures value { result ≡ value_of_expr env.now e.now }
     ensures asks { asks.new ≡ one_more asks.old }
     ensures rises { asks.old ≤ asks.new }
 {
@@ -22,7 +20,7 @@ pub fn eval<L>(env: &Env, e: &Expr, asks: &mut Asks<L>) -> Option<Value>
 }
 
 fn value_of(env: &Env, e: &Expr) -> Option<Value>
-    ensures { result ≡ val (declared_of env.now.decls.now.names) (reverse env.now.pairs.now) (expression_of e.now) }
+    ensures { result ≡ value_of_expr env.now e.now }
 {
     match e {
         Expr::Int(n) => Some(Value::Int(*n)),

@@ -1,10 +1,10 @@
 //! Closed expressions, folded to literals.
-ghost use Rattle.std.specs.Prelude.{◌≡◌, ◌≤◌, IfOk, if◌then◌else◌};
+ghost use Rattle.std.specs.Prelude.{◌≡◌, ◌≤◌, IfOk};
 ghost use Rattle.poets_expr.specs.Env.{declared_of};
 ghost use Rattle.poets_expr.specs.Expression.{expression_of};
-ghost use Rattle.poets_expr.specs.Asked.{one_more};
-ghost use Rattle.poets_expr.specs.Fold.{is_folded};
+ghost use Rattle.poets_expr.specs.Asked.{one_more_if};
 ghost use Rattle.poets_expr.specs.Fold as fold;
+ghost use Rattle.poets_expr.specs.OfExpr.{is_folded_expr, folded_expr};
 
 use crate::copies::copy;
 use crate::env::{Asks, Decls, Env};
@@ -48,8 +48,8 @@ pub fn fold_closed<L>(
     ty: Ty,
     asks: &mut Asks<L>,
 ) -> Result<Expr, Memory>
-    ensures value { IfOk result (λ r. expression_of r ≡ fold.fold_closed (declared_of decls.now.names) (expression_of e.now) ty) }
-    ensures asks { asks.new ≡ (if is_folded (declared_of decls.now.names) (expression_of e.now) then one_more asks.old else asks.old) }
+    ensures value { IfOk result (λ r. expression_of r ≡ folded_expr decls.now e.now ty) }
+    ensures asks { asks.new ≡ one_more_if (is_folded_expr decls.now e.now) asks.old }
     ensures rises { asks.old ≤ asks.new }
 {
     if is_literal(decls, e) || !is_closed(decls, e) {

@@ -1,7 +1,8 @@
 //! Free names.
 ghost use Rattle.std.specs.Prelude.{◌≡◌, ◌++◌, IfOk, OnOk};
 ghost use Rattle.poets_expr.specs.Expression.{expression_of};
-ghost use Rattle.poets_expr.specs.Free.{names_of, free_names_of, with_name, with_names};
+ghost use Rattle.poets_expr.specs.Free.{free_names_of, with_name, with_names};
+ghost use Rattle.poets_expr.specs.code.Names.{names_in};
 
 use crate::expr::Expr;
 use poets_value::{List, Memory, Name};
@@ -19,7 +20,7 @@ pub fn free_names(alloc: Global, e: &Expr) -> Result<List<Name>, Memory>
 
 // Adds the names of the expression that are not there yet.
 fn add_names(e: &Expr, names: &mut List<Name>) -> Result<(), Memory>
-    ensures { OnOk result (names.new.items ≡ with_names names.old.items (names_of (expression_of e.now))) }
+    ensures { OnOk result (names.new.items ≡ with_names names.old.items (names_in e.now)) }
 {
     match e {
         Expr::Int(_) | Expr::Bool(_) | Expr::Day(_) | Expr::Res(_) | Expr::Undefined(_) => Ok(()),

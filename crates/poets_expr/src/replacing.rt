@@ -1,6 +1,7 @@
 //! Literals of values, and expressions with names replaced by literals.
 ghost use Rattle.std.specs.Prelude.{◌≡◌, IfOk, reverse};
 ghost use Rattle.poets_expr.specs.Expression.{expression_of};
+ghost use Rattle.poets_expr.specs.OfExpr.{subst_expr};
 ghost use Rattle.poets_expr.specs.Subst as spec;
 
 use crate::build::boxed;
@@ -39,7 +40,7 @@ fn replaced(pairs: &[(Name, Given)], name: Name) -> Expr
 /// The expression with its names replaced by literals. A later pair hides an earlier one, and a name without a pair stays.
 #[cycle(subst)]
 pub fn subst(alloc: Global, e: &Expr, pairs: &[(Name, Given)]) -> Result<Expr, Memory>
-    ensures { IfOk result (λ r. expression_of r ≡ spec.subst (reverse pairs.now) (expression_of e.now)) }
+    ensures { IfOk result (λ r. expression_of r ≡ subst_expr pairs.now e.now) }
 {
     match e {
         Expr::Int(n) => Ok(Expr::Int(*n)),
@@ -74,7 +75,7 @@ pub fn subst(alloc: Global, e: &Expr, pairs: &[(Name, Given)]) -> Result<Expr, M
 // Such an expression in a box of its own.
 #[cycle(subst)]
 fn boxed_subst(alloc: Global, e: &Expr, pairs: &[(Name, Given)]) -> Result<Box<Expr>, Memory>
-    ensures { IfOk result (λ r. expression_of r.value ≡ spec.subst (reverse pairs.now) (expression_of e.now)) }
+    ensures { IfOk result (λ r. expression_of r.value ≡ subst_expr pairs.now e.now) }
 {
     boxed(alloc, subst(alloc, e, pairs)?)
 }
