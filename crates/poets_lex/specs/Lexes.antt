@@ -107,6 +107,10 @@ IsFaultAt place text (F.LongNumber at) = (at ≡ place) × IsLongNumber text
 IsFaultAt place text (F.LongName at) = (at ≡ place) × IsLongName text
 IsFaultAt place text F.Memory = ⊥
 
+-- the fault is want of memory, or this holds of it
+abbrev pub UnlessMemory : (LexFault → Type 0) → LexFault → Type 0
+UnlessMemory P fault = fault ≢ F.Memory → P fault
+
 -- the text is read as tokens up to the fault
 pub record FirstFault (before : Table) (text : List ℕ) (fault : LexFault) : Type 0 where
   pub tokens : List Token

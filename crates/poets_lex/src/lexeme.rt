@@ -1,11 +1,10 @@
 //! The token that begins a text.
-ghost use Rattle.std.specs.Prelude.{◌≡◌, ◌≢◌, ℕ, List, ◌+◌, ◌<◌, ◌^◌, length, IfOk, IfErr, OnErr, IfSome, IfNone, ℤ};
+ghost use Rattle.std.specs.Prelude.{◌≡◌, ◌+◌, ◌<◌, ◌^◌, length, IfOk, IfErr, OnErr, IfSome, IfNone};
 ghost use Rattle.std.specs.Char.{is_ascii_digit};
-ghost use Rattle.poets_lex.specs.Table.{Table};
 ghost use Rattle.poets_lex.specs.Texts.{sign_text};
 ghost use Rattle.poets_lex.specs.Bytes.{begins_name, Begins};
-ghost use Rattle.poets_lex.specs.Lexes.{IsDay, IsFaultAt};
-ghost use Rattle.poets_lex.specs.code.Front.{BeginsWith, FirstToken, is_in_lexeme};
+ghost use Rattle.poets_lex.specs.Lexes.{IsFaultAt, UnlessMemory};
+ghost use Rattle.poets_lex.specs.code.Front.{BeginsWith, BeginsWithNoDay, FirstToken, FirstForEachTable, is_in_lexeme};
 ghost use Rattle.poets_lex.specs.declared.token.Sign.{Sign};
 
 use crate::front::{begins_name, decimal, digit_count, name_length};
@@ -21,7 +20,7 @@ const MOST_OF_NAME: usize = 64;
 pub(crate) fn number(text: &[u8], place: u32) -> Result<Token, LexFault>
     requires digit { BeginsWith is_ascii_digit text.now }
     requires places { place + length text.now < 2 ^ 32 }
-    ensures ok { IfOk result (λ token. (table : Table) → FirstToken table place text.now token table) }
+    ensures ok { IfOk result (FirstForEachTable place text.now) }
     ensures fault { IfErr result (IsFaultAt place text.now) }
 {
     let count = digit_count(text);
@@ -41,7 +40,7 @@ pub(crate) fn word_or_name(text: &[u8], place: u32, names: &mut Names) -> Result
     requires places { place + length text.now < 2 ^ 32 }
     requires room { length names.old + length text.now < 2 ^ 32 }
     ensures ok { IfOk result (λ token. FirstToken names.old place text.now token names.new) }
-    ensures fault { IfErr result (λ fault. fault ≢ LexFault.Memory → IsFaultAt place text.now fault) }
+    ensures fault { IfErr result (UnlessMemory (IsFaultAt place text.now)) }
     ensures same { OnErr result (names.new ≡ names.old) }
 {
     let length = name_length(text);
@@ -65,8 +64,8 @@ pub(crate) fn word_or_name(text: &[u8], place: u32, names: &mut Names) -> Result
 // The day that begins the text, which begins at the place.
 pub(crate) fn day(text: &[u8], place: u32) -> Option<Token>
     requires places { place + length text.now < 2 ^ 32 }
-    ensures some { IfSome result (λ token. (table : Table) → FirstToken table place text.now token table) }
-    ensures none { IfNone result ((front : List ℕ) (day : ℤ) → IsDay front day → ¬ (Begins front text.now)) }
+    ensures some { IfSome result (FirstForEachTable place text.now) }
+    ensures none { IfNone result (BeginsWithNoDay text.now) }
 {
     let [b'@', ..] = text else {
         return None;
@@ -84,7 +83,7 @@ pub(crate) fn day(text: &[u8], place: u32) -> Option<Token>
 // The sign that begins the text, which begins at the place.
 pub(crate) fn sign(text: &[u8], place: u32) -> Option<Token>
     requires places { place + length text.now < 2 ^ 32 }
-    ensures some { IfSome result (λ token. (table : Table) → FirstToken table place text.now token table) }
+    ensures some { IfSome result (FirstForEachTable place text.now) }
     ensures none { IfNone result ((sign : Sign) → ¬ (Begins (sign_text sign) text.now)) }
 {
     let sign = sign_of(text)?;
@@ -101,7 +100,7 @@ pub(crate) fn first_token(text: &[u8], place: u32, names: &mut Names) -> Result<
     requires places { place + length text.now < 2 ^ 32 }
     requires room { length names.old + length text.now < 2 ^ 32 }
     ensures ok { IfOk result (λ token. FirstToken names.old place text.now token names.new) }
-    ensures fault { IfErr result (λ fault. fault ≢ LexFault.Memory → IsFaultAt place text.now fault) }
+    ensures fault { IfErr result (UnlessMemory (IsFaultAt place text.now)) }
     ensures same { OnErr result (names.new ≡ names.old) }
 {
     let first = text[0];

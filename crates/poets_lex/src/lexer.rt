@@ -1,7 +1,7 @@
 //! Texts cut into tokens.
-ghost use Rattle.std.specs.Prelude.{◌≡◌, ◌≢◌, ◌+◌, ◌<◌, ◌^◌, ◌≤◌, length, IfOk, IfErr};
+ghost use Rattle.std.specs.Prelude.{◌≡◌, ◌+◌, ◌<◌, ◌^◌, ◌≤◌, length, IfOk, IfErr};
 ghost use Rattle.poets_lex.specs.Table.{Extends};
-ghost use Rattle.poets_lex.specs.Lexes.{Lexes, FirstFault};
+ghost use Rattle.poets_lex.specs.Lexes.{Lexes, FirstFault, UnlessMemory};
 
 use crate::piece::take_piece;
 use crate::{LexFault, Names, Token};
@@ -14,7 +14,7 @@ use std::alloc::Global;
 pub fn tokens(alloc: Global, text: &[u8], names: &mut Names) -> Result<List<Token>, LexFault>
     requires { length text.now + length names.old < 2 ^ 32 }
     ensures ok { IfOk result (λ tokens. Lexes names.old text.now 0 tokens.items names.new) }
-    ensures fault { IfErr result (λ fault. fault ≢ LexFault.Memory → FirstFault names.old text.now fault) }
+    ensures fault { IfErr result (UnlessMemory (FirstFault names.old text.now)) }
     ensures names { Extends names.old names.new }
     ensures few { length names.new ≤ length names.old + length text.now }
 {

@@ -1,7 +1,7 @@
 //! The piece that begins a text: a blank, a comment or a token.
-ghost use Rattle.std.specs.Prelude.{◌≡◌, ◌≢◌, ◌+◌, ◌<◌, ◌^◌, ◌≤◌, length, IfOk, IfErr};
+ghost use Rattle.std.specs.Prelude.{◌≡◌, ◌+◌, ◌<◌, ◌^◌, ◌≤◌, length, IfOk, IfErr};
 ghost use Rattle.poets_lex.specs.Table.{Extends};
-ghost use Rattle.poets_lex.specs.Lexes.{IsFaultAt};
+ghost use Rattle.poets_lex.specs.Lexes.{IsFaultAt, UnlessMemory};
 ghost use Rattle.poets_lex.specs.code.Front.{TakesPiece};
 
 use crate::front::{is_blank, line_length};
@@ -22,7 +22,7 @@ pub(crate) fn take_piece(
     requires room { length names.old + length text.now < 2 ^ 32 }
     ensures ok { IfOk result
         (λ size. TakesPiece names.old place text.now tokens.old.items size tokens.new.items names.new) }
-    ensures fault { IfErr result (λ fault. fault ≢ LexFault.Memory → IsFaultAt place text.now fault) }
+    ensures fault { IfErr result (UnlessMemory (IsFaultAt place text.now)) }
     ensures some { IfOk result (λ size. 0 < size) }
     ensures names { Extends names.old names.new }
     ensures few { length names.new ≤ length names.old + length text.now }

@@ -1,6 +1,7 @@
 //! Reserved words.
-ghost use Rattle.std.specs.Prelude.{◌≡◌, ◌≢◌, ℕ, ◌≤◌, ◌<◌, length, IfSome, IfNone};
+ghost use Rattle.std.specs.Prelude.{◌≡◌, ◌≢◌, IfSome, IfNone};
 ghost use Rattle.poets_lex.specs.Texts.{word_text};
+ghost use Rattle.poets_lex.specs.code.Words.{IsNoShortWord, IsNoLongWord};
 ghost use Rattle.poets_lex.specs.declared.token.Word.{Word};
 
 use crate::Word;
@@ -20,7 +21,7 @@ pub(crate) fn word_of(text: &str) -> Option<Word>
 // The reserved word of at most four letters with that text.
 fn short_word(text: &str) -> Option<Word>
     ensures some { IfSome result (λ word. text.now ≡ word_text word) }
-    ensures none { IfNone result ((word : Word) → length (word_text word) ≤ 4 → text.now ≢ word_text word) }
+    ensures none { IfNone result (IsNoShortWord text.now) }
 {
     let [first, ..] = text.as_bytes() else {
         return None;
@@ -56,7 +57,7 @@ fn short_word(text: &str) -> Option<Word>
 // The reserved word of more than four letters with that text.
 fn long_word(text: &str) -> Option<Word>
     ensures some { IfSome result (λ word. text.now ≡ word_text word) }
-    ensures none { IfNone result ((word : Word) → 4 < length (word_text word) → text.now ≢ word_text word) }
+    ensures none { IfNone result (IsNoLongWord text.now) }
 {
     let [first, ..] = text.as_bytes() else {
         return None;
