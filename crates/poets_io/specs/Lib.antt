@@ -1,3 +1,4 @@
 pub mod Causes
 pub mod Streams
+pub mod Reading
 pub mod States

@@ -1,10 +1,9 @@
 //! A source and a sink in memory that fail by plan.
-ghost use Rattle.std.specs.Prelude.{◌≡◌, Some, ◌+◌, ◌<◌, ◌≤◌, ◌↔◌, ◌⊎◌, [], ◌++◌, length, take, drop, min, IfOk, OnOk, OnErr, IsErr};
+ghost use Rattle.std.specs.Prelude.{◌≡◌, Some, ◌<◌, ◌≤◌, ◌↔◌, [], ◌++◌, length, take, drop, IfOk, OnOk, OnErr, IsErr};
 ghost use Rattle.std.specs.Io.{ReadsAtMost, WritesAtMost};
 ghost use Rattle.std.specs.Io.KnownBytes.{ReadConsumes, WriteAppends};
-ghost use Rattle.poets_value.specs.Limits.{longest_text};
 ghost use Rattle.poets_io.specs.Causes.{HasCause};
-ghost use Rattle.poets_io.specs.States.{NextFails, new_plan, after_call, after_fault};
+ghost use Rattle.poets_io.specs.States.{NextFails, WriteFails, new_plan, read_size, after_read, after_failed_read, after_write, after_failed_write};
 
 use crate::bytes::Bytes;
 use crate::plan::Plan;
@@ -59,10 +58,10 @@ impl Source for TextSource {
         ensures bytes { ReadConsumes (Some self.old.left) (Some self.new.left) result buf.new }
         ensures cause { HasCause self.old.plan.faults self.new.plan.faults result }
         ensures fails { IsErr result ↔ NextFails self.old.plan }
-        ensures count { IfOk result (λ n. n ≡ min self.old.step (min (length buf.old) (length self.old.left))) }
+        ensures count { IfOk result (λ n. n ≡ read_size self.old buf.old) }
         ensures given { IfOk result (λ n. buf.new ≡ take n self.old.left ++ drop n buf.old) }
-        ensures ok { IfOk result (λ n. self.new ≡ record self.old { left = drop n self.old.left; plan = after_call self.old.plan }) }
-        ensures err { OnErr result (self.new ≡ record self.old { plan = after_fault self.old.plan }) }
+        ensures ok { IfOk result (λ n. self.new ≡ after_read n self.old) }
+        ensures err { OnErr result (self.new ≡ after_failed_read self.old) }
         ensures untouched { OnErr result (buf.new ≡ buf.old) }
     {
         if self.plan.next_fails() {
@@ -124,10 +123,10 @@ impl Sink for TextSink {
         ensures some { IfOk result (λ n. 0 < n) }
         ensures bytes { WriteAppends (Some self.old.held) (Some self.new.held) result piece.now }
         ensures cause { HasCause self.old.plan.faults self.new.plan.faults result }
-        ensures fails { IsErr result ↔ (NextFails self.old.plan ⊎ (longest_text < length self.old.held + length piece.now)) }
+        ensures fails { IsErr result ↔ WriteFails self.old piece.now }
         ensures whole { IfOk result (λ n. n ≡ length piece.now) }
-        ensures ok { OnOk result (self.new ≡ record self.old { held = self.old.held ++ piece.now; plan = after_call self.old.plan }) }
-        ensures err { OnErr result (self.new ≡ record self.old { plan = after_fault self.old.plan }) }
+        ensures ok { OnOk result (self.new ≡ after_write piece.now self.old) }
+        ensures err { OnErr result (self.new ≡ after_failed_write self.old) }
     {
         let fails = self.plan.next_fails();
         let fits = piece.len() <= LONGEST_TEXT - self.held.len();

@@ -1,8 +1,9 @@
 //! A piece written whole, and a source read to its end.
-ghost use Rattle.std.specs.Prelude.{◌≡◌, ◌+◌, ◌<◌, ◌≤◌, ◌++◌, length, IfOk, IfSome, OnOk, OnErr, IsErrOf};
+ghost use Rattle.std.specs.Prelude.{◌≡◌, ◌<◌, ◌≤◌, ◌++◌, length, IfOk, IfSome, OnOk, OnErr, IsErrOf};
 ghost use Rattle.std.specs.Io.KnownBytes.{Appends};
 ghost use Rattle.poets_io.specs.Causes.{HasCause, Rose};
-ghost use Rattle.poets_io.specs.Streams.{AppendsPart, LosesFront, GivesAll};
+ghost use Rattle.poets_io.specs.Reading.{OnFailed, OnMemory, OnTooLong, GivesWhole, LosesPast};
+ghost use Rattle.poets_io.specs.Streams.{AppendsPart, LosesFront};
 
 use crate::{Failed, ReadFault, Sink, Source};
 use poets_value::{List, Memory};
@@ -35,13 +36,13 @@ pub fn read_up_to<S: Source>(
 ) -> Result<List<u8>, ReadFault>
     ensures later { S.faults source.old ≤ S.faults source.new }
     ensures kept { ¬ (IsErrOf result ReadFault.Failed) → S.faults source.new ≡ S.faults source.old }
-    ensures failed { IsErrOf result ReadFault.Failed → Rose (S.faults source.old) (S.faults source.new) }
+    ensures failed { OnFailed result (Rose (S.faults source.old) (S.faults source.new)) }
     ensures short { IfOk result (λ text. length text.items ≤ limit) }
-    ensures whole { IfOk result (λ text. GivesAll (S.left source.old) (S.left source.new) text.items) }
-    ensures longer { IsErrOf result ReadFault.TooLong → IfSome (S.left source.old) (λ xs. limit < length xs) }
-    ensures too_long { IsErrOf result ReadFault.TooLong → LosesFront (limit + 1) (limit + BLOCK) (S.left source.old) (S.left source.new) }
-    ensures stopped { IsErrOf result ReadFault.Failed → LosesFront 0 limit (S.left source.old) (S.left source.new) }
-    ensures memory { IsErrOf result ReadFault.Memory → LosesFront 0 limit (S.left source.old) (S.left source.new) }
+    ensures whole { IfOk result (GivesWhole (S.left source.old) (S.left source.new)) }
+    ensures longer { OnTooLong result (IfSome (S.left source.old) (λ xs. limit < length xs)) }
+    ensures too_long { OnTooLong result (LosesPast limit BLOCK (S.left source.old) (S.left source.new)) }
+    ensures stopped { OnFailed result (LosesFront 0 limit (S.left source.old) (S.left source.new)) }
+    ensures memory { OnMemory result (LosesFront 0 limit (S.left source.old) (S.left source.new)) }
 {
     let mut block = new_block(alloc)?;
     read_blocks(alloc, source, &mut block, limit)
@@ -65,12 +66,12 @@ fn read_blocks<S: Source>(
     requires { 0 < length block.old }
     ensures later { S.faults source.old ≤ S.faults source.new }
     ensures kept { ¬ (IsErrOf result ReadFault.Failed) → S.faults source.new ≡ S.faults source.old }
-    ensures failed { IsErrOf result ReadFault.Failed → Rose (S.faults source.old) (S.faults source.new) }
+    ensures failed { OnFailed result (Rose (S.faults source.old) (S.faults source.new)) }
     ensures short { IfOk result (λ text. length text.items ≤ limit) }
-    ensures whole { IfOk result (λ text. GivesAll (S.left source.old) (S.left source.new) text.items) }
-    ensures too_long { IsErrOf result ReadFault.TooLong → LosesFront (limit + 1) (limit + length block.old) (S.left source.old) (S.left source.new) }
-    ensures stopped { IsErrOf result ReadFault.Failed → LosesFront 0 limit (S.left source.old) (S.left source.new) }
-    ensures memory { IsErrOf result ReadFault.Memory → LosesFront 0 limit (S.left source.old) (S.left source.new) }
+    ensures whole { IfOk result (GivesWhole (S.left source.old) (S.left source.new)) }
+    ensures too_long { OnTooLong result (LosesPast limit (length block.old) (S.left source.old) (S.left source.new)) }
+    ensures stopped { OnFailed result (LosesFront 0 limit (S.left source.old) (S.left source.new)) }
+    ensures memory { OnMemory result (LosesFront 0 limit (S.left source.old) (S.left source.new)) }
 {
     let mut text = List::new(alloc);
     'reading: loop {
