@@ -1,7 +1,7 @@
 //! What the program may be asked to do, and the words that ask for it.
-ghost use Rattle.std.specs.Prelude.{IfOk, IfSome, IfNone, map, option_map, string_bytes};
-ghost use Rattle.poets_words.specs.Words.{AskFor, IsCommandForm};
-ghost use Rattle.poets_words.specs.code.Reading.{words_found};
+ghost use Rattle.std.specs.Prelude.{IfOk, IfSome, IfNone};
+ghost use Rattle.poets_words.specs.Words.{AskFor, IsCommandForm, texts_of};
+ghost use Rattle.poets_words.specs.code.Reading.{texts_found};
 
 use crate::reading::{command, is_plain};
 use crate::sales::sales_of;
@@ -33,8 +33,8 @@ pub enum Mode {
 ///
 /// An `Err` is want of memory, of which the clauses say nothing.
 pub fn mode_of(alloc: Global, words: &[String]) -> Result<Option<Mode>, Memory>
-    ensures some { IfOk result (λ found. IfSome found (AskFor (map string_bytes words.now))) }
-    ensures none { IfOk result (λ found. IfNone found (¬ (IsCommandForm (map string_bytes words.now)))) }
+    ensures some { IfOk result (λ found. IfSome found (AskFor (texts_of words.now))) }
+    ensures none { IfOk result (λ found. IfNone found (¬ (IsCommandForm (texts_of words.now)))) }
 {
     if !is_plain(words) {
         return Ok(None);
@@ -55,10 +55,8 @@ pub fn mode_of(alloc: Global, words: &[String]) -> Result<Option<Mode>, Memory>
 
 // What a first and a second word ask for.
 fn mode_from(task: Option<&str>, number: Option<&str>) -> Option<Mode>
-    ensures some { let words = words_found (option_map (λ w. w.now) task.entry) (option_map (λ w. w.now) number.entry)
-        in IfSome result (AskFor words) }
-    ensures none { let words = words_found (option_map (λ w. w.now) task.entry) (option_map (λ w. w.now) number.entry)
-        in IfNone result (¬ (IsCommandForm words)) }
+    ensures some { IfSome result (AskFor (texts_found task.entry number.entry)) }
+    ensures none { IfNone result (¬ (IsCommandForm (texts_found task.entry number.entry))) }
 {
     match (task, number) {
         (Some("check"), None) => Some(Mode::Read(Task::Check)),

@@ -1,6 +1,7 @@
 //! How `clap` is to read the words.
-ghost use Rattle.std.specs.Prelude.{◌↔◌, IfOk, IsTrue, map, string_bytes};
+ghost use Rattle.std.specs.Prelude.{◌↔◌, IfOk, IsTrue};
 ghost use Rattle.clap.specs.Words.{app_of};
+ghost use Rattle.poets_words.specs.Words.{texts_of};
 ghost use Rattle.poets_words.specs.code.Reading.{IsPlain, FindsPlainWords};
 
 use clap::{Arg, ArgAction, Command};
@@ -8,7 +9,7 @@ use std::alloc::{AllocError, Global};
 
 /// One or two words, none of which begins with `-`.
 pub(crate) fn is_plain(words: &[String]) -> bool
-    ensures { IsTrue result ↔ IsPlain (map string_bytes words.now) }
+    ensures { IsTrue result ↔ IsPlain (texts_of words.now) }
 {
     (1..=2).contains(&words.len()) && !words.iter().any(|word| word.starts_with('-'))
 }

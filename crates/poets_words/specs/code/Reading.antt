@@ -1,5 +1,6 @@
 -- How the words are read.
-use Rattle.std.specs.Prelude.{◌≡◌, ℕ, ◌≤◌, true, false, List, [], ◌∷◌, length, Option, Some, None, codes}
+use Rattle.std.specs.Prelude.{◌≡◌, ℕ, ◌≤◌, true, false, List, [], ◌∷◌, length, Option, Some, None, option_map, codes}
+use Rattle.std.specs.Borrow.{Bor}
 use Rattle.std.specs.List.{list_any}
 use Rattle.std.specs.Str.Parse.{starts_with_minus}
 use Rattle.clap.specs.Words.{App, first_of, is_simple, matches_of, takes}
@@ -13,6 +14,10 @@ abbrev pub words_found : Option (List ℕ) → Option (List ℕ) → List (List 
 words_found None _ = []
 words_found (Some task) None = task ∷ []
 words_found (Some task) (Some number) = task ∷ number ∷ []
+
+-- the texts that a first word and one after it refer to, as far as they were found
+abbrev pub texts_found : Option (Bor (List ℕ)) → Option (Bor (List ℕ)) → List (List ℕ)
+texts_found task number = words_found (option_map (λ w. w.now) task) (option_map (λ w. w.now) number)
 
 -- the command takes plain words, and finds each of them
 pub record FindsPlainWords (app : App) : Type 0 where
