@@ -1,6 +1,7 @@
 pub mod Row
 pub mod Same
 pub mod Table
+pub mod Replaced
 pub mod Parts
 pub mod Notes
 pub mod code

@@ -27,6 +27,10 @@ contracts_of nodes = grown [] (rows_of nodes)
 abbrev pub contract_at : List Node → ℕ → Contract
 contract_at nodes i = nth (contracts_of nodes) i
 
+-- the contract of a node, from those that a table has for its parts
+abbrev pub contract_of_node : List Node → Node → Contract
+contract_of_node nodes node = contract_by (contract_at nodes) (row_of node)
+
 -- each row names earlier ones alone
 abbrev pub AreEarlier : List Row → Type 0
 AreEarlier rows = (i : ℕ) (r : Row) → slice_get rows i ≡ Some r → AreBelow i r

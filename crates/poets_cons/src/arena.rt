@@ -1,7 +1,7 @@
 //! Tables of rows that grow.
 ghost use Rattle.std.specs.Prelude.{◌≡◌, ◌+◌, ◌<◌, ◌^◌, [], length, slice_get, Some, All, IfOk, OnErr, OnOk, option_map};
-ghost use Rattle.poets_cons.specs.Row.{row_of, contract_by, AreBelow};
-ghost use Rattle.poets_cons.specs.Table.{rows_of, contract_at, IsTable, Stands, Extends, AddsReached, with_row};
+ghost use Rattle.poets_cons.specs.Row.{row_of, AreBelow};
+ghost use Rattle.poets_cons.specs.Table.{rows_of, contract_at, contract_of_node, IsTable, Stands, Extends, AddsReached, with_row};
 
 use crate::node::Node;
 use indexmap::IndexSet;
@@ -22,7 +22,7 @@ pub fn node_at(nodes: &[Node], place: usize) -> &Node
     requires table { IsTable nodes.now }
     requires within { place < length nodes.now }
     ensures node { slice_get nodes.now place ≡ Some result.now }
-    ensures contract { contract_at nodes.now place ≡ contract_by (contract_at nodes.now) (row_of result.now) }
+    ensures contract { contract_at nodes.now place ≡ contract_of_node nodes.now result.now }
     ensures below { AreBelow place (row_of result.now) }
 {
     nth(nodes, place)
@@ -83,7 +83,7 @@ impl Arena {
     pub fn node(&self, place: usize) -> &Node
         requires { place < length self.now }
         ensures node { slice_get self.now place ≡ Some result.now }
-        ensures contract { contract_at self.now place ≡ contract_by (contract_at self.now) (row_of result.now) }
+        ensures contract { contract_at self.now place ≡ contract_of_node self.now result.now }
         ensures below { AreBelow place (row_of result.now) }
         ensures table { IsTable self.now }
     {
@@ -109,7 +109,7 @@ impl Arena {
         ensures grows { Extends self.old self.new }
         ensures rows { OnOk result (rows_of self.new ≡ with_row (row_of node) (rows_of self.old)) }
         ensures row { IfOk result (λ p. slice_get (rows_of self.new) p ≡ Some (row_of node)) }
-        ensures stands { IfOk result (λ p. Stands self.new p (contract_by (contract_at self.old) (row_of node))) }
+        ensures stands { IfOk result (λ p. Stands self.new p (contract_of_node self.old node)) }
         ensures reached { IfOk result (λ p. AddsReached self.old self.new p) }
     {
         let Ok((place, _)) = self.nodes.insert_full(node) else {

@@ -1,7 +1,7 @@
 //! Rows copied from one table to another.
 ghost use Rattle.std.specs.Prelude.{◌≡◌, ◌<◌, IfOk, false, length};
 ghost use Rattle.std.specs.List.{list_any};
-ghost use Rattle.poets_cons.specs.code.Copies.{AreCopies, AreBothCopied, ArePartsCopied, IsAppended, IsCopied};
+ghost use Rattle.poets_cons.specs.code.Copies.{AreCopies, CopiesRow, CopiesParts, CopiesBoth, IsAppended};
 ghost use Rattle.poets_cons.specs.Notes.{noted};
 ghost use Rattle.poets_cons.specs.Row.{row_of, AreBelow};
 ghost use Rattle.poets_cons.specs.Same.{same_row};
@@ -43,7 +43,7 @@ pub(crate) fn copy_once(
     requires table { IsTable from.now }
     requires within { place < length from.now }
     requires copies { AreCopies from.now into.old.items (noted copies.old) }
-    ensures { IfOk result (IsCopied from.now into.old.items into.new.items (noted copies.old) (noted copies.new) place) }
+    ensures { IfOk result (CopiesRow from.now into.old into.new copies.old copies.new place) }
 {
     if let Some(copy) = copies.get(place) {
         return Ok(copy);
@@ -64,7 +64,7 @@ fn with_copied_parts(
     requires table { IsTable from.now }
     requires within { place < length from.now }
     requires copies { AreCopies from.now into.old.items (noted copies.old) }
-    ensures { IfOk result (λ n. ArePartsCopied from.now into.old.items into.new.items (noted copies.old) (noted copies.new) place (row_of n)) }
+    ensures { IfOk result (CopiesParts from.now into.old into.new copies.old copies.new place) }
 {
     match node_at(from, place) {
         Node::Success => Ok(Node::Success),
@@ -114,7 +114,7 @@ fn copy_both(
     requires first { a < length from.now }
     requires second { b < length from.now }
     requires copies { AreCopies from.now into.old.items (noted copies.old) }
-    ensures { IfOk result (λ p. AreBothCopied from.now into.old.items into.new.items (noted copies.old) (noted copies.new) a b p.0 p.1) }
+    ensures { IfOk result (CopiesBoth from.now into.old into.new copies.old copies.new a b) }
 {
     let first = copy_once(from, a, into, copies)?;
     let second = copy_once(from, b, into, copies)?;

@@ -1,7 +1,6 @@
 //! Rows that are noted for others.
-ghost use Rattle.std.specs.Prelude.{◌≡◌, ◌<◌, ℕ, [], None, Some, cond, length, nat_eq, IfOk, OnErr, OnOk};
-ghost use Rattle.std.specs.List.{slice_index_or};
-ghost use Rattle.poets_cons.specs.Notes.{noted};
+ghost use Rattle.std.specs.Prelude.{◌≡◌, ◌<◌, ℕ, [], length, IfOk, OnErr, OnOk};
+ghost use Rattle.poets_cons.specs.Notes.{noted, NotesRow};
 
 use poets_value::Memory;
 use std::alloc::Global;
@@ -24,7 +23,7 @@ impl Model for Notes {
 // Room for a note of the row.
 fn reach(rows: &mut Vec<Option<usize>>, place: usize) -> Result<(), Memory>
     ensures within { OnOk result (place < length rows.new.items) }
-    ensures same { (k : ℕ) → slice_index_or rows.new.items k None ≡ slice_index_or rows.old.items k None }
+    ensures same { (k : ℕ) → noted rows.new.items k ≡ noted rows.old.items k }
     ensures err { OnErr result (rows.new.items ≡ rows.old.items) }
 {
     if place < rows.len() {
@@ -62,7 +61,7 @@ impl Notes {
     /// Notes a row for another, and hands it on.
     pub fn note(&mut self, place: usize, row: usize) -> Result<usize, Memory>
         ensures row { IfOk result (λ r. r ≡ row) }
-        ensures notes { OnOk result ((k : ℕ) → noted self.new k ≡ cond (nat_eq place k) (Some row) (noted self.old k)) }
+        ensures notes { OnOk result (NotesRow self.old self.new place row) }
         ensures err { OnErr result (self.new ≡ self.old) }
     {
         reach(&mut self.rows, place)?;

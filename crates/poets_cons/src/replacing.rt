@@ -1,8 +1,8 @@
 //! Contracts of rows, with names replaced.
-ghost use Rattle.std.specs.Prelude.{◌≡◌, ◌<◌, IfOk, length, reverse};
+ghost use Rattle.std.specs.Prelude.{◌≡◌, ◌<◌, IfOk, length};
 ghost use Rattle.poets_syntax.specs.Contract.{contract_of};
-ghost use Rattle.poets_syntax.specs.Replace as replace;
-ghost use Rattle.poets_cons.specs.Table.{contract_at, IsTable};
+ghost use Rattle.poets_cons.specs.Replaced as spec;
+ghost use Rattle.poets_cons.specs.Table.{IsTable};
 
 use crate::arena::node_at;
 use crate::node::Node;
@@ -23,7 +23,7 @@ pub fn replaced_at(
 ) -> Result<Term, Memory>
     requires table { IsTable nodes.now }
     requires within { place < length nodes.now }
-    ensures { IfOk result (λ t. contract_of t ≡ replace.replace (reverse pairs.now) (contract_at nodes.now place)) }
+    ensures { IfOk result (λ t. contract_of t ≡ spec.replaced_at pairs.now nodes.now place) }
 {
     match node_at(nodes, place) {
         Node::Success => Ok(Term::Success),

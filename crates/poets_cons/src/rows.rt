@@ -1,9 +1,9 @@
 //! The rows of one contract.
 ghost use Rattle.std.specs.Prelude.{◌≡◌, ◌+◌, ◌<◌, length, slice_get, IfOk, Some};
 ghost use Rattle.poets_syntax.specs.Contract.{contract_of};
-ghost use Rattle.poets_cons.specs.Row.{row_of, contract_by, AreBelow};
+ghost use Rattle.poets_cons.specs.Row.{row_of, AreBelow};
 ghost use Rattle.poets_cons.specs.Parts.{subterm_count};
-ghost use Rattle.poets_cons.specs.Table.{contract_at, contract_of_rows, rows_of, IsTable, IsRooted};
+ghost use Rattle.poets_cons.specs.Table.{contract_at, contract_of_node, contract_of_rows, rows_of, IsTable, IsRooted};
 
 use crate::arena::{Arena, node_at};
 use crate::copying::{copy_once, loaded};
@@ -61,7 +61,7 @@ impl Rows {
     pub fn node(&self, place: usize) -> &Node
         requires { place < length self.now }
         ensures node { slice_get self.now place ≡ Some result.now }
-        ensures contract { contract_at self.now place ≡ contract_by (contract_at self.now) (row_of result.now) }
+        ensures contract { contract_at self.now place ≡ contract_of_node self.now result.now }
         ensures below { AreBelow place (row_of result.now) }
     {
         node_at(self.nodes(), place)
