@@ -1,11 +1,10 @@
 //! The first cycle of the graph.
-ghost use Rattle.std.specs.Prelude.{◌≡◌, List as Names, ◌∷◌, IfOk, Ok, true, false, map};
+ghost use Rattle.std.specs.Prelude.{◌≡◌, IfOk, Ok, true, false};
 ghost use Rattle.std.specs.BTreeSet.{contains};
 ghost use Rattle.poets_value.specs.Names.{name_cmp};
 ghost use Rattle.poets_guard.specs.code.Graph.{HasEdge};
-ghost use Rattle.poets_syntax.specs.Guarded.{IsCycle};
-ghost use Rattle.poets_guard.specs.code.Walks.{HasCycle};
-ghost use Rattle.poets_guard.specs.FirstCycle.{IsFirstOf, LiesOnCycle};
+ghost use Rattle.poets_guard.specs.code.Walks.{HasCycle, IsCycleFrom, IsFirstCycleIn};
+ghost use Rattle.poets_guard.specs.FirstCycle.{LiesOnCycle};
 ghost use Rattle.poets_guard.specs.code.Searched.{HaveNodes, IsSearched, LeadsOn, HasNodesOf};
 
 use crate::graph::Graph;
@@ -47,7 +46,7 @@ fn lead(
 // The cycle on which a name lies, from the name on.
 fn cycle_from(alloc: Global, graph: &Graph, name: Name) -> Result<List<Name>, Memory>
     requires { LiesOnCycle (HasEdge graph.now) name }
-    ensures { IfOk result (λ cycle. (others : Names Name) × (cycle.items ≡ name ∷ others) × IsCycle (HasEdge graph.now) (name ∷ others)) }
+    ensures { IfOk result (λ cycle. IsCycleFrom graph.now name cycle.items) }
 {
     let mut seen = BTreeSet::new(alloc);
     let mut path = List::new(alloc);
@@ -61,7 +60,7 @@ fn cycle_from(alloc: Global, graph: &Graph, name: Name) -> Result<List<Name>, Me
 pub(crate) fn first_cycle(alloc: Global, book: &Book, graph: &Graph) -> Result<List<Name>, Memory>
     requires cycle { HasCycle graph.now }
     requires names { HasNodesOf graph.now book.now.templates.items }
-    ensures { IfOk result (λ cycle. IsFirstOf (HasEdge graph.now) (map (λ t. t.name) book.now.templates.items) cycle.items) }
+    ensures { IfOk result (λ cycle. IsFirstCycleIn graph.now book.now.templates.items cycle.items) }
 {
     let on_cycles = names_on_cycles(alloc, book, graph)?;
     for template in book.templates.as_slice() {

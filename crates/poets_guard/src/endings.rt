@@ -1,15 +1,12 @@
 //! Templates that may end.
-ghost use Rattle.std.specs.Prelude.{◌≡◌, ℕ, ◌+◌, ◌++◌, [], ◌∷◌, ◌||◌, length, IfOk, OnOk, if◌then◌else◌};
+ghost use Rattle.std.specs.Prelude.{◌≡◌, ◌+◌, IfOk, OnOk};
 ghost use Rattle.std.specs.BTreeMap.{get};
-ghost use Rattle.std.specs.BTreeSet.{contains};
 ghost use Rattle.poets_value.specs.Names.{name_cmp};
-ghost use Rattle.poets_expr.specs.Env.{same_name};
-ghost use Rattle.poets_syntax.specs.Contract.{contract_of};
 ghost use Rattle.poets_syntax.specs.Book.{book_of};
 ghost use Rattle.poets_syntax.specs.Checked.{IsChecked};
-ghost use Rattle.poets_guard.specs.code.Endings.{IsExact};
+ghost use Rattle.poets_guard.specs.code.Endings.{AreThoseThatEnd};
 ghost use Rattle.poets_guard.specs.code.Rules.{is_known};
-ghost use Rattle.poets_guard.specs.code.Facts.{says, AreAdded, AreFacts, IsBuilt};
+ghost use Rattle.poets_guard.specs.code.Facts.{says, AddsNameIf, AddsRule, AddsRules, AddsBodyRules, AreFactsOf, AreRulesOf};
 
 use crate::rules::{GIVEN, Rule, consequences};
 use poets_syntax::{Book, Template, Term};
@@ -45,7 +42,7 @@ impl Rules {
     // Adds the rule by which a goal follows from two facts.
     fn add(&mut self, first: usize, second: usize, goal: usize) -> Result<(), Memory>
         ensures count { self.new.count ≡ self.old.count }
-        ensures rules { OnOk result (self.new.rules.items ≡ self.old.rules.items ++ record { first = first; second = second; conclusion = goal } ∷ []) }
+        ensures rules { OnOk result (AddsRule first second goal self.old self.new) }
     {
         self.rules.push(Rule {
             first,
@@ -65,7 +62,7 @@ impl Rules {
         given: usize,
         goal: usize,
     ) -> Result<(), Memory>
-        ensures { OnOk result (AreAdded granted (get name_cmp facts.now) (contract_of term.now) given goal self.old self.new) }
+        ensures { OnOk result (AddsRules granted facts.now term.now given goal self.old self.new) }
     {
         match term {
             Term::Success => self.add(given, GIVEN, goal),
@@ -101,8 +98,7 @@ impl Rules {
         facts: &Facts,
         template: &Template,
     ) -> Result<(), Memory>
-        ensures { OnOk result ((goal : ℕ) → get name_cmp facts.now template.now.name ≡ Some goal →
-            AreAdded granted (get name_cmp facts.now) (contract_of template.now.body) 0 goal self.old self.new) }
+        ensures { OnOk result (AddsBodyRules granted facts.now template.now self.old self.new) }
     {
         if let Some(goal) = facts.get(&template.name) {
             return self.conclude(granted, facts, &template.body, GIVEN, *goal);
@@ -114,7 +110,7 @@ impl Rules {
 // A fact for each template, after the one that is given.
 fn facts_of(alloc: Global, book: &Book) -> Result<Facts, Memory>
     requires { IsChecked (book_of book.now) }
-    ensures { IfOk result (λ facts. AreFacts (length book.now.templates.items) book.now.templates.items (get name_cmp facts)) }
+    ensures { IfOk result (AreFactsOf book.now) }
 {
     let mut facts = BTreeMap::new(alloc);
     for (place, template) in book.templates.as_slice().iter().enumerate() {
@@ -126,8 +122,8 @@ fn facts_of(alloc: Global, book: &Book) -> Result<Facts, Memory>
 // The rules by which the facts of the templates follow.
 fn rules_of_book(alloc: Global, granted: bool, book: &Book, facts: &Facts) -> Result<Rules, Memory>
     requires checked { IsChecked (book_of book.now) }
-    requires facts { AreFacts (length book.now.templates.items) book.now.templates.items (get name_cmp facts.now) }
-    ensures { IfOk result (IsBuilt (book_of book.now) granted book.now.templates.items (get name_cmp facts.now) (length book.now.templates.items)) }
+    requires facts { AreFactsOf book.now facts.now }
+    ensures { IfOk result (AreRulesOf book.now granted facts.now) }
 {
     let templates = book.templates.as_slice();
     let mut rules = Rules {
@@ -152,7 +148,7 @@ fn may_end(facts: &Facts, known: &[bool], name: &Name) -> bool
 
 /// Adds a name where the test holds.
 pub(crate) fn insert_if(test: bool, names: &mut BTreeSet<Name>, name: Name) -> Result<(), Memory>
-    ensures { OnOk result ((f : Name) → contains name_cmp names.new f ≡ (if same_name name f then test || contains name_cmp names.old f else contains name_cmp names.old f)) }
+    ensures { OnOk result (AddsNameIf test name names.old names.new) }
 {
     if !test {
         return Ok(());
@@ -169,7 +165,7 @@ pub(crate) fn templates_that_end(
     book: &Book,
 ) -> Result<BTreeSet<Name>, Memory>
     requires { IsChecked (book_of book.now) }
-    ensures { IfOk result (λ ending. IsExact (book_of book.now) granted (contains name_cmp ending)) }
+    ensures { IfOk result (AreThoseThatEnd book.now granted) }
 {
     let facts = facts_of(alloc, book)?;
     let rules = rules_of_book(alloc, granted, book, &facts)?;

@@ -1,14 +1,9 @@
 //! The graph of unguarded edges between templates.
-ghost use Rattle.std.specs.Prelude.{◌≡◌, ◌+◌, ◌++◌, IfOk, OnOk, false};
-ghost use Rattle.std.specs.BTreeSet.{contains};
-ghost use Rattle.poets_value.specs.Names.{name_cmp};
-ghost use Rattle.poets_syntax.specs.Contract.{contract_of};
+ghost use Rattle.std.specs.Prelude.{◌≡◌, ◌+◌, IfOk, OnOk};
 ghost use Rattle.poets_syntax.specs.Book.{book_of};
 ghost use Rattle.poets_syntax.specs.Checked.{IsChecked};
 ghost use Rattle.poets_syntax.specs.Width.{cut};
-ghost use Rattle.poets_guard.specs.code.Endings.{ends};
-ghost use Rattle.poets_guard.specs.code.Graph.{exposures, IsGraph};
-ghost use Rattle.poets_guard.specs.code.Graph as spec;
+ghost use Rattle.poets_guard.specs.code.Graph.{is_nullable, own_of, exposures_of, ExposesMore, IsGraphOf};
 
 use poets_syntax::{Book, Term, WIDEST, size};
 use poets_value::{List, Memory, Name, push};
@@ -39,9 +34,9 @@ pub(crate) type Graph = BTreeMap<Name, Node>;
 
 // Adds what a contract has in unguarded positions. Says whether the contract is nullable.
 fn gather(nullable: &BTreeSet<Name>, term: &Term, node: &mut Node) -> Result<bool, Memory>
-    ensures nullable { IfOk result (λ b. b ≡ ends false (contains name_cmp nullable.now) (contract_of term.now)) }
-    ensures own { OnOk result (node.new.own ≡ cut (node.old.own + spec.own (contains name_cmp nullable.now) (contract_of term.now))) }
-    ensures exposed { OnOk result (node.new.exposed.items ≡ node.old.exposed.items ++ exposures (contains name_cmp nullable.now) (contract_of term.now)) }
+    ensures nullable { IfOk result (λ b. b ≡ is_nullable nullable.now term.now) }
+    ensures own { OnOk result (node.new.own ≡ cut (node.old.own + own_of nullable.now term.now)) }
+    ensures exposed { OnOk result (ExposesMore nullable.now term.now node.old node.new) }
 {
     match term {
         Term::Success => {
@@ -82,8 +77,8 @@ fn gather(nullable: &BTreeSet<Name>, term: &Term, node: &mut Node) -> Result<boo
 
 // The node of a contract.
 fn node_of(alloc: Global, nullable: &BTreeSet<Name>, term: &Term) -> Result<Node, Memory>
-    ensures own { IfOk result (λ n. n.own ≡ cut (spec.own (contains name_cmp nullable.now) (contract_of term.now))) }
-    ensures exposed { IfOk result (λ n. n.exposed.items ≡ exposures (contains name_cmp nullable.now) (contract_of term.now)) }
+    ensures own { IfOk result (λ n. n.own ≡ cut (own_of nullable.now term.now)) }
+    ensures exposed { IfOk result (λ n. n.exposed.items ≡ exposures_of nullable.now term.now) }
 {
     let mut node = Node {
         own: 0,
@@ -100,7 +95,7 @@ pub(crate) fn graph_of(
     nullable: &BTreeSet<Name>,
 ) -> Result<Graph, Memory>
     requires { IsChecked (book_of book.now) }
-    ensures { IfOk result (λ graph. IsGraph (book_of book.now).templates (contains name_cmp nullable.now) graph) }
+    ensures { IfOk result (IsGraphOf book.now nullable.now) }
 {
     let mut graph = BTreeMap::new(alloc);
     for template in book.templates.as_slice() {

@@ -1,6 +1,6 @@
 //! What follows from facts by rules of two premises.
-ghost use Rattle.std.specs.Prelude.{◌≡◌, ℕ, ◌<◌, ◌++◌, [], ◌∷◌, true, length, All, IfOk, OnOk, slice_set};
-ghost use Rattle.poets_guard.specs.code.Rules.{IsWithin, is_known, Concludes, AllFollow, lists, list_at, IsStep};
+ghost use Rattle.std.specs.Prelude.{◌≡◌, ◌<◌, true, length, All, IfOk, OnOk, slice_set};
+ghost use Rattle.poets_guard.specs.code.Rules.{IsWithin, is_known, Concludes, AllFollow, WaitsFor, EndsWaitFor, IsStep};
 
 use poets_value::Memory;
 use std::alloc::Global;
@@ -31,7 +31,7 @@ impl Known {
     // Lets a rule wait for a fact.
     fn wait(&mut self, fact: usize, rule: Rule) -> Result<(), Memory>
         requires { fact < length self.old.waiting.items }
-        ensures waiting { OnOk result (lists self.new.waiting.items ≡ slice_set (lists self.old.waiting.items) fact (list_at self.old.waiting.items fact ++ rule ∷ [])) }
+        ensures waiting { OnOk result (WaitsFor fact rule self.old self.new) }
         ensures len { length self.new.waiting.items ≡ length self.old.waiting.items }
         ensures facts { self.new.facts ≡ self.old.facts }
         ensures pending { self.new.pending ≡ self.old.pending }
@@ -45,8 +45,7 @@ impl Known {
         requires { (fact < length self.old.facts.items) × (fact < length self.old.waiting.items) }
         ensures facts { self.new.facts.items ≡ slice_set self.old.facts.items fact true }
         ensures len { length self.new.waiting.items ≡ length self.old.waiting.items }
-        ensures moved { OnOk result ((lists self.new.waiting.items ≡ slice_set (lists self.old.waiting.items) fact [])
-            × (self.new.pending.items ≡ self.old.pending.items ++ list_at self.old.waiting.items fact)) }
+        ensures moved { OnOk result (EndsWaitFor fact self.old self.new) }
     {
         self.facts[fact] = true;
         self.pending.append(&mut self.waiting[fact])?;

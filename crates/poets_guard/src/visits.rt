@@ -1,11 +1,8 @@
 //! Which names of the graph lie on cycles, by Tarjan's search for strongly connected components.
-ghost use Rattle.std.specs.Prelude.{◌≡◌, ◌↔◌, ◌≤◌, ◌⊎◌, true, IfOk, OnOk, IsTrue};
-ghost use Rattle.std.specs.BTreeSet.{contains};
-ghost use Rattle.poets_value.specs.Names.{name_cmp};
-ghost use Rattle.poets_guard.specs.code.Graph.{HasEdge};
-ghost use Rattle.poets_guard.specs.FirstCycle.{LiesOnCycle};
+ghost use Rattle.std.specs.Prelude.{◌≡◌, ◌↔◌, ◌≤◌, IfOk, OnOk, IsTrue};
 ghost use Rattle.poets_guard.specs.code.Searched.{HasNodesOf};
-ghost use Rattle.poets_guard.specs.code.Visited.{IsOpenAt, AllLead, AreRight, IsVisited};
+ghost use Rattle.poets_guard.specs.code.Visited.{IsOpenAt, IsOnCycle, AddsOnlyIf, AllLead, AreRight, IsVisited};
+ghost use Rattle.poets_guard.specs.code.Walks.{AreOnCycles};
 
 use crate::endings::insert_if;
 use crate::graph::Graph;
@@ -38,9 +35,9 @@ impl Visits {
     fn note(&mut self, name: Name, height: usize, least: usize) -> Result<(), Memory>
         ensures heights { self.new.heights ≡ self.old.heights }
         ensures stack { self.new.stack ≡ self.old.stack }
-        ensures on_cycle { OnOk result (least ≤ height → contains name_cmp self.new.on_cycles name ≡ true) }
-        ensures others { OnOk result ((f : Name) → contains name_cmp self.new.on_cycles f ≡ true → (contains name_cmp self.old.on_cycles f ≡ true) ⊎ ((least ≤ height) × (name ≡ f))) }
-        ensures still { OnOk result ((f : Name) → contains name_cmp self.old.on_cycles f ≡ true → contains name_cmp self.new.on_cycles f ≡ true) }
+        ensures on_cycle { OnOk result (least ≤ height → IsOnCycle self.new name) }
+        ensures others { OnOk result (AddsOnlyIf (least ≤ height) name self.old self.new) }
+        ensures still { OnOk result ((f : Name) → IsOnCycle self.old f → IsOnCycle self.new f) }
     {
         insert_if(least <= height, &mut self.on_cycles, name)
     }
@@ -85,7 +82,7 @@ pub(crate) fn names_on_cycles(
     graph: &Graph,
 ) -> Result<BTreeSet<Name>, Memory>
     requires { HasNodesOf graph.now book.now.templates.items }
-    ensures { IfOk result (λ names. (f : Name) → IsTrue (contains name_cmp names f) ↔ LiesOnCycle (HasEdge graph.now) f) }
+    ensures { IfOk result (AreOnCycles graph.now) }
 {
     let mut visits = Visits {
         heights: BTreeMap::new(alloc),

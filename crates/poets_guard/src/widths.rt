@@ -1,10 +1,7 @@
 //! The widths of the templates' bodies, and their marks.
 ghost use Rattle.std.specs.Prelude.{◌≡◌, IfOk, IfSome, IsSome, Ok, None};
-ghost use Rattle.std.specs.List.{AllZip};
-ghost use Rattle.std.specs.BTreeSet.{contains};
-ghost use Rattle.poets_value.specs.Names.{name_cmp};
 ghost use Rattle.poets_guard.specs.code.Walks.{HasCycle, HasWidth, HaveWidths, AllReach, HaveSameNames};
-ghost use Rattle.poets_guard.specs.code.Marked.{IsMarked};
+ghost use Rattle.poets_guard.specs.code.Marked.{AreMarksIfAny};
 
 use crate::graph::{Graph, add};
 use poets_syntax::{Book, Mark};
@@ -57,8 +54,7 @@ pub(crate) fn marks(
     hopeful: &BTreeSet<Name>,
     graph: &Graph,
 ) -> Result<Option<List<Mark>>, Memory>
-    ensures marks { IfOk result (λ found. IfSome found (λ marks.
-        AllZip (IsMarked graph.now (contains name_cmp nullable.now) (contains name_cmp hopeful.now)) book.now.templates.items marks.items)) }
+    ensures marks { IfOk result (AreMarksIfAny book.now nullable.now hopeful.now graph.now) }
     ensures cycle { result ≡ Ok None → HasCycle graph.now }
 {
     let mut path = BTreeSet::new(alloc);

@@ -1,6 +1,10 @@
 -- Which templates may end: by no step, or by granted steps.
 use Rattle.std.specs.Prelude.{◌≡◌, ℕ, Bool, true, false, ◌&&◌, ◌||◌, [], IsTrue, ◌↔◌}
+use Rattle.std.specs.BTreeSet.{BTreeSet, contains}
 use Rattle.poets_value.specs.declared.value.Name.{Name}
+use Rattle.poets_value.specs.Names.{name_cmp}
+use Rattle.poets_syntax.specs.declared.term.Book.{Book as TheBook}
+use Rattle.poets_syntax.specs.Book.{book_of}
 use Rattle.poets_syntax.specs.Contract.{Contract, Success, Failure, Transmit, Plus, Par, Seq, App}
 use Rattle.poets_syntax.specs.Plain.{Book}
 use Rattle.poets_syntax.specs.May.{May}
@@ -27,3 +31,7 @@ IsSound book granted says = (f : Name) → says f ≡ true → BodySatisfies boo
 -- exactly the templates that may end are said to
 abbrev pub IsExact : Book → (granted : Bool) → (says : Name → Bool) → Type 0
 IsExact book granted says = (f : Name) → IsTrue (says f) ↔ BodySatisfies book (MayEnd book granted) f
+
+-- the set has exactly the names of the templates that may end: by granted steps, or by no step where none is granted
+abbrev pub AreThoseThatEnd : TheBook → (granted : Bool) → BTreeSet Name → Type 0
+AreThoseThatEnd book granted names = IsExact (book_of book) granted (contains name_cmp names)

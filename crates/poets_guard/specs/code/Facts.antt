@@ -1,11 +1,17 @@
 -- Facts of contracts that may end, and the rules by which they follow.
-use Rattle.std.specs.Prelude.{◌≡◌, ℕ, ◌≤◌, ◌<◌, Bool, true, false, ◌&&◌, List, [], ◌∷◌, length, take, map, All, Option, Some, None, is_some, option_map, Contains, slice_get, slice_index_or}
+use Rattle.std.specs.Prelude.{◌≡◌, ℕ, ◌≤◌, ◌<◌, Bool, true, false, ◌&&◌, ◌||◌, if◌then◌else◌, List, [], ◌∷◌, ◌++◌, length, take, map, All, Option, Some, None, is_some, option_map, Contains, slice_get, slice_index_or}
+use Rattle.std.specs.BTreeMap.{BTreeMap, get}
+use Rattle.std.specs.BTreeSet.{BTreeSet, contains}
 use Rattle.poets_value.specs.declared.value.Name.{Name}
+use Rattle.poets_value.specs.Names.{name_cmp}
+use Rattle.poets_expr.specs.Env.{same_name}
+use Rattle.poets_syntax.specs.declared.term.Book.{Book as TheBook}
+use Rattle.poets_syntax.specs.declared.term.Term.{Term}
 use Rattle.poets_syntax.specs.declared.term.Template.{Template}
 use Rattle.poets_syntax.specs.Contract.{Contract, contract_of}
 use Rattle.poets_syntax.specs.Applied.{ApplicationsFit}
 use Rattle.poets_syntax.specs.Plain.{Book}
-use Rattle.poets_syntax.specs.Book.{template_of, template_in}
+use Rattle.poets_syntax.specs.Book.{book_of, template_of, template_in}
 use Rattle.poets_syntax.specs.Plain as plain
 use Rattle.poets_guard.specs.declared.rules.Rule.{Rule}
 use Rattle.poets_guard.specs.declared.endings.Rules.{Rules}
@@ -84,3 +90,27 @@ pub record IsBuilt (book : Book) (granted : Bool) (templates : List Template) (f
 -- the set has those of the first so many templates that are said to end, and no others
 abbrev pub IsTold : ℕ → List Template → (says ending : Name → Bool) → Type 0
 IsTold n templates says ending = (f : Name) → ending f ≡ (says f && is_some (template_in (first_templates n templates) f))
+
+-- the rule by which a goal follows from two facts was added at the end
+abbrev pub AddsRule : (first second goal : ℕ) → (old new : Rules) → Type 0
+AddsRule first second goal old new = new.rules.items ≡ old.rules.items ++ record { first = first; second = second; conclusion = goal } ∷ []
+
+-- where a fact is given, a goal follows by the new rules if the contract of the term may end, and may be said only then
+abbrev pub AddsRules : (granted : Bool) → (facts : BTreeMap Name ℕ) → Term → (given goal : ℕ) → (old new : Rules) → Type 0
+AddsRules granted facts term given goal old new = AreAdded granted (get name_cmp facts) (contract_of term) given goal old new
+
+-- the fact of the template follows by the new rules if its body may end, and may be said only then
+abbrev pub AddsBodyRules : (granted : Bool) → (facts : BTreeMap Name ℕ) → Template → (old new : Rules) → Type 0
+AddsBodyRules granted facts t old new = (goal : ℕ) → get name_cmp facts t.name ≡ Some goal → AddsRules granted facts t.body 0 goal old new
+
+-- each template of the book has the fact of its body, and no other name has one
+abbrev pub AreFactsOf : TheBook → (facts : BTreeMap Name ℕ) → Type 0
+AreFactsOf book facts = AreFacts (length book.templates.items) book.templates.items (get name_cmp facts)
+
+-- the rules are those of the bodies of all templates of the book
+abbrev pub AreRulesOf : TheBook → (granted : Bool) → (facts : BTreeMap Name ℕ) → Rules → Type 0
+AreRulesOf book granted facts s = IsBuilt (book_of book) granted book.templates.items (get name_cmp facts) (length book.templates.items) s
+
+-- the name was added to the set where the test holds, and no other name
+abbrev pub AddsNameIf : (test : Bool) → Name → (old new : BTreeSet Name) → Type 0
+AddsNameIf test name old new = (f : Name) → contains name_cmp new f ≡ (if same_name name f then test || contains name_cmp old f else contains name_cmp old f)

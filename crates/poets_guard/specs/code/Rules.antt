@@ -1,5 +1,5 @@
 -- What follows from facts by rules of two premises.
-use Rattle.std.specs.Prelude.{◌≡◌, ◌⊎◌, ℕ, ◌+◌, ◌*◌, ◌<◌, ◌≤◌, Bool, true, false, not, List, [], ◌∷◌, ◌++◌, length, map, All, Contains, slice_index_or}
+use Rattle.std.specs.Prelude.{◌≡◌, ◌⊎◌, ℕ, ◌+◌, ◌*◌, ◌<◌, ◌≤◌, Bool, true, false, not, List, [], ◌∷◌, ◌++◌, length, map, All, Contains, slice_index_or, slice_set}
 use Rattle.std.specs.List.{count_by, sum_by}
 use Rattle.std.specs.declared.alloc.Global.{Global}
 use Rattle.std.specs.declared.vec.Vec.{Vec}
@@ -66,3 +66,12 @@ abbrev pub IsStep : Rule → (old new : Known) → Type 0
 IsStep r old new = (rules : List Rule) → IsLearning rules old.facts.items (lists old.waiting.items) (old.pending.items ++ r ∷ []) →
     IsLearning rules new.facts.items (lists new.waiting.items) new.pending.items
     × (work rules new.facts.items new.pending.items < work rules old.facts.items (old.pending.items ++ r ∷ []))
+
+-- the rule waits for the fact after those that did, and no other waits anew
+abbrev pub WaitsFor : (fact : ℕ) → Rule → (old new : Known) → Type 0
+WaitsFor fact rule old new = lists new.waiting.items ≡ slice_set (lists old.waiting.items) fact (list_at old.waiting.items fact ++ rule ∷ [])
+
+-- the rules that waited for the fact are pending after those that were, and none waits for it
+abbrev pub EndsWaitFor : (fact : ℕ) → (old new : Known) → Type 0
+EndsWaitFor fact old new = (lists new.waiting.items ≡ slice_set (lists old.waiting.items) fact [])
+    × (new.pending.items ≡ old.pending.items ++ list_at old.waiting.items fact)

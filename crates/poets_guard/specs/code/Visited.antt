@@ -15,6 +15,14 @@ use Rattle.poets_guard.specs.FirstCycle.{LiesOnCycle}
 abbrev pub IsOpenAt : Visits → ℕ → Name → Type 0
 IsOpenAt visits k f = slice_get visits.stack.items k ≡ Some f
 
+-- the name is among those on cycles
+abbrev pub IsOnCycle : Visits → Name → Type 0
+IsOnCycle visits f = contains name_cmp visits.on_cycles f ≡ true
+
+-- no name was put among those on cycles but this one, and this one only where P holds
+abbrev pub AddsOnlyIf : Type 0 → Name → (old new : Visits) → Type 0
+AddsOnlyIf P name old new = (f : Name) → IsOnCycle new f → IsOnCycle old f ⊎ (P × (name ≡ f))
+
 -- each open name leads to the name
 abbrev pub AllLead : BTreeMap Name Node → Visits → Name → Type 0
 AllLead graph visits g = (k : ℕ) (f : Name) → IsOpenAt visits k f → Reaches graph f g

@@ -1,12 +1,14 @@
 -- Walks over the graph: the widths that it gives, and its cycles.
-use Rattle.std.specs.Prelude.{◌≡◌, ℕ, ◌+◌, true, List, length, Option, Some, None, sum_by}
+use Rattle.std.specs.Prelude.{◌≡◌, ◌↔◌, ℕ, ◌+◌, true, IsTrue, List, ◌∷◌, map, length, Option, Some, None, sum_by}
 use Rattle.std.specs.BTreeMap.{BTreeMap, get}
 use Rattle.std.specs.BTreeSet.{BTreeSet, contains}
 use Rattle.poets_value.specs.declared.value.Name.{Name}
 use Rattle.poets_value.specs.Names.{name_cmp}
+use Rattle.poets_syntax.specs.declared.term.Template.{Template}
 use Rattle.poets_syntax.specs.Guarded.{IsPath, IsCycle}
 use Rattle.poets_guard.specs.declared.graph.Node.{Node}
 use Rattle.poets_syntax.specs.Width.{cut}
+use Rattle.poets_guard.specs.FirstCycle.{IsFirstOf, LiesOnCycle}
 use Rattle.poets_guard.specs.code.Graph.{HasEdge}
 
 -- some path of edges leads from the first name to the second
@@ -46,3 +48,15 @@ AllReach graph names g = (f : Name) → contains name_cmp names f ≡ true → R
 pub record HaveSameNames (old new : BTreeSet Name) : Type 0 where
   pub same : (f : Name) → contains name_cmp new f ≡ contains name_cmp old f
   pub as_many : length new.keys ≡ length old.keys
+
+-- the list is a cycle of the graph that begins with the name
+abbrev pub IsCycleFrom : BTreeMap Name Node → Name → List Name → Type 0
+IsCycleFrom graph f cycle = (others : List Name) × (cycle ≡ f ∷ others) × IsCycle (HasEdge graph) (f ∷ others)
+
+-- the list is a cycle of the graph, and begins with the first of the templates that lies on one
+abbrev pub IsFirstCycleIn : BTreeMap Name Node → List Template → List Name → Type 0
+IsFirstCycleIn graph templates cycle = IsFirstOf (HasEdge graph) (map (λ t. t.name) templates) cycle
+
+-- the set has exactly the names that lie on cycles of the graph
+abbrev pub AreOnCycles : BTreeMap Name Node → BTreeSet Name → Type 0
+AreOnCycles graph names = (f : Name) → IsTrue (contains name_cmp names f) ↔ LiesOnCycle (HasEdge graph) f
