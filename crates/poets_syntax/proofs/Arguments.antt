@@ -1,5 +1,5 @@
 -- Replacing names by literals keeps the number of arguments.
-use Rattle.std.proofs.Common.{◌≡◌, ℕ, ◌+◌, refl, ap₂, map, length}
+use Rattle.std.proofs.Common.{◌≡◌, ◌+◌, refl, ap₂}
 use Rattle.std.proofs.lemmas.List.{length-map}
 use Rattle.poets_expr.specs.Subst.{Givens, subst}
 use Rattle.poets_syntax.specs.Contract.{Contract, Success, Failure, Transmit, Plus, Par, Seq, App}

@@ -1,5 +1,5 @@
 -- Contracts worked by hand: what performs them, and what is left of them after events.
-use Rattle.std.specs.Prelude.{ℕ, zero, suc, ◌+◌, nat_lt, true, ◌||◌, [], ◌∷◌, Some, None, pos, if◌then◌else◌}
+use Rattle.std.specs.Prelude.{◌↔◌, ℕ, zero, suc, ◌+◌, nat_lt, true, ◌||◌, List, [], ◌∷◌, Some, None, pos, if◌then◌else◌}
 use Rattle.poets_value.specs.declared.value.Name.{Name}
 use Rattle.poets_value.specs.declared.value.Ty.TheVariants as T
 use Rattle.poets_value.specs.declared.value.Value.TheVariants as V
@@ -10,7 +10,9 @@ use Rattle.poets_expr.specs.Env.{Declared, same_name}
 use Rattle.poets_syntax.specs.declared.term.Binders.{Binders}
 use Rattle.poets_syntax.specs.Contract.{Contract, Success, Transmit, Plus, Par, Seq, App}
 use Rattle.poets_syntax.specs.Plain.{Book, Template}
+use Rattle.poets_syntax.specs.Perf.{Perf}
 use Rattle.poets_syntax.specs.Marks.{Marks}
+use Rattle.poets_syntax.specs.Residual.{residual_after}
 
 abbrev pub name : ℕ → Name
 name n = record { id = n }
@@ -119,6 +121,18 @@ book = record { declared = traders; templates = sale_template ∷ again_template
 abbrev pub marks : Marks
 marks = record { nullable = λ f. same_name f again; hopeful = λ f. same_name f sale || same_name f again }
 
+-- what is left of a contract after some events
+abbrev pub left_of : Contract → List Event → Contract
+left_of c s = residual_after book marks c s
+
+-- the same traces perform both contracts
+abbrev pub ArePerformedAlike : Contract → Contract → Type 0
+ArePerformedAlike c d = (s : List Event) → Perf book [] c s ↔ Perf book [] d s
+
+-- again(n)
+abbrev pub again_with : Expression → Contract
+again_with n = App again (n ∷ [])
+
 -- sale(ann, bob, 7)
 abbrev pub sold : Contract
 sold = App sale (Expression.Named ann ∷ Expression.Named bob ∷ number 7 ∷ [])
@@ -127,11 +141,18 @@ sold = App sale (Expression.Named ann ∷ Expression.Named bob ∷ number 7 ∷ 
 abbrev pub beside : Contract
 beside = Par (of_kind oil Success) (of_kind oil (of_kind usd Success))
 
+-- O. U. Success + (O. Success || U. Success)
+abbrev pub beside_after_oil : Contract
+beside_after_oil = Plus (of_kind oil (of_kind usd Success)) (Par (of_kind oil Success) (of_kind usd Success))
+
 abbrev pub some_oil : Event
 some_oil = event ann bob 1 oil 0
 
 abbrev pub some_usd : Event
 some_usd = event ann bob 1 usd 0
+
+abbrev pub three_oil : Event
+three_oil = event ann bob 3 oil 0
 
 -- (Success + O. Success) ; U. Success
 abbrev pub over : Contract
@@ -154,6 +175,10 @@ agent x = Expression.Named x
 
 abbrev pub day_of : Event → Expression
 day_of e = Expression.Literal (V.Day e.day)
+
+-- bob owes ann the payment within thirty days of the delivery
+abbrev pub payment_owed : Contract
+payment_owed = paid (agent bob) (agent ann) (day_of delivery)
 
 abbrev pub too_great : Expression
 too_great = Expression.Binary O.Add (number 9_223_372_036_854_775_807) (number 1)

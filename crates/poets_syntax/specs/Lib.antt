@@ -26,6 +26,7 @@ pub mod Checked
 pub mod Guarded
 pub mod Studied
 pub mod InStudied
+pub mod Results
 pub mod StudiedLaws
 pub mod TypedLaws
 pub mod Examples

@@ -2,6 +2,7 @@
 ghost use Rattle.std.specs.Prelude.{◌≡◌, IfOk};
 ghost use Rattle.poets_expr.specs.Expression.{expression_of};
 ghost use Rattle.poets_syntax.specs.Contract.{contract_of, Transmit, Plus, Par, Seq};
+ghost use Rattle.poets_syntax.specs.Results.{GivesContract};
 
 pub use crate::equality::same;
 pub use crate::substitution::{copy, subst};
@@ -30,7 +31,7 @@ pub fn copy_params(alloc: Global, params: &List<Param>) -> Result<List<Param>, M
 
 /// A transmit and what follows it.
 pub fn transmit(alloc: Global, binders: Binders, when: Expr, then: Term) -> Result<Term, Memory>
-    ensures { IfOk result (λ c. contract_of c ≡ Transmit binders (expression_of when) (contract_of then)) }
+    ensures { GivesContract result (Transmit binders (expression_of when) (contract_of then)) }
 {
     let then = boxed(alloc, then)?;
     Ok(Term::Transmit {
@@ -42,7 +43,7 @@ pub fn transmit(alloc: Global, binders: Binders, when: Expr, then: Term) -> Resu
 
 /// A choice.
 pub fn plus(alloc: Global, a: Term, b: Term) -> Result<Term, Memory>
-    ensures { IfOk result (λ c. contract_of c ≡ Plus (contract_of a) (contract_of b)) }
+    ensures { GivesContract result (Plus (contract_of a) (contract_of b)) }
 {
     let a = boxed(alloc, a)?;
     let b = boxed(alloc, b)?;
@@ -51,7 +52,7 @@ pub fn plus(alloc: Global, a: Term, b: Term) -> Result<Term, Memory>
 
 /// Two contracts side by side.
 pub fn par(alloc: Global, a: Term, b: Term) -> Result<Term, Memory>
-    ensures { IfOk result (λ c. contract_of c ≡ Par (contract_of a) (contract_of b)) }
+    ensures { GivesContract result (Par (contract_of a) (contract_of b)) }
 {
     let a = boxed(alloc, a)?;
     let b = boxed(alloc, b)?;
@@ -60,7 +61,7 @@ pub fn par(alloc: Global, a: Term, b: Term) -> Result<Term, Memory>
 
 /// One contract after the other.
 pub fn seq(alloc: Global, a: Term, b: Term) -> Result<Term, Memory>
-    ensures { IfOk result (λ c. contract_of c ≡ Seq (contract_of a) (contract_of b)) }
+    ensures { GivesContract result (Seq (contract_of a) (contract_of b)) }
 {
     let a = boxed(alloc, a)?;
     let b = boxed(alloc, b)?;

@@ -1,14 +1,12 @@
 //! Contracts worked by hand, each carried by a function that does nothing.
-ghost use Rattle.std.specs.Prelude.{◌≡◌, ◌↔◌, List, [], ◌∷◌};
-ghost use Rattle.poets_value.specs.declared.event.Event.{Event};
-ghost use Rattle.poets_syntax.specs.Contract.{Contract, Success, Failure, Plus, Par, Seq, App};
+ghost use Rattle.std.specs.Prelude.{◌≡◌, [], ◌∷◌};
+ghost use Rattle.poets_syntax.specs.Contract.{Contract, Success, Failure, Seq};
 ghost use Rattle.poets_syntax.specs.Perf.{Perf};
 ghost use Rattle.poets_syntax.specs.May.{May};
 ghost use Rattle.poets_syntax.specs.Marks.{AreRight};
 ghost use Rattle.poets_syntax.specs.Normal.{normal};
-ghost use Rattle.poets_syntax.specs.Residual.{residual_after};
 ghost use Rattle.poets_syntax.specs.Width.{size, width};
-ghost use Rattle.poets_syntax.specs.Examples.{again, ann, bob, oil, usd, book, marks, sold, delivery, payment, paid, beside, over, rebound, inner, amounts, of_kind, event, day_of, agent, too_great, undefined_int, number};
+ghost use Rattle.poets_syntax.specs.Examples.{ann, bob, oil, usd, book, marks, left_of, ArePerformedAlike, again_with, sold, delivery, payment, payment_owed, beside, beside_after_oil, over, rebound, inner, amounts, of_kind, event, some_oil, some_usd, three_oil, too_great, undefined_int, number};
 
 /// A sale is performed by the delivery and then the payment in time.
 pub fn a_sale()
@@ -16,25 +14,24 @@ pub fn a_sale()
     ensures in_order { ¬ (Perf book [] sold (payment 30 ∷ delivery ∷ [])) }
     ensures in_time { ¬ (Perf book [] sold (delivery ∷ payment 31 ∷ [])) }
     ensures granted { May book [] sold (delivery ∷ []) 1 }
-    ensures residual { residual_after book marks sold (delivery ∷ []) ≡ paid (agent bob) (agent ann) (day_of delivery) }
-    ensures done { residual_after book marks sold (delivery ∷ payment 30 ∷ []) ≡ Success }
-    ensures late { residual_after book marks sold (delivery ∷ payment 31 ∷ []) ≡ Failure }
+    ensures residual { left_of sold (delivery ∷ []) ≡ payment_owed }
+    ensures done { left_of sold (delivery ∷ payment 30 ∷ []) ≡ Success }
+    ensures late { left_of sold (delivery ∷ payment 31 ∷ []) ≡ Failure }
 {}
 
 /// An event that both parts could take leaves both open.
 pub fn side_by_side()
-    ensures granted { May book [] beside (event ann bob 1 oil 0 ∷ []) 2 }
-    ensures residual { residual_after book marks beside (event ann bob 1 oil 0 ∷ [])
-        ≡ Plus (of_kind oil (of_kind usd Success)) (Par (of_kind oil Success) (of_kind usd Success)) }
-    ensures oil_again { residual_after book marks beside (event ann bob 1 oil 0 ∷ event ann bob 1 oil 0 ∷ []) ≡ of_kind usd Success }
-    ensures then_usd { residual_after book marks beside (event ann bob 1 oil 0 ∷ event ann bob 1 usd 0 ∷ []) ≡ of_kind oil Success }
+    ensures granted { May book [] beside (some_oil ∷ []) 2 }
+    ensures residual { left_of beside (some_oil ∷ []) ≡ beside_after_oil }
+    ensures oil_again { left_of beside (some_oil ∷ some_oil ∷ []) ≡ of_kind usd Success }
+    ensures then_usd { left_of beside (some_oil ∷ some_usd ∷ []) ≡ of_kind oil Success }
 {}
 
 /// An event passes a first part that is nullable.
 pub fn in_sequence()
-    ensures performed { Perf book [] over (event ann bob 1 usd 0 ∷ []) }
-    ensures residual { residual_after book marks over (event ann bob 1 usd 0 ∷ []) ≡ Success }
-    ensures after_success { (c : Contract) (s : List Event) → Perf book [] (Seq Success c) s ↔ Perf book [] c s }
+    ensures performed { Perf book [] over (some_usd ∷ []) }
+    ensures residual { left_of over (some_usd ∷ []) ≡ Success }
+    ensures after_success { (c : Contract) → ArePerformedAlike (Seq Success c) c }
 {}
 
 /// The marks of the examples are right.
@@ -44,22 +41,22 @@ pub fn right_marks()
 
 /// An argument without a value is passed on as undefined.
 pub fn undefined_arguments()
-    ensures normal { normal book marks (App again (too_great ∷ [])) ≡ App again (undefined_int ∷ []) }
-    ensures residual { residual_after book marks (App again (number 3 ∷ [])) (event ann bob 3 oil 0 ∷ []) ≡ App again (undefined_int ∷ []) }
-    ensures unmatched { residual_after book marks (App again (number 3 ∷ [])) (event ann bob 3 oil 0 ∷ event ann bob 3 oil 0 ∷ []) ≡ Failure }
+    ensures normal { normal book marks (again_with too_great) ≡ again_with undefined_int }
+    ensures residual { left_of (again_with (number 3)) (three_oil ∷ []) ≡ again_with undefined_int }
+    ensures unmatched { left_of (again_with (number 3)) (three_oil ∷ three_oil ∷ []) ≡ Failure }
 {}
 
 /// Replacing stops at a transmit that binds the same name.
 pub fn rebinding()
-    ensures stays { residual_after book marks rebound (event ann bob 1 oil 0 ∷ []) ≡ inner }
-    ensures refused { residual_after book marks rebound (event ann bob 1 oil 0 ∷ event ann bob 1 oil 0 ∷ []) ≡ Failure }
-    ensures taken { residual_after book marks rebound (event ann bob 1 oil 0 ∷ event bob ann 1 oil 0 ∷ []) ≡ Success }
+    ensures stays { left_of rebound (some_oil ∷ []) ≡ inner }
+    ensures refused { left_of rebound (some_oil ∷ some_oil ∷ []) ≡ Failure }
+    ensures taken { left_of rebound (some_oil ∷ event bob ann 1 oil 0 ∷ []) ≡ Success }
 {}
 
 /// Sizes count the nodes of contracts and expressions; widths also those of bodies that may be next.
 pub fn sizes_and_widths()
     ensures size { size (amounts 142) ≡ 1000 }
     ensures width { width book marks (amounts 142) ≡ 1000 }
-    ensures applied { size (App again (number 3 ∷ [])) ≡ 2 }
-    ensures unfolded { width book marks (App again (number 3 ∷ [])) ≡ 13 }
+    ensures applied { size (again_with (number 3)) ≡ 2 }
+    ensures unfolded { width book marks (again_with (number 3)) ≡ 13 }
 {}

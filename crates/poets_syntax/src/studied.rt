@@ -1,12 +1,11 @@
 //! Books that were studied.
-ghost use Rattle.std.specs.Prelude.{◌≡◌, false, map, option_map, IfOk, IfSome};
+ghost use Rattle.std.specs.Prelude.{◌≡◌, map, option_map, IfOk, IfSome};
 ghost use Rattle.std.specs.List.{IsDistinct};
-ghost use Rattle.std.specs.Option.{option_map_or};
 ghost use Rattle.poets_expr.specs.Env.{same_name};
-ghost use Rattle.poets_syntax.specs.Book.{template_of, book_of, template_in};
+ghost use Rattle.poets_syntax.specs.Book.{template_of, book_of};
 ghost use Rattle.poets_syntax.specs.Contract.{contract_of};
+ghost use Rattle.poets_syntax.specs.InStudied.{found_with, template_named, wide_in};
 ghost use Rattle.poets_syntax.specs.Studied.{IsStudiedBook, marks_of};
-ghost use Rattle.poets_syntax.specs.Width.{width, cut};
 
 use crate::term::{Book, Template};
 use indexmap::IndexSet;
@@ -95,12 +94,10 @@ impl Studied {
 
     /// The template of that name, and its mark.
     pub fn template(&self, name: Name) -> Option<(&Template, &Mark)>
-        ensures template { option_map (λ p. template_of p.0.now) result
-            ≡ template_in (book_of self.now.book).templates name }
-        ensures nullable { option_map_or (λ p. p.1.now.nullable) result false ≡ (marks_of self.now).nullable name }
-        ensures hopeful { option_map_or (λ p. p.1.now.hopeful) result false ≡ (marks_of self.now).hopeful name }
-        ensures wide { IfSome result (λ p. p.1.now.wide
-            ≡ cut (width (book_of self.now.book) (marks_of self.now) (contract_of p.0.now.body))) }
+        ensures template { option_map (λ p. template_of p.0.now) result ≡ template_named self.now name }
+        ensures nullable { found_with (λ m. m.nullable) result ≡ (marks_of self.now).nullable name }
+        ensures hopeful { found_with (λ m. m.hopeful) result ≡ (marks_of self.now).hopeful name }
+        ensures wide { IfSome result (λ p. p.1.now.wide ≡ wide_in self.now (contract_of p.0.now.body)) }
     {
         let place = self.names.get_index_of(&name)?;
         let templates = self.book.templates.as_slice();

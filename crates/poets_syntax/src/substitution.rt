@@ -1,10 +1,9 @@
 //! Contracts with names replaced by literals.
-ghost use Rattle.std.specs.Prelude.{◌≡◌, IfOk, map, reverse};
-ghost use Rattle.poets_expr.specs.Expression.{expression_of};
-ghost use Rattle.poets_expr.specs.Subst as spec;
+ghost use Rattle.std.specs.Prelude.{◌≡◌, IfOk, reverse};
 ghost use Rattle.poets_syntax.specs.Contract.{contract_of};
 ghost use Rattle.poets_syntax.specs.Replace.{without};
 ghost use Rattle.poets_syntax.specs.Replace as replace;
+ghost use Rattle.poets_syntax.specs.Results.{AreReplaced, GivesContract};
 
 use crate::build::{par, plus, seq, transmit};
 use crate::term::{Binders, Term};
@@ -45,7 +44,7 @@ pub fn subst_args(
     args: &List<Expr>,
     pairs: &[(Name, Given)],
 ) -> Result<List<Expr>, Memory>
-    ensures { IfOk result (λ r. map expression_of r.items ≡ map (spec.subst (reverse pairs.now)) (map expression_of args.now.items)) }
+    ensures { IfOk result (λ r. AreReplaced pairs.now args.now.items r.items) }
 {
     let mut replaced = List::new(alloc);
     for arg in args.as_slice() {
@@ -57,7 +56,7 @@ pub fn subst_args(
 /// The contract with its names replaced by literals, of two pairs of one name by the later.
 /// Below a transmit that binds a name, that name stays.
 pub fn subst(alloc: Global, term: &Term, pairs: &[(Name, Given)]) -> Result<Term, Memory>
-    ensures { IfOk result (λ r. contract_of r ≡ replace.replace (reverse pairs.now) (contract_of term.now)) }
+    ensures { GivesContract result (replace.replace (reverse pairs.now) (contract_of term.now)) }
 {
     match term {
         Term::Success => Ok(Term::Success),
@@ -83,7 +82,7 @@ pub fn subst(alloc: Global, term: &Term, pairs: &[(Name, Given)]) -> Result<Term
 
 /// The same tree.
 pub fn copy(alloc: Global, term: &Term) -> Result<Term, Memory>
-    ensures { IfOk result (λ r. contract_of r ≡ contract_of term.now) }
+    ensures { GivesContract result (contract_of term.now) }
 {
     subst(alloc, term, &[])
 }
