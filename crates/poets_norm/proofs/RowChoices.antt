@@ -1,5 +1,5 @@
 -- Choices at the rows of a table.
-use Rattle.std.proofs.Common.{◌≡◌, ℕ, ◌<◌, Bool, true, false, nat_eq, arith, List, [], ◌∷◌, length, refl, sym, ◌∙◌, ap, ap₂, subst, eq-eqb, if◌then◌else◌, ◌||◌}
+use Rattle.std.proofs.Common.{◌≡◌, ℕ, ◌<◌, Bool, true, false, nat_eq, arith, List, length, refl, sym, ◌∙◌, ap, ap₂, subst, eq-eqb, if◌then◌else◌, ◌||◌}
 use Rattle.std.specs.Cmp.{both_ways}
 use Rattle.std.proofs.lemmas.List.{length-map}
 use borrow.Author.Tests.{eqb-true}

@@ -1,4 +1,6 @@
 pub mod Choices
 pub mod Laws
 pub mod Questions
+pub mod Asking
+pub mod Rows
 pub mod code

@@ -1,15 +1,10 @@
 //! Applications of templates, with their arguments folded.
-ghost use Rattle.std.specs.Prelude.{◌≡◌, ◌+◌, ◌≤◌, IfOk, map, option_map, sum_by};
-ghost use Rattle.std.specs.Option.{option_map_or};
-ghost use Rattle.poets_expr.specs.Env.{declared_of};
+ghost use Rattle.std.specs.Prelude.{◌+◌, ◌≤◌, IfOk, map};
 ghost use Rattle.poets_expr.specs.Expression.{expression_of};
-ghost use Rattle.poets_expr.specs.Fold as fold;
-ghost use Rattle.poets_syntax.specs.Book.{book_of};
-ghost use Rattle.poets_syntax.specs.Contract.{contract_of};
-ghost use Rattle.poets_syntax.specs.Normal as normal;
-ghost use Rattle.poets_syntax.specs.Studied.{marks_of};
-ghost use Rattle.poets_norm.specs.code.Applications.{applied};
-ghost use Rattle.poets_norm.specs.Questions.{operated, questions};
+ghost use Rattle.poets_syntax.specs.InStudied.{app_in};
+ghost use Rattle.poets_syntax.specs.Results.{GivesContract};
+ghost use Rattle.poets_norm.specs.Asking.{to_ask, AsksWithin};
+ghost use Rattle.poets_norm.specs.code.Applications.{to_ask_of, IsFolded, AreFolded, Keeps, KeepsWithin};
 
 use poets_expr::{Asks, Decls, Expr, copy, fold_closed};
 use poets_syntax::{Param, Studied, Term};
@@ -24,10 +19,10 @@ fn folded_arg<L>(
     arg: &Expr,
     asks: &mut Asks<L>,
 ) -> Result<Expr, Memory>
-    ensures value { IfOk result (λ r. expression_of r ≡ option_map_or (λ p. fold.fold_closed (declared_of decls.now.names) (expression_of arg.now) p.now.ty) param.entry (expression_of arg.now)) }
+    ensures value { IfOk result (IsFolded decls.now param.entry arg.now) }
     ensures rises { asks.old ≤ asks.new }
-    ensures asks { asks.new ≤ asks.old + operated (expression_of arg.now) }
-    ensures questions { IfOk result (λ r. asks.new + operated (expression_of r) ≤ asks.old + operated (expression_of arg.now)) }
+    ensures asks { asks.new ≤ asks.old + to_ask_of arg.now }
+    ensures questions { IfOk result (λ r. asks.new + to_ask_of r ≤ asks.old + to_ask_of arg.now) }
 {
     let _count = asks.count();
     match param {
@@ -44,10 +39,10 @@ fn folded<L>(
     args: &[Expr],
     asks: &mut Asks<L>,
 ) -> Result<List<Expr>, Memory>
-    ensures value { IfOk result (λ r. map expression_of r.items ≡ normal.folded (declared_of decls.now.names) params.now (map expression_of args.now)) }
+    ensures value { IfOk result (λ r. AreFolded decls.now params.now args.now r.items) }
     ensures rises { asks.old ≤ asks.new }
-    ensures asks { asks.new ≤ asks.old + sum_by operated (map expression_of args.now) }
-    ensures questions { IfOk result (λ r. asks.new + sum_by operated (map expression_of r.items) ≤ asks.old + sum_by operated (map expression_of args.now)) }
+    ensures asks { asks.new ≤ asks.old + to_ask args.now }
+    ensures questions { IfOk result (λ r. asks.new + to_ask r.items ≤ asks.old + to_ask args.now) }
 {
     let mut folded = List::new(alloc);
     for (place, arg) in args.iter().enumerate() {
@@ -66,10 +61,10 @@ pub(crate) fn kept_args<L>(
     args: &[Expr],
     asks: &mut Asks<L>,
 ) -> Result<Option<List<Expr>>, Memory>
-    ensures app { IfOk result (λ kept. applied name (option_map (λ r. map expression_of r.items) kept) ≡ normal.app (book_of studied.now.book) (marks_of studied.now) name (map expression_of args.now)) }
+    ensures app { Keeps name result (app_in studied.now name (map expression_of args.now)) }
     ensures rises { asks.old ≤ asks.new }
-    ensures asks { asks.new ≤ asks.old + sum_by operated (map expression_of args.now) }
-    ensures questions { IfOk result (λ kept. asks.new + questions (applied name (option_map (λ r. map expression_of r.items) kept)) ≤ asks.old + sum_by operated (map expression_of args.now)) }
+    ensures asks { asks.new ≤ asks.old + to_ask args.now }
+    ensures questions { KeepsWithin name result asks.new (asks.old + to_ask args.now) }
 {
     match studied.template(name) {
         Some((template, mark)) if mark.hopeful => {
@@ -90,10 +85,10 @@ pub fn app<L>(
     args: &[Expr],
     asks: &mut Asks<L>,
 ) -> Result<Term, Memory>
-    ensures app { IfOk result (λ r. contract_of r ≡ normal.app (book_of studied.now.book) (marks_of studied.now) name (map expression_of args.now)) }
+    ensures app { GivesContract result (app_in studied.now name (map expression_of args.now)) }
     ensures rises { asks.old ≤ asks.new }
-    ensures asks { asks.new ≤ asks.old + sum_by operated (map expression_of args.now) }
-    ensures questions { IfOk result (λ r. asks.new + questions (contract_of r) ≤ asks.old + sum_by operated (map expression_of args.now)) }
+    ensures asks { asks.new ≤ asks.old + to_ask args.now }
+    ensures questions { AsksWithin result asks.new (asks.old + to_ask args.now) }
 {
     match kept_args(alloc, studied, name, args, asks)? {
         Some(args) => Ok(Term::App { name, args }),

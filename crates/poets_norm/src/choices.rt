@@ -1,10 +1,11 @@
 //! Choices of distinct alternatives.
-ghost use Rattle.std.specs.Prelude.{◌≡◌, IfOk, if◌then◌else◌};
-ghost use Rattle.poets_syntax.specs.Contract.{contract_of, Plus};
-ghost use Rattle.poets_syntax.specs.Normal.{alternatives};
+ghost use Rattle.std.specs.Prelude.{◌≡◌, IfOk};
+ghost use Rattle.poets_syntax.specs.Contract.{contract_of};
 ghost use Rattle.poets_syntax.specs.Normal as normal;
-ghost use Rattle.poets_norm.specs.Choices.{holds_equal, IsDistinctChoice};
+ghost use Rattle.poets_syntax.specs.Results.{GivesContract};
+ghost use Rattle.poets_norm.specs.Choices.{IsDistinctChoice};
 ghost use Rattle.poets_norm.specs.Choices as choices;
+ghost use Rattle.poets_norm.specs.code.Alternatives.{added, is_alternative};
 
 use poets_syntax::{Term, build, same};
 use poets_value::Memory;
@@ -12,7 +13,7 @@ use std::alloc::Global;
 
 // Whether an equal contract is an alternative of the choice.
 fn has(choice: &Term, term: &Term) -> bool
-    ensures { result ≡ holds_equal (alternatives (contract_of choice.now)) (contract_of term.now) }
+    ensures { result ≡ is_alternative (contract_of choice.now) (contract_of term.now) }
 {
     match choice {
         Term::Failure => false,
@@ -23,7 +24,7 @@ fn has(choice: &Term, term: &Term) -> bool
 
 // The choice with one more alternative at its end, unless that is known.
 fn add(alloc: Global, choice: Term, last: Term, is_known: bool) -> Result<Term, Memory>
-    ensures { IfOk result (λ r. contract_of r ≡ (if is_known then contract_of choice else Plus (contract_of choice) (contract_of last))) }
+    ensures { GivesContract result (added is_known (contract_of choice) (contract_of last)) }
 {
     if is_known {
         return Ok(choice);
@@ -36,7 +37,7 @@ fn add(alloc: Global, choice: Term, last: Term, is_known: bool) -> Result<Term, 
 pub fn merge(alloc: Global, a: Term, b: Term) -> Result<Term, Memory>
     requires first { IsDistinctChoice (contract_of a) }
     requires second { IsDistinctChoice (contract_of b) }
-    ensures { IfOk result (λ r. contract_of r ≡ normal.plus (contract_of a) (contract_of b)) }
+    ensures { GivesContract result (normal.plus (contract_of a) (contract_of b)) }
 {
     match (a, b) {
         (Term::Failure, b) => Ok(b),
@@ -55,7 +56,7 @@ pub fn merge(alloc: Global, a: Term, b: Term) -> Result<Term, Memory>
 
 /// The choice of the distinct alternatives of a contract.
 pub fn distinct_choice(alloc: Global, term: Term) -> Result<Term, Memory>
-    ensures choice { IfOk result (λ r. contract_of r ≡ choices.distinct_choice (contract_of term)) }
+    ensures choice { GivesContract result (choices.distinct_choice (contract_of term)) }
     ensures distinct { IfOk result (λ r. IsDistinctChoice (contract_of r)) }
 {
     match term {
@@ -70,7 +71,7 @@ pub fn distinct_choice(alloc: Global, term: Term) -> Result<Term, Memory>
 
 /// The choice of two contracts: the alternatives of both from the left, of equal ones the first.
 pub fn plus(alloc: Global, a: Term, b: Term) -> Result<Term, Memory>
-    ensures { IfOk result (λ r. contract_of r ≡ normal.plus (contract_of a) (contract_of b)) }
+    ensures { GivesContract result (normal.plus (contract_of a) (contract_of b)) }
 {
     let both = build::plus(alloc, a, b)?;
     distinct_choice(alloc, both)

@@ -1,11 +1,12 @@
 //! The builders of normal forms in tables of rows. Alternatives are compared by the numbers of their rows.
-ghost use Rattle.std.specs.Prelude.{◌≡◌, ◌<◌, IfOk, IsTrue, length, if◌then◌else◌};
-ghost use Rattle.poets_syntax.specs.Contract.{Failure, Plus};
-ghost use Rattle.poets_syntax.specs.Normal.{alternatives};
+ghost use Rattle.std.specs.Prelude.{◌≡◌, ◌<◌, IsTrue, length};
+ghost use Rattle.poets_syntax.specs.Contract.{Failure};
 ghost use Rattle.poets_syntax.specs.Normal as normal;
-ghost use Rattle.poets_norm.specs.Choices.{holds_equal, IsDistinctChoice};
-ghost use Rattle.poets_norm.specs.Choices as choices;
-ghost use Rattle.poets_cons.specs.Table.{contract_at, Stands, Extends};
+ghost use Rattle.poets_norm.specs.Choices.{IsDistinctChoice};
+ghost use Rattle.poets_norm.specs.Choices as spec;
+ghost use Rattle.poets_norm.specs.Rows.{joined_at, Enters};
+ghost use Rattle.poets_norm.specs.code.Alternatives.{added, is_alternative};
+ghost use Rattle.poets_cons.specs.Table.{contract_at, Extends};
 
 use poets_cons::{Arena, Node};
 use poets_value::Memory;
@@ -13,7 +14,7 @@ use poets_value::Memory;
 /// The row of `Failure`.
 pub fn failure(arena: &mut Arena) -> Result<usize, Memory>
     ensures grows { Extends arena.old arena.new }
-    ensures stands { IfOk result (λ p. Stands arena.new p Failure) }
+    ensures stands { Enters arena.new result Failure }
 {
     arena.add(Node::Failure)
 }
@@ -23,7 +24,7 @@ pub fn par(arena: &mut Arena, a: usize, b: usize) -> Result<usize, Memory>
     requires first { a < length arena.old }
     requires second { b < length arena.old }
     ensures grows { Extends arena.old arena.new }
-    ensures stands { IfOk result (λ p. Stands arena.new p (normal.par (contract_at arena.old a) (contract_at arena.old b))) }
+    ensures stands { Enters arena.new result (joined_at normal.par arena.old a b) }
 {
     match (arena.node(a), arena.node(b)) {
         (Node::Failure, _) => Ok(a),
@@ -39,7 +40,7 @@ pub fn seq(arena: &mut Arena, a: usize, b: usize) -> Result<usize, Memory>
     requires first { a < length arena.old }
     requires second { b < length arena.old }
     ensures grows { Extends arena.old arena.new }
-    ensures stands { IfOk result (λ p. Stands arena.new p (normal.seq (contract_at arena.old a) (contract_at arena.old b))) }
+    ensures stands { Enters arena.new result (joined_at normal.seq arena.old a b) }
 {
     match (arena.node(a), arena.node(b)) {
         (Node::Failure, _) => Ok(a),
@@ -55,7 +56,7 @@ pub fn seq(arena: &mut Arena, a: usize, b: usize) -> Result<usize, Memory>
 fn has(arena: &Arena, choice: usize, place: usize) -> bool
     requires choice { choice < length arena.now }
     requires place { place < length arena.now }
-    ensures { result ≡ holds_equal (alternatives (contract_at arena.now choice)) (contract_at arena.now place) }
+    ensures { result ≡ is_alternative (contract_at arena.now choice) (contract_at arena.now place) }
 {
     let node = arena.node(choice);
     if choice < place {
@@ -73,7 +74,7 @@ fn add(arena: &mut Arena, choice: usize, last: usize, is_known: bool) -> Result<
     requires choice { choice < length arena.old }
     requires last { last < length arena.old }
     ensures grows { Extends arena.old arena.new }
-    ensures stands { IfOk result (λ p. Stands arena.new p (if is_known then contract_at arena.old choice else Plus (contract_at arena.old choice) (contract_at arena.old last))) }
+    ensures stands { Enters arena.new result (joined_at (added is_known) arena.old choice last) }
 {
     if is_known {
         return Ok(choice);
@@ -89,7 +90,7 @@ pub fn merge(arena: &mut Arena, a: usize, b: usize) -> Result<usize, Memory>
     requires first { IsDistinctChoice (contract_at arena.old a) }
     requires second { IsDistinctChoice (contract_at arena.old b) }
     ensures grows { Extends arena.old arena.new }
-    ensures stands { IfOk result (λ p. Stands arena.new p (normal.plus (contract_at arena.old a) (contract_at arena.old b))) }
+    ensures stands { Enters arena.new result (joined_at normal.plus arena.old a b) }
 {
     match (arena.node(a), arena.node(b)) {
         (Node::Failure, _) => Ok(b),
@@ -112,7 +113,7 @@ pub fn merge(arena: &mut Arena, a: usize, b: usize) -> Result<usize, Memory>
 pub fn distinct_choice(arena: &mut Arena, place: usize) -> Result<usize, Memory>
     requires { place < length arena.old }
     ensures grows { Extends arena.old arena.new }
-    ensures stands { IfOk result (λ p. Stands arena.new p (choices.distinct_choice (contract_at arena.old place))) }
+    ensures stands { Enters arena.new result (spec.distinct_choice (contract_at arena.old place)) }
 {
     match arena.node(place) {
         Node::Plus(a, b) => {
@@ -131,7 +132,7 @@ fn as_choice(arena: &mut Arena, place: usize, is_known: bool) -> Result<usize, M
     requires within { place < length arena.old }
     requires known { IsTrue is_known → IsDistinctChoice (contract_at arena.old place) }
     ensures grows { Extends arena.old arena.new }
-    ensures stands { IfOk result (λ p. Stands arena.new p (choices.distinct_choice (contract_at arena.old place))) }
+    ensures stands { Enters arena.new result (spec.distinct_choice (contract_at arena.old place)) }
 {
     if is_known {
         return Ok(place);
@@ -152,7 +153,7 @@ pub fn either(
     requires first { IsTrue is_a_known → IsDistinctChoice (contract_at arena.old a) }
     requires second { IsTrue is_b_known → IsDistinctChoice (contract_at arena.old b) }
     ensures grows { Extends arena.old arena.new }
-    ensures stands { IfOk result (λ p. Stands arena.new p (normal.plus (contract_at arena.old a) (contract_at arena.old b))) }
+    ensures stands { Enters arena.new result (joined_at normal.plus arena.old a b) }
 {
     let first = as_choice(arena, a, is_a_known)?;
     let second = as_choice(arena, b, is_b_known)?;

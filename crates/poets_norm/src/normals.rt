@@ -1,12 +1,13 @@
 //! Normal forms and their builders.
-ghost use Rattle.std.specs.Prelude.{◌≡◌, ◌+◌, ◌≤◌, IfOk};
+ghost use Rattle.std.specs.Prelude.{◌+◌, ◌≤◌};
 ghost use Rattle.poets_expr.specs.Expression.{expression_of};
 ghost use Rattle.poets_syntax.specs.Arguments.{arguments};
-ghost use Rattle.poets_syntax.specs.Book.{book_of};
 ghost use Rattle.poets_syntax.specs.Contract.{contract_of};
+ghost use Rattle.poets_syntax.specs.InStudied.{normal_in};
 ghost use Rattle.poets_syntax.specs.Normal as spec;
-ghost use Rattle.poets_syntax.specs.Studied.{marks_of};
+ghost use Rattle.poets_syntax.specs.Results.{GivesContract};
 ghost use Rattle.poets_syntax.specs.Width.{size};
+ghost use Rattle.poets_norm.specs.Asking.{AsksWithin};
 ghost use Rattle.poets_norm.specs.Questions.{questions};
 
 use crate::applications::app;
@@ -18,7 +19,7 @@ use std::alloc::Global;
 
 /// Both contracts side by side: `Failure` where one is, and the other where one is `Success`.
 pub fn par(alloc: Global, a: Term, b: Term) -> Result<Term, Memory>
-    ensures { IfOk result (λ r. contract_of r ≡ spec.par (contract_of a) (contract_of b)) }
+    ensures { GivesContract result (spec.par (contract_of a) (contract_of b)) }
 {
     match (a, b) {
         (Term::Failure, _) | (_, Term::Failure) => Ok(Term::Failure),
@@ -30,7 +31,7 @@ pub fn par(alloc: Global, a: Term, b: Term) -> Result<Term, Memory>
 
 /// One contract and then the other: `Failure` where one is, and the other where one is `Success`.
 pub fn seq(alloc: Global, a: Term, b: Term) -> Result<Term, Memory>
-    ensures { IfOk result (λ r. contract_of r ≡ spec.seq (contract_of a) (contract_of b)) }
+    ensures { GivesContract result (spec.seq (contract_of a) (contract_of b)) }
 {
     match (a, b) {
         (Term::Failure, _) | (_, Term::Failure) => Ok(Term::Failure),
@@ -42,7 +43,7 @@ pub fn seq(alloc: Global, a: Term, b: Term) -> Result<Term, Memory>
 
 /// A transmission before a contract: `Failure` where that is.
 pub fn send(alloc: Global, binders: Binders, when: Expr, then: Term) -> Result<Term, Memory>
-    ensures { IfOk result (λ r. contract_of r ≡ spec.send binders (expression_of when) (contract_of then)) }
+    ensures { GivesContract result (spec.send binders (expression_of when) (contract_of then)) }
 {
     if matches!(&then, Term::Failure) {
         return Ok(Term::Failure);
@@ -57,10 +58,10 @@ pub fn normal<L>(
     term: &Term,
     asks: &mut Asks<L>,
 ) -> Result<Term, Memory>
-    ensures normal { IfOk result (λ r. contract_of r ≡ spec.normal (book_of studied.now.book) (marks_of studied.now) (contract_of term.now)) }
+    ensures normal { GivesContract result (normal_in studied.now (contract_of term.now)) }
     ensures rises { asks.old ≤ asks.new }
     ensures asks { asks.new ≤ asks.old + questions (contract_of term.now) }
-    ensures questions { IfOk result (λ r. asks.new + questions (contract_of r) ≤ asks.old + questions (contract_of term.now)) }
+    ensures questions { AsksWithin result asks.new (asks.old + questions (contract_of term.now)) }
     ensures size { asks.new ≤ asks.old + size (contract_of term.now) }
     ensures arguments { asks.new ≤ asks.old + arguments (contract_of term.now) }
 {

@@ -1,15 +1,17 @@
 //! Normal forms of contracts as rows.
-ghost use Rattle.std.specs.Prelude.{◌≡◌, ◌+◌, ◌≤◌, ◌<◌, IfOk, OnOk, length, map, option_map};
+ghost use Rattle.std.specs.Prelude.{◌+◌, ◌≤◌, ◌<◌, IfOk, OnOk, length};
 ghost use Rattle.poets_expr.specs.Expression.{expression_of};
 ghost use Rattle.poets_syntax.specs.Arguments.{arguments};
-ghost use Rattle.poets_syntax.specs.Book.{book_of};
 ghost use Rattle.poets_syntax.specs.Contract.{contract_of};
+ghost use Rattle.poets_syntax.specs.InStudied.{normal_in};
 ghost use Rattle.poets_syntax.specs.Normal as spec;
-ghost use Rattle.poets_syntax.specs.Studied.{marks_of};
 ghost use Rattle.poets_syntax.specs.Width.{size};
-ghost use Rattle.poets_norm.specs.code.Applications as spec_of_applications;
+ghost use Rattle.poets_norm.specs.Asking.{AsksOnce};
 ghost use Rattle.poets_norm.specs.Questions.{questions};
-ghost use Rattle.poets_cons.specs.Table.{contract_at, contract_of_rows, Stands, Extends};
+ghost use Rattle.poets_norm.specs.Rows.{Enters, GivesRows};
+ghost use Rattle.poets_norm.specs.code.Applications.{applied_to};
+ghost use Rattle.poets_norm.specs.code.Entering.{with_both, AskBothOnce, StandsNormal};
+ghost use Rattle.poets_cons.specs.Table.{contract_at, Extends};
 
 use crate::applications::kept_args;
 use crate::joining::{failure, merge, par, seq};
@@ -27,7 +29,7 @@ pub fn normal_rows<L>(
     term: &Term,
     asks: &mut Asks<L>,
 ) -> Result<Rows, Memory>
-    ensures normal { IfOk result (λ r. contract_of_rows r ≡ spec.normal (book_of studied.now.book) (marks_of studied.now) (contract_of term.now)) }
+    ensures normal { GivesRows result (normal_in studied.now (contract_of term.now)) }
     ensures rises { asks.old ≤ asks.new }
     ensures asks { asks.new ≤ asks.old + questions (contract_of term.now) }
     ensures size { asks.new ≤ asks.old + size (contract_of term.now) }
@@ -50,10 +52,10 @@ pub fn enter_normal<L>(
     asks: &mut Asks<L>,
 ) -> Result<usize, Memory>
     ensures grows { Extends arena.old arena.new }
-    ensures normal { IfOk result (λ p. Stands arena.new p (spec.normal (book_of studied.now.book) (marks_of studied.now) (contract_of term))) }
+    ensures normal { Enters arena.new result (normal_in studied.now (contract_of term)) }
     ensures rises { asks.old ≤ asks.new }
     ensures asks { asks.new ≤ asks.old + questions (contract_of term) }
-    ensures questions { OnOk result (asks.new + questions (spec.normal (book_of studied.now.book) (marks_of studied.now) (contract_of term)) ≤ asks.old + questions (contract_of term)) }
+    ensures questions { OnOk result (AsksOnce studied.now (contract_of term) asks.old asks.new) }
     ensures size { asks.new ≤ asks.old + size (contract_of term) }
     ensures arguments { asks.new ≤ asks.old + arguments (contract_of term) }
 {
@@ -95,7 +97,7 @@ fn applied(
     args: Option<List<Expr>>,
 ) -> Result<usize, Memory>
     ensures grows { Extends arena.old arena.new }
-    ensures stands { IfOk result (λ p. Stands arena.new p (spec_of_applications.applied name (option_map (λ r. map expression_of r.items) args))) }
+    ensures stands { Enters arena.new result (applied_to name args) }
 {
     let Some(args) = args else {
         return failure(arena);
@@ -114,7 +116,7 @@ fn send(
 ) -> Result<usize, Memory>
     requires { then < length arena.old }
     ensures grows { Extends arena.old arena.new }
-    ensures stands { IfOk result (λ p. Stands arena.new p (spec.send binders (expression_of when) (contract_at arena.old then))) }
+    ensures stands { Enters arena.new result (spec.send binders (expression_of when) (contract_at arena.old then)) }
 {
     if matches!(arena.node(then), Node::Failure) {
         return Ok(then);
@@ -138,13 +140,13 @@ fn enter_both<L>(
     asks: &mut Asks<L>,
 ) -> Result<(usize, usize), Memory>
     ensures grows { Extends arena.old arena.new }
-    ensures first { IfOk result (λ p. Stands arena.new p.0 (spec.normal (book_of studied.now.book) (marks_of studied.now) (contract_of a.value))) }
-    ensures second { IfOk result (λ p. Stands arena.new p.1 (spec.normal (book_of studied.now.book) (marks_of studied.now) (contract_of b.value))) }
+    ensures first { IfOk result (λ p. StandsNormal studied.now arena.new p.0 a.value) }
+    ensures second { IfOk result (λ p. StandsNormal studied.now arena.new p.1 b.value) }
     ensures rises { asks.old ≤ asks.new }
-    ensures asks { asks.new ≤ asks.old + questions (contract_of a.value) + questions (contract_of b.value) }
-    ensures questions { OnOk result (asks.new + questions (spec.normal (book_of studied.now.book) (marks_of studied.now) (contract_of a.value)) + questions (spec.normal (book_of studied.now.book) (marks_of studied.now) (contract_of b.value)) ≤ asks.old + questions (contract_of a.value) + questions (contract_of b.value)) }
-    ensures size { asks.new ≤ asks.old + size (contract_of a.value) + size (contract_of b.value) }
-    ensures arguments { asks.new ≤ asks.old + arguments (contract_of a.value) + arguments (contract_of b.value) }
+    ensures asks { asks.new ≤ with_both questions a.value b.value asks.old }
+    ensures questions { OnOk result (AskBothOnce studied.now a.value b.value asks.old asks.new) }
+    ensures size { asks.new ≤ with_both size a.value b.value asks.old }
+    ensures arguments { asks.new ≤ with_both arguments a.value b.value asks.old }
 {
     let first = enter_normal(alloc, studied, arena, Box::into_inner(a), asks)?;
     let second = enter_normal(alloc, studied, arena, Box::into_inner(b), asks)?;

@@ -1,11 +1,8 @@
 //! The width of contracts, which bounds the residuals that are kept.
 ghost use Rattle.std.specs.Prelude.{◌≡◌, ◌+◌, ◌&&◌, false};
-ghost use Rattle.poets_syntax.specs.Applied.{CountsFit};
-ghost use Rattle.poets_syntax.specs.Book.{book_of, template_in};
 ghost use Rattle.poets_syntax.specs.Contract.{contract_of};
-ghost use Rattle.poets_syntax.specs.Marks.{nullable};
-ghost use Rattle.poets_syntax.specs.Studied.{marks_of};
-ghost use Rattle.poets_syntax.specs.Width.{body_in, cut, wide_by, width};
+ghost use Rattle.poets_syntax.specs.InStudied.{nullable_in, width_by_bodies, wide_in, CountsFitIn};
+ghost use Rattle.poets_syntax.specs.Width.{cut};
 ghost use Rattle.poets_syntax.specs.Width as spec;
 
 use poets_syntax::{Studied, Term, WIDEST, size};
@@ -51,8 +48,8 @@ fn both(a: Measured, b: Measured) -> Measured
 
 // Measures a contract. The body of a template counts as its mark says.
 fn measure(studied: &Studied, term: &Term) -> Measured
-    ensures wide { result.wide ≡ cut (wide_by (λ f. body_in (template_in (book_of studied.now.book).templates f) (width (book_of studied.now.book) (marks_of studied.now))) (marks_of studied.now) (contract_of term.now)) }
-    ensures nullable { result.nullable ≡ nullable (marks_of studied.now) (contract_of term.now) }
+    ensures wide { result.wide ≡ cut (width_by_bodies studied.now (contract_of term.now)) }
+    ensures nullable { result.nullable ≡ nullable_in studied.now (contract_of term.now) }
 {
     match term {
         Term::Success => Measured {
@@ -88,8 +85,8 @@ fn measure(studied: &Studied, term: &Term) -> Measured
 
 /// The width of the contract, cut at one more than the greatest.
 pub fn wide(studied: &Studied, term: &Term) -> u64
-    requires { CountsFit (book_of studied.now.book) (contract_of term.now) }
-    ensures { result ≡ cut (width (book_of studied.now.book) (marks_of studied.now) (contract_of term.now)) }
+    requires { CountsFitIn studied.now (contract_of term.now) }
+    ensures { result ≡ wide_in studied.now (contract_of term.now) }
 {
     let _book = studied.book();
     measure(studied, term).wide

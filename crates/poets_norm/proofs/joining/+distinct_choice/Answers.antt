@@ -1,9 +1,8 @@
-use Rattle.std.proofs.Common.{◌≡◌, ◌∙◌, ◌<◌, ap, sym, length, arith}
+use Rattle.std.proofs.Common.{◌≡◌, ◌∙◌, ◌<◌, ap, length, arith}
 use Rattle.poets_syntax.specs.Contract.{Plus}
 use Rattle.poets_syntax.specs.Normal.{plus}
-use Rattle.poets_norm.specs.Choices.{distinct_choice}
 use Rattle.poets_cons.specs.Row.{row_of, contract_by}
-use Rattle.poets_cons.specs.Table.{contract_at, Stands, Extends}
+use Rattle.poets_cons.specs.Table.{contract_at, Stands}
 use Rattle.poets_cons.proofs.Reaching.{one_ok}
 use Rattle.poets_norm.proofs.RowChoices.{first_distinct, second_distinct, either_stands}
 use Rattle.poets_norm.proofs.joining.+distinct_choice.Goals as goal

@@ -4,7 +4,7 @@ use Rattle.poets_syntax.specs.Contract.{Plus}
 use Rattle.poets_syntax.specs.Normal.{plus}
 use Rattle.poets_norm.specs.Choices.{IsDistinctChoice}
 use Rattle.poets_cons.specs.Row.{row_of, contract_by}
-use Rattle.poets_cons.specs.Table.{contract_at, Stands, Extends}
+use Rattle.poets_cons.specs.Table.{contract_at, Stands}
 use Rattle.poets_cons.proofs.Reaching.{one_ok}
 use Rattle.poets_cons.proofs.Standing.{extends_twice}
 use Rattle.poets_norm.proofs.RowChoices.{some_at, one_at, front_distinct, merge_front, merge_one}

@@ -1,7 +1,7 @@
-use Rattle.std.proofs.Common.{◌≡◌, sym, subst, length}
+use Rattle.std.proofs.Common.{sym, subst}
 use Rattle.poets_syntax.specs.Normal.{plus}
-use Rattle.poets_norm.specs.Choices.{distinct_choice, IsDistinctChoice}
-use Rattle.poets_cons.specs.Table.{contract_at, Stands, Extends}
+use Rattle.poets_norm.specs.Choices.{IsDistinctChoice}
+use Rattle.poets_cons.specs.Table.{contract_at, Stands}
 use Rattle.poets_cons.proofs.Reaching.{one_ok}
 use Rattle.poets_cons.proofs.Standing.{contract_at-later}
 use Rattle.poets_norm.proofs.RowChoices.{first_distinct, second_distinct, either_stands}
