@@ -7,3 +7,4 @@ pub mod TypingRules
 pub mod TypedCommands
 pub mod Reports
 pub mod Crossing
+pub mod AnswerTypes

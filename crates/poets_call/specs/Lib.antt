@@ -14,3 +14,4 @@ pub mod Typing
 pub mod Rules
 pub mod Histories
 pub mod Taken
+pub mod AnswerTypes

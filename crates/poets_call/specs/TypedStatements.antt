@@ -6,7 +6,7 @@ use Rattle.poets_value.specs.declared.value.Ty.{Ty}
 use Rattle.poets_value.specs.declared.value.Ty.TheVariants as T
 use Rattle.poets_expr.specs.Expression.{Expression}
 use Rattle.poets_expr.specs.Env.{Declared}
-use Rattle.poets_syntax.specs.Plain.{Book, TypeCause, Unknown}
+use Rattle.poets_syntax.specs.Plain.{Book, Unknown}
 use Rattle.poets_syntax.specs.TypeOf.{Verdict, Passes, Fails, ◌>>=◌, Scope, must_be, name_type, type_of}
 use Rattle.poets_syntax.specs.Typed.{is_among, in_use, check_new, names_bound, types_bound, scope_of, check_type, check_arguments, check_contract}
 use Rattle.poets_call.specs.Replies.{report_in}

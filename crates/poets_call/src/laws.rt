@@ -1,4 +1,5 @@
 //! Laws of replies, each carried by a function that does nothing.
+ghost use Rattle.poets_call.specs.AnswerTypes.{AnswersHaveTypes};
 ghost use Rattle.poets_call.specs.Gathered.{LedgerIsGathered};
 ghost use Rattle.poets_call.specs.Laws.{OneReply, OneHistory, OneFrame, AnyFrame, AnyFrameAnswers, TemplatesByRules, ReportsByRules, CommandsByRules, TypedRegistration, TypedEvent, TypedReport};
 
@@ -53,4 +54,9 @@ pub fn typed_event()
 /// A typed tally, portfolio or watch is of a report that takes so many arguments.
 pub fn typed_report()
     ensures { TypedReport }
+{}
+
+/// All keys of a typed report have one type, and its values have the report's type (`docs/LANGUAGE.md`, "Names and types").
+pub fn answers_have_types()
+    ensures { AnswersHaveTypes }
 {}
