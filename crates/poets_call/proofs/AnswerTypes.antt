@@ -25,12 +25,13 @@ use Rattle.poets_syntax.specs.Typing.{Has, Fit, AreNew, OneMore}
 use Rattle.poets_syntax.proofs.Replacing.{truth as either}
 use Rattle.poets_syntax.proofs.TypingRules.{type_passes}
 use Rattle.poets_syntax.proofs.Soundness.{IsOfType-val, HasDeclaredNames-val}
+use Rattle.poets_syntax.specs.WellFormed.{IsDeclaredEvent}
 use Rattle.poets_report.specs.Answers.{IsAnswer_by, IsFoldOfKey}
 use Rattle.poets_report.specs.Keys.{same_key}
 use Rattle.poets_report.specs.Plain.{Answer, Single, Rows, KeyRow, Report}
 use Rattle.poets_report.specs.Reports.{given, start, stage, folded, key_on, with_key}
 use Rattle.poets_call.specs.AnswerTypes.{AnswersHaveTypes, IsAnswerOfTypes}
-use Rattle.poets_call.specs.Typing.{IsTypedEvent, IsTypedReport, HasKey, NoKey, AKey}
+use Rattle.poets_call.specs.Typing.{IsTypedReport, HasKey, NoKey, AKey}
 
 -- ---- the order of names in a scope of different names does not matter
 
@@ -118,7 +119,7 @@ typed_given declared (p ∷ params) (a ∷ args) f =
     all_zipped_more (λ s q. (s.0 ≡ q.0) × HasDeclaredNames declared q.1 × IsOfType q.1 s.1) (turned params)
     (parameter_env params (map (val declared []) args)) (p.name, p.ty) (p.name, val declared [] a) (typed_given declared params args f.1) (refl, known, typed)
 
-typed_taken : (declared : Declared) (b : Binders) (e : Event) (scope : Scope) (env : Env) → IsTypedEvent declared e → IsTypedEnv declared scope env →
+typed_taken : (declared : Declared) (b : Binders) (e : Event) (scope : Scope) (env : Env) → IsDeclaredEvent declared e → IsTypedEnv declared scope env →
     IsTypedEnv declared (types_bound b ++ scope) (taken b e env)
 typed_taken declared b e scope env h k = ((refl, tt, refl), ((refl, h.kind, refl), ((refl, h.receiver, refl), ((refl, h.sender, refl), k))))
 
@@ -147,7 +148,7 @@ start_typed book reports q args typed fit =
     (typed_given book.declared q.params args fit) q.start q.ty typed.start
 
 stage_typed : (book : Book) (reports : List Name) (q : Report) (args : List Expression) (carried : Option Value) (e : Event) →
-    IsTypedReport book reports q → Fit book.declared [] q.params args → IsCarried book.declared q carried → IsTypedEvent book.declared e →
+    IsTypedReport book reports q → Fit book.declared [] q.params args → IsCarried book.declared q carried → IsDeclaredEvent book.declared e →
     IsCarried book.declared q (stage book.declared q (map (val book.declared []) args) carried e)
 unfolding IsCarried
 stage_typed book reports q args carried e typed fit h event =
@@ -161,16 +162,16 @@ stage_typed book reports q args carried e typed fit h event =
     q.step q.ty typed.step
 
 fold_typed : (book : Book) (reports : List Name) (q : Report) (args : List Expression) (carried : Option Value) (events : List Event) →
-    IsTypedReport book reports q → Fit book.declared [] q.params args → IsCarried book.declared q carried → All (IsTypedEvent book.declared) events →
+    IsTypedReport book reports q → Fit book.declared [] q.params args → IsCarried book.declared q carried → All (IsDeclaredEvent book.declared) events →
     IsCarried book.declared q (fold (stage book.declared q (map (val book.declared []) args)) carried events)
 fold_typed book reports q args carried [] typed fit h all = h
 fold_typed book reports q args carried (e ∷ events) typed fit h all =
-    let here = All-head (IsTypedEvent book.declared) e events all in
+    let here = All-head (IsDeclaredEvent book.declared) e events all in
     fold_typed book reports q args (stage book.declared q (map (val book.declared []) args) carried e) events typed fit
-    (stage_typed book reports q args carried e typed fit h here) (All-tail (IsTypedEvent book.declared) e events all)
+    (stage_typed book reports q args carried e typed fit h here) (All-tail (IsDeclaredEvent book.declared) e events all)
 
 folded_typed : (book : Book) (reports : List Name) (q : Report) (args : List Expression) (events : List Event) →
-    IsTypedReport book reports q → Fit book.declared [] q.params args → All (IsTypedEvent book.declared) events →
+    IsTypedReport book reports q → Fit book.declared [] q.params args → All (IsDeclaredEvent book.declared) events →
     IsOfType (folded book.declared q (map (val book.declared []) args) events) q.ty
 unfolding IsCarried
 folded_typed book reports q args events typed fit all =
@@ -178,7 +179,7 @@ folded_typed book reports q args events typed fit all =
 
 key_typed : (book : Book) (reports : List Name) (q : Report) (args : List Expression) (key : Expression) (t : Ty) (e : Event) →
     IsTypedReport book reports q → Fit book.declared [] q.params args → Has book.declared (types_bound q.binders ++ scope_of q.params) key t →
-    IsTypedEvent book.declared e → IsOfType (key_on book.declared q (map (val book.declared []) args) key e) t
+    IsDeclaredEvent book.declared e → IsOfType (key_on book.declared q (map (val book.declared []) args) key e) t
 key_typed book reports q args key t e typed fit h event =
     (value_typed book.declared (types_bound q.binders ++ turned q.params) (types_bound q.binders ++ scope_of q.params)
     (taken q.binders e (given q (map (val book.declared []) args)))
@@ -188,21 +189,21 @@ key_typed book reports q args key t e typed fit h event =
 
 keys_typed : (book : Book) (reports : List Name) (q : Report) (args : List Expression) (key : Expression) (t : Ty) (events : List Event) →
     IsTypedReport book reports q → Fit book.declared [] q.params args → Has book.declared (types_bound q.binders ++ scope_of q.params) key t →
-    All (IsTypedEvent book.declared) events → All (λ k. IsOfType k t) (map (key_on book.declared q (map (val book.declared []) args) key) events)
+    All (IsDeclaredEvent book.declared) events → All (λ k. IsOfType k t) (map (key_on book.declared q (map (val book.declared []) args) key) events)
 keys_typed book reports q args key t [] typed fit h all = All-nil (λ k. IsOfType k t)
 keys_typed book reports q args key t (e ∷ events) typed fit h all =
     All-cons (λ k. IsOfType k t) (key_on book.declared q (map (val book.declared []) args) key e) (map (key_on book.declared q (map (val book.declared []) args) key) events)
-    (key_typed book reports q args key t e typed fit h (All-head (IsTypedEvent book.declared) e events all))
-    (keys_typed book reports q args key t events typed fit h (All-tail (IsTypedEvent book.declared) e events all))
+    (key_typed book reports q args key t e typed fit h (All-head (IsDeclaredEvent book.declared) e events all))
+    (keys_typed book reports q args key t events typed fit h (All-tail (IsDeclaredEvent book.declared) e events all))
 
 row_typed : (book : Book) (reports : List Name) (q : Report) (args : List Expression) (key : Expression) (t : Ty) (events : List Event) →
     IsTypedReport book reports q → Fit book.declared [] q.params args → Has book.declared (types_bound q.binders ++ scope_of q.params) key t →
-    All (IsTypedEvent book.declared) events → (r : KeyRow) →
+    All (IsDeclaredEvent book.declared) events → (r : KeyRow) →
     IsFoldOfKey book.declared q (map (val book.declared []) args) (key_on book.declared q (map (val book.declared []) args) key) events r.0 r.1 →
     IsOfType r.0 t × IsOfType r.1 q.ty
 row_typed book reports q args key t events typed fit h all r row =
     let of_key = key_on book.declared q (map (val book.declared []) args) key in
-    let of_rows = All-filter (λ e. same_key r.0 (of_key e)) (IsTypedEvent book.declared) events all in (
+    let of_rows = All-filter (λ e. same_key r.0 (of_key e)) (IsDeclaredEvent book.declared) events all in (
       All-contains (λ k. IsOfType k t) (map of_key events) r.0 (keys_typed book reports q args key t events typed fit h all) row.0,
       rw row.1 (folded_typed book reports q args (with_key of_key r.0 events) typed fit of_rows),
     )
@@ -210,17 +211,17 @@ row_typed book reports q args key t events typed fit h all r row =
 -- by the report's key
 by_key : (book : Book) (reports : List Name) (q : Report) → IsTypedReport book reports q →
     (o : Option Expression) → HasKey book.declared (types_bound q.binders ++ scope_of q.params) o →
-    (t : Ty) × ((args : List Expression) (events : List Event) (a : Answer) → Fit book.declared [] q.params args → All (IsTypedEvent book.declared) events →
+    (t : Ty) × ((args : List Expression) (events : List Event) (a : Answer) → Fit book.declared [] q.params args → All (IsDeclaredEvent book.declared) events →
     IsAnswer_by o book.declared q (map (val book.declared []) args) events a → IsAnswerOfTypes t q.ty a)
 by_key book reports q typed None NoKey = (q.ty, λ args events a fit all h. single args events a fit all h)
   where
-    single : (args : List Expression) (events : List Event) (a : Answer) → Fit book.declared [] q.params args → All (IsTypedEvent book.declared) events →
+    single : (args : List Expression) (events : List Event) (a : Answer) → Fit book.declared [] q.params args → All (IsDeclaredEvent book.declared) events →
         IsAnswer_by None book.declared q (map (val book.declared []) args) events a → IsAnswerOfTypes q.ty q.ty a
     single args events (Single v) fit all h = rw h (folded_typed book reports q args events typed fit all)
     single args events (Rows rows) fit all h = absurd h
 by_key book reports q typed (Some key) (AKey {t = t} k) = (t, λ args events a fit all h. keyed args events a fit all h)
   where
-    keyed : (args : List Expression) (events : List Event) (a : Answer) → Fit book.declared [] q.params args → All (IsTypedEvent book.declared) events →
+    keyed : (args : List Expression) (events : List Event) (a : Answer) → Fit book.declared [] q.params args → All (IsDeclaredEvent book.declared) events →
         IsAnswer_by (Some key) book.declared q (map (val book.declared []) args) events a → IsAnswerOfTypes t q.ty a
     keyed args events (Single v) fit all h = absurd h
     keyed args events (Rows rows) fit all h =

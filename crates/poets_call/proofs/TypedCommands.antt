@@ -14,7 +14,7 @@ use Rattle.poets_call.specs.Typing.{IsTypedCall}
 use Rattle.poets_call.specs.Typing as R
 
 pub typed_event : TypedEvent
-typed_event book reports x e (R.Delivers h) = record { sender = h.sender; receiver = h.receiver; kind = h.kind }
+typed_event book reports x e (R.Delivers h) = h
 
 pub typed_registration : TypedRegistration
 typed_registration book reports x c (R.Registers h) =
@@ -22,7 +22,7 @@ typed_registration book reports x c (R.Registers h) =
     (IsWellFormed-typed book (report_names reports) [] c passes, CountsFit-fit book c (ApplicationsFit-typed book (report_names reports) [] c passes))
 
 report_called : (book : Book) (reports : List Report) (x : Name) (args : List Expression) → IsTypedCall book reports x args → IsReportOf reports x args
-report_called book reports x args h = (h.query, h.found, sym (fit_long book.declared [] h.query.params args h.fit))
+report_called book reports x args h = (h.report, h.found, sym (fit_long book.declared [] h.report.params args h.fit))
 
 pub typed_report : TypedReport
 typed_report = record {

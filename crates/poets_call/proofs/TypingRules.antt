@@ -11,6 +11,7 @@ use Rattle.poets_syntax.specs.TypeOf.{Passes, ◌>>=◌, Scope, must_be, name_ty
 use Rattle.poets_syntax.specs.Typed.{in_use, check_new, names_bound, types_bound, check_type, check_contract, scope_of}
 use Rattle.poets_syntax.specs.code.Passing.{TemplatePasses}
 use Rattle.poets_syntax.proofs.Typedness.{passed}
+use Rattle.poets_syntax.specs.WellFormed.{IsDeclaredEvent}
 use Rattle.poets_syntax.proofs.TypingRules.{must_be_itself, must_one, has_type, type_passes, are_new, new_passes, has_wanted, wanted_passes, fits, arguments_pass, contract_typed, contract_passes, template_typed, template_passes}
 use Rattle.poets_report.specs.Plain.{Report}
 use Rattle.poets_call.specs.Plain.{Command}
@@ -88,7 +89,7 @@ declared_as declared wanted x u h = by (declared x) refl h
 declared_passes : (declared : Declared) (wanted : Ty) (x : Name) → declared x ≡ Some wanted → check_declared declared wanted x ≡ Passes tt
 declared_passes declared wanted x e = rw (e, must_be_itself wanted) refl
 
-event_typed : (declared : Declared) (e : Event) → check_event declared e ≡ Passes tt → R.IsTypedEvent declared e
+event_typed : (declared : Declared) (e : Event) → check_event declared e ≡ Passes tt → IsDeclaredEvent declared e
 event_typed declared e h =
     let kind = check_declared declared T.Kind e.what.kind in
     let receiver = check_declared declared T.Agent e.receiver in
@@ -100,7 +101,7 @@ event_typed declared e h =
       kind = declared_as declared T.Kind e.what.kind tt q.2;
     }
 
-event_passes : (declared : Declared) (e : Event) → R.IsTypedEvent declared e → check_event declared e ≡ Passes tt
+event_passes : (declared : Declared) (e : Event) → IsDeclaredEvent declared e → check_event declared e ≡ Passes tt
 event_passes declared e r =
     rw (declared_passes declared T.Agent e.sender r.sender, declared_passes declared T.Agent e.receiver r.receiver) (declared_passes declared T.Kind e.what.kind r.kind)
 
@@ -110,11 +111,11 @@ asks book reports x args h = by (report_in reports x) refl h
   where
     by : (o : Option Report) → report_in reports x ≡ o → check_report_arguments book.declared x o args ≡ Passes tt → R.IsTypedCall book reports x args
     by None e k = absurd cc
-    by (Some q) e k = record { query = q; found = e; fit = fits book.declared [] x q.params args k }
+    by (Some q) e k = record { report = q; found = e; fit = fits book.declared [] x q.params args k }
 
 asks_pass : (book : Book) (reports : List Report) (x : Name) (args : List Expression) →
     R.IsTypedCall book reports x args → check_report_arguments book.declared x (report_in reports x) args ≡ Passes tt
-asks_pass book reports x args a = rw (a.found) (arguments_pass book.declared [] x a.query.params args a.fit)
+asks_pass book reports x args a = rw (a.found) (arguments_pass book.declared [] x a.report.params args a.fit)
 
 pub command_typed : (book : Book) (reports : List Report) (command : Command) → check_command book reports command ≡ Passes tt → R.IsTypedCommand book reports command
 command_typed book reports (plain.Register x c) h = R.Registers (contract_typed book (report_names reports) [] c h)

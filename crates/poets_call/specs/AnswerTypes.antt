@@ -8,9 +8,10 @@ use Rattle.poets_expr.specs.Val.{val}
 use Rattle.poets_syntax.specs.OfType.{IsOfType}
 use Rattle.poets_syntax.specs.Plain.{Book}
 use Rattle.poets_syntax.specs.Typing.{Fit}
+use Rattle.poets_syntax.specs.WellFormed.{IsDeclaredEvent}
 use Rattle.poets_report.specs.Answers.{IsAnswer}
 use Rattle.poets_report.specs.Plain.{Answer, Single, Rows, Report}
-use Rattle.poets_call.specs.Typing.{IsTypedEvent, IsTypedReport}
+use Rattle.poets_call.specs.Typing.{IsTypedReport}
 
 -- each key is undefined or of the one type, and each value undefined or of the other
 abbrev pub IsAnswerOfTypes : (key value : Ty) → Answer → Type 0
@@ -21,5 +22,5 @@ IsAnswerOfTypes key value (Rows rows) = All (λ r. IsOfType r.0 key × IsOfType 
 abbrev pub AnswersHaveTypes : Type 0
 AnswersHaveTypes = (book : Book) (reports : List Name) (q : Report) → IsTypedReport book reports q →
     (key : Ty) × ((args : List Expression) (events : List Event) (a : Answer) →
-    Fit book.declared [] q.params args → All (IsTypedEvent book.declared) events →
+    Fit book.declared [] q.params args → All (IsDeclaredEvent book.declared) events →
     IsAnswer book.declared q (map (val book.declared []) args) events a → IsAnswerOfTypes key q.ty a)

@@ -156,8 +156,8 @@ pub data Legal (f : Frame) : List Entry → Type 0 where
   More : {h : List Entry} (e : Entry) → Legal f h → Replies f (ledger_of h) e.command e.reply → Legal f (h ++ e ∷ [])
 
 -- after those calls this is the reply to the command: it is the one after the legal history of these calls
-pub record Answers (f : Frame) (calls : List Call) (command : Command) (response : Reply) : Type 0 where
+pub record Answers (f : Frame) (calls : List Call) (command : Command) (r : Reply) : Type 0 where
   pub history : List Entry
   pub legal : Legal f history
   pub same : calls_of history ≡ calls
-  pub reply : Replies f (ledger_of history) command response
+  pub reply : Replies f (ledger_of history) command r

@@ -11,6 +11,7 @@ use Rattle.poets_syntax.specs.Plain.{Book}
 use Rattle.poets_syntax.specs.TypeOf.{Scope}
 use Rattle.poets_syntax.specs.Typed.{in_use, names_bound, types_bound, scope_of}
 use Rattle.poets_syntax.specs.Typing.{Has, Fit, AreNew, IsTyped}
+use Rattle.poets_syntax.specs.WellFormed.{IsDeclaredEvent}
 use Rattle.poets_report.specs.Plain.{Report}
 use Rattle.poets_call.specs.Plain.{Command, Register, Transmit as Transmission, End, Show, Tally, Portfolio, Watch, Read}
 use Rattle.poets_call.specs.Replies.{report_in}
@@ -30,22 +31,16 @@ pub record IsTypedReport (book : Book) (reports : List Name) (q : Report) : Type
   pub step : Has book.declared (types_bound q.binders ++ (q.carry, q.ty) ∷ scope_of q.params) q.step q.ty
   pub key : HasKey book.declared (types_bound q.binders ++ scope_of q.params) q.key
 
--- an event between declared agents, of a declared kind
-pub record IsTypedEvent (declared : Declared) (e : Event) : Type 0 where
-  pub sender : declared e.sender ≡ Some T.Agent
-  pub receiver : declared e.receiver ≡ Some T.Agent
-  pub kind : declared e.what.kind ≡ Some T.Kind
-
 -- a report with the name takes these arguments
 pub record IsTypedCall (book : Book) (reports : List Report) (x : Name) (args : List Expression) : Type 0 where
-  pub query : Report
-  pub found : report_in reports x ≡ Some query
-  pub fit : Fit book.declared [] query.params args
+  pub report : Report
+  pub found : report_in reports x ≡ Some report
+  pub fit : Fit book.declared [] report.params args
 
 -- a command; contracts' names are a space of their own, in which nothing is declared
 pub data IsTypedCommand (book : Book) (reports : List Report) : Command → Type 0 where
   Registers : {x : Name} {c : Contract} → IsTyped book (report_names reports) [] c → IsTypedCommand book reports (Register x c)
-  Delivers : {x : Name} {e : Event} → IsTypedEvent book.declared e → IsTypedCommand book reports (Transmission x e)
+  Delivers : {x : Name} {e : Event} → IsDeclaredEvent book.declared e → IsTypedCommand book reports (Transmission x e)
   Ends : {x : Name} → IsTypedCommand book reports (End x)
   Looks : {x : Name} → IsTypedCommand book reports (Show x)
   Tallies : {x : Name} {args : List Expression} → IsTypedCall book reports x args → IsTypedCommand book reports (Tally x args)

@@ -266,7 +266,7 @@ report_sound ts =
     is_step)))))
 
 commanded_sound : (ts : List Tok) (r : Option Command) → IfSome r (IsCommand ts) → IfSome (commanded r) (IsStatement ts)
-commanded_sound ts r h = steps _ _ r _ h (λ request is. IsStatement.Command is)
+commanded_sound ts r h = steps _ _ r _ h (λ made is. IsStatement.Command is)
 
 alone_sound : (w : Word) (s : Statement) → IsStatement (K.Word w ∷ []) s → (ts : List Tok) → IfSome (whole s ts) (IsStatement (K.Word w ∷ ts))
 alone_sound w s is [] = is
@@ -286,7 +286,7 @@ unfolding numbered
 numbered_sound ts =
     steps _ _ (natural ts) _ (natural_is ts) (λ n at_n.
     steps _ _ (behind_sign S.Colon n.1) _ (sign_is S.Colon n.1) (λ a at_a.
-    steps _ _ (command a) _ (command_sound a) (λ request is.
+    steps _ _ (command a) _ (command_sound a) (λ made is.
     rw (at_n, at_a) (IsStatement.Numbered is))))
 
 pub statement_sound : (ts : List Tok) → IfSome (statement ts) (IsStatement ts)
@@ -297,7 +297,7 @@ statement_sound _ = tt
 
 -- ---- what is a statement is read
 
-command_complete : {ts : List Tok} {request : Command} → IsCommand ts request → command ts ≡ Some request
+command_complete : {ts : List Tok} {made : Command} → IsCommand ts made → command ts ≡ Some made
 unfolding command register transmission tally portfolio watch read_watch
 command_complete (IsCommand.Register c) = rw (whole_contract_complete _ _ c) refl
 command_complete IsCommand.Transmit = refl
@@ -308,7 +308,7 @@ command_complete (IsCommand.Portfolio a l) = rw (arguments_complete a, whole_nam
 command_complete (IsCommand.Watch a) = rw (whole_arguments_complete a) refl
 command_complete IsCommand.Read = refl
 
-by_command : {ts : List Tok} {request : Command} → IsCommand ts request → statement ts ≡ commanded (command ts)
+by_command : {ts : List Tok} {made : Command} → IsCommand ts made → statement ts ≡ commanded (command ts)
 unfolding statement command
 by_command (IsCommand.Register c) = refl
 by_command IsCommand.Transmit = refl

@@ -182,7 +182,7 @@ report ts = do
   }))
 
 abbrev pub commanded : Option plain.Command → Option Statement
-commanded r = r >>= λ request. Some (Command request)
+commanded r = r >>= λ made. Some (Command made)
 
 abbrev pub statement_word : Word → List Tok → Option Statement
 statement_word W.Agents ts = whole_names ts >>= λ names. Some (Agents names)
@@ -198,8 +198,8 @@ unfoldable pub numbered : List Tok → Option Statement
 numbered ts = do
   n ← natural ts
   a ← behind_sign S.Colon n.1
-  request ← command a
-  Some (Numbered n.0 request)
+  made ← command a
+  Some (Numbered n.0 made)
 
 -- what the tokens say as a statement
 unfoldable pub statement : List Tok → Option Statement

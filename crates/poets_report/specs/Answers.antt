@@ -47,7 +47,7 @@ IsAnswer_by (Some key) declared q args events (Rows rows) = AreRows declared q a
 
 -- the answer of a report under arguments over a list of events
 abbrev pub IsAnswer : Declared → Report → List (Option Value) → List Event → plain.Answer → Type 0
-IsAnswer declared q args events finding = IsAnswer_by q.key declared q args events finding
+IsAnswer declared q args events answer = IsAnswer_by q.key declared q args events answer
 
 -- a report has one answer at most over a list of events
 abbrev pub OneAnswer : Type 0
