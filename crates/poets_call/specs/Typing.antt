@@ -3,7 +3,6 @@ use Rattle.std.specs.Prelude.{◌≡◌, ℕ, List, [], ◌∷◌, ◌++◌, map
 use Rattle.poets_value.specs.declared.value.Name.{Name}
 use Rattle.poets_value.specs.declared.event.Event.{Event}
 use Rattle.poets_value.specs.declared.value.Ty.{Ty}
-use Rattle.poets_value.specs.declared.value.Ty.TheVariants as T
 use Rattle.poets_expr.specs.Expression.{Expression}
 use Rattle.poets_expr.specs.Env.{Declared}
 use Rattle.poets_syntax.specs.Contract.{Contract}
