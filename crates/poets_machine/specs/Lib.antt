@@ -1,3 +1,4 @@
 pub mod Adding
 pub mod Histories
+pub mod Turns
 pub mod code

@@ -1,7 +1,8 @@
 //! What a machine is.
-ghost use Rattle.std.specs.Prelude.{◌≡◌, ℕ, List, [], ◌∷◌, ◌++◌, length, IfOk, MatchResult};
+ghost use Rattle.std.specs.Prelude.{◌≡◌, ℕ, List, IfOk};
 ghost use Rattle.std.specs.Thread.{IsSync};
 ghost use Rattle.std.specs.Arc.{arc_value};
+ghost use Rattle.poets_machine.specs.Turns.{HadTurn, IsPlaceOf, IsReplyTo};
 
 use poets_value::Memory;
 use std::alloc::Global;
@@ -51,15 +52,11 @@ pub trait Machine: Drop {
         requires sync { IsSync R.row }
         requires takes { takes (frame self.old) (arc_value call.now) }
         ensures frame { frame self.new ≡ frame self.old }
-        ensures turn { MatchResult result
-            (λ kept. (history self.new ≡ history self.old ++ (clerk, arc_value call.now) ∷ [])
-            × owes (frame self.old) (history self.old) clerk (arc_value call.now) kept)
-            (λ _. history self.new ≡ history self.old) };
+        ensures turn { HadTurn history frame owes clerk call.now result self.old self.new };
 
     /// How many calls stood before this one.
     fn place(kept: &Self::Kept) -> u64
-        ensures { (f : Self.Frame) (before : List (ℕ × Self.Call)) (clerk : ℕ) (call : Self.Call)
-            → owes f before clerk call kept.now → result ≡ length before };
+        ensures { IsPlaceOf owes kept.now result };
 
     /// The reply to the call, whatever the machine did since.
     fn finish<R: Threads + Sync>(
@@ -68,6 +65,5 @@ pub trait Machine: Drop {
         kept: Self::Kept,
     ) -> Result<Self::Reply, Memory>
         requires sync { IsSync R.row }
-        ensures { IfOk result (λ reply. (f : Self.Frame) (before : List (ℕ × Self.Call)) (clerk : ℕ) (call : Self.Call)
-            → owes f before clerk call kept → answers f before clerk call reply) };
+        ensures { IfOk result (λ reply. IsReplyTo owes answers kept reply) };
 }
