@@ -1,5 +1,8 @@
 -- What contracts say of a turnstile, its clerks and its notes.
-use Rattle.std.specs.Prelude.{◌≡◌, ◌⊎◌, ℕ, ◌+◌, ◌<◌, ◌≤◌, ◌^◌, List, [], ◌∷◌, ◌++◌, length, map, slice_index_or, Option, Some, Contains}
+use Rattle.std.specs.Prelude.{◌≡◌, ◌⊎◌, ℕ, ◌+◌, ◌<◌, ◌≤◌, ◌^◌, List, [], ◌∷◌, ◌++◌, length, map, slice_index_or, Option, Some, Contains, All, Result, MatchResult}
+use Rattle.std.specs.declared.alloc.Global.{Global}
+use Rattle.std.specs.declared.sync.Arc.{Arc}
+use Rattle.std.specs.Arc.{arc_value}
 use mathlib.Core.List.{IsPrefix}
 use Rattle.atomic_table.specs.declared.shared.Seat.{Seat}
 use Rattle.poets_machine.specs.Histories.{own_calls}
@@ -59,6 +62,22 @@ module _ {M C F : Type 0} where
   abbrev pub IsNoteOf : {R K : Type 0} → (M → F) → Turn M C R K F → NoteOf M C F → Type 0
   IsNoteOf frame turn note = IsAt frame turn note.seat
 
+  -- so many clerks, which saw nothing and made no call
+  abbrev pub AreFresh : {R K : Type 0} → (M → F) → Turn M C R K F → ℕ → List (ClerkOf M C F) → Type 0
+  AreFresh frame turn count clerks = (length clerks ≡ count) × All (λ c. IsFresh frame turn c) clerks
+
+  -- the turnstile was made for the machine and so many clerks
+  abbrev pub IsMadeFor : {R K : Type 0} → (M → F) → M → ℕ → Turn M C R K F → Type 0
+  IsMadeFor frame machine count turn = (turn_frame frame turn ≡ frame machine) × (clerk_count turn ≡ count)
+
+  -- the clerk saw no more of the history, and made no call
+  abbrev pub SawNoMore : (clerk clerk' : ClerkOf M C F) → Type 0
+  SawNoMore clerk clerk' = (front clerk' ≡ front clerk) × (calls clerk' ≡ calls clerk)
+
+  -- the clerk saw all that it had seen, and all that the note tells
+  abbrev pub HasHeard : NoteOf M C F → (clerk clerk' : ClerkOf M C F) → Type 0
+  HasHeard note clerk clerk' = IsPrefix (front clerk) (front clerk') × IsPrefix (note_front note) (front clerk')
+
   -- the clerks have the numbers 1, 2 and so on
   abbrev pub AreNumbered : List (ClerkOf M C F) → Type 0
   AreNumbered clerks = (k : ℕ) (d : ClerkOf M C F) → k < length clerks → number (slice_index_or clerks k d) ≡ k + 1
@@ -91,10 +110,23 @@ module _ {M C R K F T : Type 0} where
   HasCalled owes frame turn call kept clerk clerk' =
       IsCall (owes (turn_frame frame turn)) (clerk_count turn) (number clerk) call kept (front clerk) (front clerk') (calls clerk) (calls clerk')
 
+  -- the clerk's call is over: it made the call, and this was kept of it; or nothing was kept, and it saw no more and made
+  -- no call
+  abbrev pub CallEnded :
+      {E : Type 0} → (F → List (ℕ × C) → ℕ → C → T → Type 0) → (M → F) → Turn M C R K F → Arc C Global → Result T E →
+      (clerk clerk' : ClerkOf M C F) → Type 0
+  CallEnded owes frame turn call made clerk clerk' = MatchResult made
+      (λ kept. HasCalled owes frame turn (arc_value call) kept clerk clerk')
+      (λ _. SawNoMore clerk clerk')
+
 -- the history begins with all that the clerk of the number saw, and of this clerk it has just its own calls, each once, in order
 pub record IsClerkIn {C : Type 0} (history : List (ℕ × C)) (number : ℕ) (saw : List (ℕ × C)) (made : List C) : Type 0 where
   pub front : IsPrefix saw history
   pub calls : own_calls number history ≡ made
+
+-- the history begins with all that each of the clerks saw, and of each it has just its own calls, each once, in order
+abbrev pub AreClerksIn : {M C F : Type 0} → List (ℕ × C) → List (ClerkOf M C F) → Type 0
+AreClerksIn history clerks = All (λ c. IsClerkIn history (number c) (front c) (calls c)) clerks
 
 -- the seat of the view is the clerk's or took it in, and knows all that the clerk saw, and its calls
 pub record KnowsClerk {C F : Type 0} (v : View C F) (number : ℕ) (saw : List (ℕ × C)) (made : List C) : Type 0 where

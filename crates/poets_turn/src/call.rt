@@ -1,9 +1,10 @@
 //! One call: a ticket is drawn and waited for, the machine takes the call, and the turn is handed on.
-ghost use Rattle.std.specs.Prelude.{◌≡◌, ℕ, ◌+◌, ◌^◌, ◌<◌, List, [], ◌∷◌, ◌++◌, None, Some, MatchResult};
+ghost use Rattle.std.specs.Prelude.{◌≡◌, ◌+◌, ◌^◌, ◌<◌, [], ◌∷◌, None};
 ghost use Rattle.std.specs.Arc.{arc_value};
+ghost use Rattle.poets_turn.specs.code.Seats.{HasOneCallMore, HoldsMachine, IsBack, IsWaiting, MayCall, MayDraw, MayPass, TurnEnded, with_call};
 ghost use Rattle.poets_turn.specs.code.Steps.{Served, IsServing};
-ghost use Rattle.poets_turn.specs.Clerks.{IsAt, IsCall, HasCalled, front, calls, number, clerk_count, turn_frame, IsClerkOf};
-ghost use Rattle.poets_turn.specs.declared.view.Stage.TheVariants.{Idle, Waiting, Serving};
+ghost use Rattle.poets_turn.specs.Clerks.{CallEnded, IsAt, number, turn_frame, IsClerkOf};
+ghost use Rattle.poets_turn.specs.declared.view.Stage.TheVariants.{Idle, Waiting};
 
 use crate::bells::Patience;
 use crate::rule::{Draw, Enter, Look, Pass};
@@ -32,9 +33,7 @@ impl<M: Machine> Turn<M> {
         requires takes { M.takes (turn_frame M.frame self.now) (arc_value call.now) }
         ensures of { IsClerkOf M.frame self.now clerk.new }
         ensures number { number clerk.new ≡ number clerk.old }
-        ensures call { MatchResult result
-            (λ kept. HasCalled M.owes M.frame self.now (arc_value call.now) kept clerk.old clerk.new)
-            (λ _. (front clerk.new ≡ front clerk.old) × (calls clerk.new ≡ calls clerk.old)) }
+        ensures call { CallEnded M.owes M.frame self.now call.now result clerk.old clerk.new }
     {
         let number = clerk.number;
         let made = self.take_turn(rt, alloc, &mut clerk.seat, number, call);
@@ -54,14 +53,11 @@ impl<M: Machine> Turn<M> {
         call: &Arc<M::Call>,
     ) -> Result<M::Kept, Memory>
         requires of { IsAt M.frame self.now seat.old }
-        requires idle { (seat.old.me.0.stage ≡ Idle) × (seat.old.me.1 ≡ []) × (0 < number) × (seat.old.me.0.number ≡ number) × (seat.old.me.0.heard ≡ []) }
+        requires idle { MayCall number seat.old.me }
         requires takes { M.takes (turn_frame M.frame self.now) (arc_value call.now) }
         ensures of { IsAt M.frame self.now seat.new }
-        ensures same { (seat.new.id ≡ seat.old.id) × (seat.new.me.0.number ≡ number) × (seat.new.me.0.stage ≡ Idle) × (seat.new.me.1 ≡ []) × (seat.new.me.0.heard ≡ []) }
-        ensures call { MatchResult result
-            (λ kept. IsCall (M.owes (turn_frame M.frame self.now)) (clerk_count self.now) number (arc_value call.now) kept
-            seat.old.me.0.front seat.new.me.0.front seat.old.me.0.calls seat.new.me.0.calls)
-            (λ _. (seat.new.me.0.front ≡ seat.old.me.0.front) × (seat.new.me.0.calls ≡ seat.old.me.0.calls)) }
+        ensures same { (seat.new.id ≡ seat.old.id) × IsBack number seat.new.me }
+        ensures call { TurnEnded M.owes M.frame self.now number call.now result seat.old seat.new }
     {
         let (ticket, mut machine) = self.take_machine(rt, seat);
         let made = machine.turn(rt, alloc, number, call);
@@ -87,9 +83,9 @@ impl<M: Machine> Turn<M> {
     // Draws a ticket. Once all tickets are drawn it waits for ever.
     fn draw<R: Wait>(&self, rt: &R, seat: &mut Place<M>) -> u64
         requires table { seat.old.table_id ≡ self.now.table.shared.table_id }
-        requires idle { (seat.old.me.0.stage ≡ Idle) × (seat.old.me.1 ≡ []) × (0 < seat.old.me.0.number) }
+        requires idle { MayDraw seat.old.me }
         ensures same { (seat.new.table_id ≡ seat.old.table_id) × (seat.new.id ≡ seat.old.id) }
-        ensures drawn { (result + 1 < 2 ^ 64) × (seat.new.me ≡ (record seat.old.me.0 { stage = Waiting result }, [])) }
+        ensures drawn { (result + 1 < 2 ^ 64) × IsWaiting seat.old.me.0 result seat.new.me }
     {
         for _ in rt.forever() {
             let ticket = self.table.shared.peek(0);
@@ -113,7 +109,7 @@ impl<M: Machine> Turn<M> {
         requires table { seat.old.table_id ≡ self.now.table.shared.table_id }
         requires waiting { (seat.old.me.0.stage ≡ Waiting ticket) × (seat.old.me.1 ≡ []) }
         ensures same { (seat.new.table_id ≡ seat.old.table_id) × (seat.new.id ≡ seat.old.id) }
-        ensures holds { (machine : M) × IsServing M.history M.frame seat.old.me.0 ticket machine (Some machine) seat.new.me × Served M.history M.frame seat.old.me.0 ticket machine }
+        ensures holds { HoldsMachine M.history M.frame seat.old.me.0 ticket seat.new.me }
     {
         let mut patience = Patience::new();
         for _ in rt.forever() {
@@ -129,7 +125,7 @@ impl<M: Machine> Turn<M> {
     // Waits for the seat's turn, and takes the machine.
     fn take_machine<R: Wait>(&self, rt: &R, seat: &mut Place<M>) -> (u64, M)
         requires table { seat.old.table_id ≡ self.now.table.shared.table_id }
-        requires idle { (seat.old.me.0.stage ≡ Idle) × (seat.old.me.1 ≡ []) × (0 < seat.old.me.0.number) }
+        requires idle { MayDraw seat.old.me }
         ensures same { (seat.new.table_id ≡ seat.old.table_id) × (seat.new.id ≡ seat.old.id) }
         ensures holds { IsServing M.history M.frame seat.old.me.0 result.0 result.1 None seat.new.me }
         ensures served { Served M.history M.frame seat.old.me.0 result.0 result.1 }
@@ -148,10 +144,10 @@ impl<M: Machine> Turn<M> {
     fn enter(&self, seat: &mut Place<M>, ticket: u64, machine: M, call: &Arc<M::Call>)
         requires of { IsAt M.frame self.now seat.old }
         requires frame { M.frame machine ≡ turn_frame M.frame self.now }
-        requires entry { (before : List (ℕ × M.Call)) × (seat.old.me.0.stage ≡ Serving ticket before) × (M.history machine ≡ before ++ (seat.old.me.0.number, arc_value call.now) ∷ []) }
+        requires entry { HasOneCallMore M.history seat.old.me.0 ticket call.now machine }
         requires hand { (seat.old.me.1 ≡ (0, None) ∷ []) × (ticket + 1 < 2 ^ 64) }
         ensures same { (seat.new.table_id ≡ seat.old.table_id) × (seat.new.id ≡ seat.old.id) }
-        ensures after { seat.new.me ≡ (record seat.old.me.0 { stage = Idle; front = M.history machine; calls = seat.old.me.0.calls ++ arc_value call.now ∷ [] }, []) }
+        ensures after { seat.new.me ≡ (with_call seat.old.me.0 (M.history machine) call.now, []) }
     {
         self.table.shared.exchange(seat, 0, Some(machine));
         self.table.shared.store::<Enter>(seat, 1, ticket + 1);
@@ -162,7 +158,7 @@ impl<M: Machine> Turn<M> {
     fn pass(&self, seat: &mut Place<M>, ticket: u64, machine: M)
         requires of { IsAt M.frame self.now seat.old }
         requires frame { M.frame machine ≡ turn_frame M.frame self.now }
-        requires hand { (seat.old.me.0.stage ≡ Serving ticket (M.history machine)) × (seat.old.me.1 ≡ (0, None) ∷ []) × (ticket + 1 < 2 ^ 64) }
+        requires hand { MayPass M.history seat.old.me ticket machine }
         ensures same { (seat.new.table_id ≡ seat.old.table_id) × (seat.new.id ≡ seat.old.id) }
         ensures after { seat.new.me ≡ (record seat.old.me.0 { stage = Idle }, []) }
     {

@@ -1,7 +1,6 @@
 //! What clerks tell of themselves and tell each other.
 ghost use Rattle.std.specs.Prelude.{◌≡◌, ◌<◌, length};
-ghost use mathlib.Core.List.{IsPrefix};
-ghost use Rattle.poets_turn.specs.Clerks.{front, calls, number, note_front, IsClerkOf, IsNoteOf};
+ghost use Rattle.poets_turn.specs.Clerks.{HasHeard, SawNoMore, front, calls, number, note_front, IsClerkOf, IsNoteOf};
 
 use crate::rule::{ForNote, Settle, TakeNote};
 use crate::types::{Clerk, ClerkOf, Note, NoteOf, Turn};
@@ -29,7 +28,7 @@ impl<M: Machine> Turn<M> {
         requires of { IsClerkOf M.frame self.now clerk.old }
         ensures of { IsClerkOf M.frame self.now clerk.new }
         ensures note { IsNoteOf M.frame self.now result × (note_front result ≡ front clerk.old) }
-        ensures same { (number clerk.new ≡ number clerk.old) × (front clerk.new ≡ front clerk.old) × (calls clerk.new ≡ calls clerk.old) }
+        ensures same { (number clerk.new ≡ number clerk.old) × SawNoMore clerk.old clerk.new }
     {
         let seat = self.table.shared.split_seat::<ForNote>(&mut clerk.seat);
         NoteOf {
@@ -43,7 +42,7 @@ impl<M: Machine> Turn<M> {
         requires of { IsClerkOf M.frame self.now clerk.old }
         requires note { IsNoteOf M.frame self.now note }
         ensures of { IsClerkOf M.frame self.now clerk.new }
-        ensures seen { IsPrefix (front clerk.old) (front clerk.new) × IsPrefix (note_front note) (front clerk.new) }
+        ensures seen { HasHeard note clerk.old clerk.new }
         ensures same { (number clerk.new ≡ number clerk.old) × (calls clerk.new ≡ calls clerk.old) }
     {
         let NoteOf { seat, front_length } = note;

@@ -1,7 +1,7 @@
 //! The clerks go, and the machine comes back.
-ghost use Rattle.std.specs.Prelude.{◌≡◌, ℕ, ◌<◌, [], length, All};
-ghost use Rattle.std.specs.Prelude as prelude;
-ghost use Rattle.poets_turn.specs.Clerks.{AreAll, KnowsClerk, IsClerkIn, front, calls, number, clerk_count, turn_frame, IsClerkOf};
+ghost use Rattle.std.specs.Prelude.{◌≡◌, ◌<◌, length, All};
+ghost use Rattle.poets_turn.specs.Clerks.{AreAll, AreClerksIn, KnowsClerk, front, calls, number, clerk_count, turn_frame, IsClerkOf};
+ghost use Rattle.poets_turn.specs.code.Seats.{KnowsAllOf, KnowsClerks, MayTakeIn};
 ghost use Rattle.poets_turn.specs.code.Turnstile.{OnlyClerks};
 ghost use Rattle.poets_turn.specs.declared.view.Stage.TheVariants.{Idle};
 
@@ -16,7 +16,7 @@ impl<M: Machine> Turn<M> {
         requires of { All (λ c. IsClerkOf M.frame self c) clerks.items }
         requires all { AreAll (clerk_count self) clerks.items }
         ensures frame { M.frame result ≡ turn_frame M.frame self }
-        ensures clerks { All (λ c. IsClerkIn (M.history result) (number c) (front c) (calls c)) clerks.items }
+        ensures clerks { AreClerksIn (M.history result) clerks.items }
         ensures numbers { OnlyClerks (clerk_count self) (M.history result) }
     {
         let seat = self.gather(clerks);
@@ -35,7 +35,7 @@ impl<M: Machine> Turn<M> {
         requires some { 0 < length clerks.items }
         ensures table { result.table_id ≡ self.now.table.shared.table_id }
         ensures idle { (result.me.0.stage ≡ Idle) × (0 < result.me.0.number) }
-        ensures knows { All (λ c. KnowsClerk result.me.0 (number c) (front c) (calls c)) clerks.items }
+        ensures knows { KnowsClerks result.me.0 clerks.items }
     {
         let Some(first) = clerks.pop() else {
             unreachable!()
@@ -54,12 +54,12 @@ impl<M: Machine> Turn<M> {
     // Takes in a clerk.
     fn take_in(&self, seat: &mut Place<M>, clerk: Clerk<M>)
         requires table { seat.old.table_id ≡ self.now.table.shared.table_id }
-        requires idle { (seat.old.me.0.stage ≡ Idle) × (0 < seat.old.me.0.number) × (seat.old.me.0.heard ≡ []) }
+        requires idle { MayTakeIn seat.old.me.0 }
         requires clerk { IsClerkOf M.frame self.now clerk }
         ensures table { seat.new.table_id ≡ seat.old.table_id }
-        ensures idle { (seat.new.me.0.stage ≡ Idle) × (0 < seat.new.me.0.number) × (seat.new.me.0.heard ≡ []) }
+        ensures idle { MayTakeIn seat.new.me.0 }
         ensures clerk { KnowsClerk seat.new.me.0 (number clerk) (front clerk) (calls clerk) }
-        ensures others { (k : ℕ) (saw : prelude.List (ℕ × M.Call)) (made : prelude.List M.Call) → KnowsClerk seat.old.me.0 k saw made → KnowsClerk seat.new.me.0 k saw made }
+        ensures others { KnowsAllOf seat.old.me.0 seat.new.me.0 }
     {
         let ClerkOf {
             seat: other,

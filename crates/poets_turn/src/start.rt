@@ -1,8 +1,8 @@
 //! A turnstile is made, with its clerks.
-ghost use Rattle.std.specs.Prelude.{◌≡◌, ◌+◌, ◌<◌, ◌≤◌, [], length, All, IfOk, IfErr};
+ghost use Rattle.std.specs.Prelude.{◌≡◌, ◌<◌, ◌≤◌, [], IfOk, IfErr};
 ghost use Rattle.poets_value.specs.Limits.{most_clerks};
-ghost use Rattle.poets_turn.specs.code.Steps.{first_view};
-ghost use Rattle.poets_turn.specs.Clerks.{number, AreNumbered, clerk_count, turn_frame, IsFresh};
+ghost use Rattle.poets_turn.specs.code.Seats.{HasRoomForClerks, IsFirstSeat, IsNextNumber, MadeNumbers};
+ghost use Rattle.poets_turn.specs.Clerks.{AreFresh, AreNumbered, IsFresh, IsMadeFor};
 
 use crate::bells::Bells;
 use crate::rule::{ForClerk, Start, Turnstile};
@@ -19,8 +19,8 @@ impl<M: Machine> Turn<M> {
     pub fn start(alloc: Global, machine: M, clerks: u32) -> Result<(Turn<M>, List<Clerk<M>>), M>
         requires clerks { (0 < clerks) × (clerks ≤ most_clerks) }
         requires new { M.history machine ≡ [] }
-        ensures frame { IfOk result (λ r. (turn_frame M.frame r.0 ≡ M.frame machine) × (clerk_count r.0 ≡ clerks)) }
-        ensures clerks { IfOk result (λ r. (length r.1.items ≡ clerks) × All (λ c. IsFresh M.frame r.0 c) r.1.items) }
+        ensures frame { IfOk result (λ r. IsMadeFor M.frame machine clerks r.0) }
+        ensures clerks { IfOk result (λ r. AreFresh M.frame r.0 clerks r.1.items) }
         ensures numbers { IfOk result (λ r. AreNumbered r.1.items) }
         ensures err { IfErr result (λ m. m ≡ machine) }
     {
@@ -42,8 +42,8 @@ impl<M: Machine> Turn<M> {
     fn open(alloc: Global, machine: M, clerks: u32) -> Result<(Turn<M>, Place<M>), M>
         requires clerks { 0 < clerks }
         requires new { M.history machine ≡ [] }
-        ensures frame { IfOk result (λ r. (turn_frame M.frame r.0 ≡ M.frame machine) × (clerk_count r.0 ≡ clerks)) }
-        ensures seat { IfOk result (λ r. (r.1.table_id ≡ r.0.table.shared.table_id) × (r.1.me ≡ (first_view (M.frame machine) clerks, []))) }
+        ensures frame { IfOk result (λ r. IsMadeFor M.frame machine clerks r.0) }
+        ensures seat { IfOk result (λ r. IsFirstSeat (M.frame machine) clerks r.0 r.1) }
         ensures err { IfErr result (λ m. m ≡ machine) }
     {
         let Ok(mut slots) = Vec::with_capacity(alloc, 1) else {
@@ -70,9 +70,9 @@ impl<M: Machine> Turn<M> {
 
     // The first clerk and the others, in a list with room.
     fn add_clerks(&self, list: &mut List<Clerk<M>>, first: Clerk<M>, clerks: u32)
-        requires room { (list.old.items ≡ []) × (clerks ≤ list.old.room) × (clerks ≡ clerk_count self.now) }
-        requires first { (first.number ≡ 1) × (first.seat.me.0.count ≡ 1) × IsFresh M.frame self.now first }
-        ensures clerks { (length list.new.items ≡ clerks) × All (λ c. IsFresh M.frame self.now c) list.new.items }
+        requires room { HasRoomForClerks self.now list.old clerks }
+        requires first { MadeNumbers M.frame self.now 1 1 first }
+        ensures clerks { AreFresh M.frame self.now clerks list.new.items }
         ensures numbers { AreNumbered list.new.items }
     {
         let mut first = first;
@@ -90,8 +90,8 @@ impl<M: Machine> Turn<M> {
     // One more clerk. The first makes the numbers.
     fn next_clerk(&self, first: &mut Clerk<M>, number: u32) -> Clerk<M>
         requires of { IsFresh M.frame self.now first.old }
-        requires count { (0 < first.old.seat.me.0.count) × (number ≡ first.old.seat.me.0.count + 1) × (number ≤ clerk_count self.now) }
-        ensures first { (first.new.number ≡ first.old.number) × (first.new.seat.me.0.count ≡ number) × IsFresh M.frame self.now first.new }
+        requires count { IsNextNumber self.now first.old number }
+        ensures first { MadeNumbers M.frame self.now first.old.number number first.new }
         ensures next { (result.number ≡ number) × IsFresh M.frame self.now result }
     {
         let seat = self.table.shared.split_seat::<ForClerk>(&mut first.seat);
