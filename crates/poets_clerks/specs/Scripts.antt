@@ -1,5 +1,5 @@
 -- What comes of the scripts of clerks.
-use Rattle.std.specs.Prelude.{◌≡◌, ◌⊎◌, ℕ, ◌+◌, ◌<◌, ◌≤◌, Bool, true, false, List, [], ◌∷◌, ◌++◌, length, map, take}
+use Rattle.std.specs.Prelude.{◌≡◌, ◌⊎◌, ℕ, ◌+◌, ◌<◌, ◌≤◌, Bool, true, false, List, [], ◌∷◌, ◌++◌, length, map, take, All}
 use Rattle.std.specs.declared.alloc.Global.{Global}
 use Rattle.std.specs.declared.sync.Arc.{Arc}
 use Rattle.std.specs.Arc.{arc_value}
@@ -9,10 +9,19 @@ use Rattle.poets_turn.specs.declared.types.Turn.{Turn}
 use Rattle.poets_turn.specs.declared.types.ClerkOf.{ClerkOf}
 use Rattle.poets_turn.specs.Clerks.{front, calls, number, turn_frame, IsClerkOf}
 use Rattle.poets_clerks.specs.declared.answers.DoneOf.{DoneOf}
+use Rattle.poets_clerks.specs.declared.answers.WorkedOf.{WorkedOf}
 
 -- the calls of a script
 abbrev pub calls_of : {C : Type 0} → Listed (Arc C Global) → List C
 calls_of script = map arc_value script.items
+
+-- the calls of each script
+abbrev pub calls_of_all : {C : Type 0} → Listed (Listed (Arc C Global)) → List (List C)
+calls_of_all scripts = map calls_of scripts.items
+
+-- each call of each script is one that is taken
+abbrev pub AreTaken : {C : Type 0} → (C → Type 0) → Listed (Listed (Arc C Global)) → Type 0
+AreTaken takes scripts = All (λ s. All (λ c. takes (arc_value c)) s.items) scripts.items
 
 -- answers as pairs of a place and a reply
 abbrev pub pairs_of : {R : Type 0} → List (DoneOf R) → List (ℕ × R)
@@ -75,3 +84,7 @@ module _ {M C R K F : Type 0} (frame : M → F) (answers : F → List (ℕ × C)
     Each : EachWorked memory scripts vs ws dones → HaveWorked memory scripts vs ws dones
     -- there was no memory for the answers, and no call was made
     NoneMade : memory ≡ true → ws ≡ vs → dones ≡ [] → HaveWorked memory scripts vs ws dones
+
+  -- the clerks worked at the scripts, and this came of it
+  abbrev pub IsWorkOf : Listed (Listed (Arc C Global)) → Listed (ClerkOf M C F) → WorkedOf M C F R → Type 0
+  IsWorkOf scripts clerks work = HaveWorked work.memory (calls_of_all scripts) clerks.items work.clerks.items (map answers_of work.answers.items)

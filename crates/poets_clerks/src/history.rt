@@ -1,10 +1,9 @@
 //! The history that all scripts make, with the reply to each of its calls.
-ghost use Rattle.std.specs.Prelude.{◌≡◌, ◌<◌, ◌≤◌, [], length, map, None, All, IfOk};
-ghost use Rattle.std.specs.Arc.{arc_value};
-ghost use Rattle.std.specs.List.{flat_map};
+ghost use Rattle.std.specs.Prelude.{◌≡◌, ◌<◌, ◌≤◌, [], length, None, All, IfOk};
 ghost use Rattle.poets_value.specs.Limits.{most_clerks};
-ghost use Rattle.poets_clerks.specs.Histories.{AreInOrder, AreReplies, FillPlaces, HasScripts, HoldReplies};
-ghost use Rattle.poets_clerks.specs.Scripts.{answers_of, calls_of, pairs_of};
+ghost use Rattle.poets_clerks.specs.Histories.{AreInOrder, AreReplies, FillPlaces, HasScripts};
+ghost use Rattle.poets_clerks.specs.Scripts.{AreTaken, calls_of_all, pairs_of};
+ghost use Rattle.poets_clerks.specs.code.Slots.{HoldRepliesOf, answers_of_all};
 
 use crate::answers::{DoneOf, WorkedOf};
 use crate::gate::Gate;
@@ -34,9 +33,9 @@ where
     M::Kept: Send,
     requires scripts { (0 < length scripts.now.items) × (length scripts.now.items ≤ most_clerks) }
     requires new { M.history machine ≡ [] }
-    requires takes { All (λ s. All (λ c. M.takes (M.frame machine) (arc_value c)) s.items) scripts.now.items }
+    requires takes { AreTaken (M.takes (M.frame machine)) scripts.now }
     ensures frame { IfOk result (λ r. M.frame r.0 ≡ M.frame machine) }
-    ensures history { IfOk result (λ r. HasScripts (map calls_of scripts.now.items) (M.history r.0)) }
+    ensures history { IfOk result (λ r. HasScripts (calls_of_all scripts.now) (M.history r.0)) }
     ensures replies { IfOk result (λ r. AreReplies (M.answers (M.frame machine)) (M.history r.0) r.1.items) }
 {
     let Ok((turn, clerks)) = Turn::start(alloc, machine, scripts.len() as u32) else {
@@ -58,7 +57,7 @@ where
 
 // All answers, those of the first clerk first.
 fn joined<R: Drop>(alloc: Global, answers: List<List<DoneOf<R>>>) -> Result<Vec<DoneOf<R>>, Memory>
-    ensures { IfOk result (λ all. pairs_of all.items ≡ flat_map (λ done. done) (map answers_of answers.items)) }
+    ensures { IfOk result (λ all. pairs_of all.items ≡ answers_of_all answers.items) }
 {
     let mut all = Vec::new(alloc);
     for done in answers.into_vec() {
@@ -84,7 +83,7 @@ fn in_order<R: Drop>(alloc: Global, answers: Vec<DoneOf<R>>) -> Result<List<R>, 
 // Slots with the replies of answers, each at its place.
 fn filled_slots<R: Drop>(alloc: Global, answers: Vec<DoneOf<R>>) -> Result<List<Option<R>>, Memory>
     requires { FillPlaces (pairs_of answers.items) }
-    ensures { IfOk result (λ slots. HoldReplies (length answers.items) (pairs_of answers.items) slots.items) }
+    ensures { IfOk result (HoldRepliesOf answers.items) }
 {
     let mut slots = empty_slots(alloc, answers.len())?;
     for DoneOf { place, reply } in answers {

@@ -1,10 +1,9 @@
 //! The script of one clerk.
-ghost use Rattle.std.specs.Prelude.{◌≡◌, ℕ, ◌+◌, ◌<◌, ◌≤◌, [], ◌∷◌, ◌++◌, ◌⊎◌, false, length, map, take, All, MatchResult};
-ghost use Rattle.std.specs.Prelude as prelude;
+ghost use Rattle.std.specs.Prelude.{◌≡◌, false, All};
 ghost use mathlib.Core.List.{IsPrefix};
 ghost use Rattle.std.specs.Arc.{arc_value};
-ghost use Rattle.poets_turn.specs.Clerks.{front, calls, number, turn_frame, IsClerkOf};
-ghost use Rattle.poets_clerks.specs.Scripts.{IsAnswered, IsUnanswered, AreAnswers};
+ghost use Rattle.poets_turn.specs.Clerks.{front, number, turn_frame, IsClerkOf};
+ghost use Rattle.poets_clerks.specs.code.Made.{Answered, MadeAll, MadeCall, MadePart};
 
 use crate::answers::{Done, DoneOf};
 use crate::gate::Gate;
@@ -29,9 +28,7 @@ fn answer<M: Machine, G: Gate, R: Threads + Wait + Sync>(
     requires takes { M.takes (turn_frame M.frame turn.now) (arc_value call.now) }
     ensures of { IsClerkOf M.frame turn.now clerk.new }
     ensures number { number clerk.new ≡ number clerk.old }
-    ensures made { MatchResult result
-        (λ d. IsAnswered (M.answers (turn_frame M.frame turn.now)) (number clerk.old) (front clerk.old) (front clerk.new) (calls clerk.old) (calls clerk.new) (arc_value call.now) (d.place, d.reply))
-        (λ _. IsUnanswered (front clerk.old) (front clerk.new) (calls clerk.old) (calls clerk.new) (arc_value call.now)) }
+    ensures made { MadeCall M.frame M.answers turn.now call.now result clerk.old clerk.new }
 {
     let who = clerk.number();
     gate.before(who, nth);
@@ -57,9 +54,9 @@ pub(crate) fn make_script<M: Machine, G: Gate, R: Threads + Wait + Sync>(
     ensures of { IsClerkOf M.frame turn.now clerk.new }
     ensures number { number clerk.new ≡ number clerk.old }
     ensures longer { IsPrefix (front clerk.old) (front clerk.new) }
-    ensures answered { AreAnswers (M.answers (turn_frame M.frame turn.now)) (front clerk.new) (number clerk.old) (length (front clerk.old)) (map arc_value script.now) (map (λ d. (d.place, d.reply)) result.0.items) }
-    ensures whole { result.1 ≡ false → (length result.0.items ≡ length script.now) × (calls clerk.new ≡ calls clerk.old ++ map arc_value script.now) }
-    ensures part { (calls clerk.new ≡ calls clerk.old ++ map arc_value (take (length result.0.items) script.now)) ⊎ (calls clerk.new ≡ calls clerk.old ++ map arc_value (take (length result.0.items + 1) script.now)) }
+    ensures answered { Answered M.frame M.answers turn.now script.now result.0 clerk.old clerk.new }
+    ensures whole { result.1 ≡ false → MadeAll script.now result.0 clerk.old clerk.new }
+    ensures part { MadePart script.now result.0 clerk.old clerk.new }
 {
     let mut done = List::new(alloc);
     if done.reserve(script.len()).is_err() {

@@ -1,10 +1,8 @@
 //! All scripts at once.
-ghost use Rattle.std.specs.Prelude.{◌≡◌, ℕ, ◌+◌, ◌<◌, ◌≤◌, [], ◌∷◌, false, length, map, All, IfOk, IfErr, slice_index_or};
-ghost use Rattle.std.specs.Prelude as prelude;
-ghost use Rattle.std.specs.Thread.{IsSync};
-ghost use Rattle.std.specs.Arc.{arc_value};
+ghost use Rattle.std.specs.Prelude.{◌≡◌, ◌≤◌, [], false, length, map, All, IfOk, IfErr};
 ghost use Rattle.poets_turn.specs.Clerks.{number, turn_frame, IsClerkOf};
-ghost use Rattle.poets_clerks.specs.Scripts.{HasWorked, HaveWorked, answers_of, calls_of};
+ghost use Rattle.poets_clerks.specs.Scripts.{AreTaken, IsWorkOf};
+ghost use Rattle.poets_clerks.specs.code.Desks.{AreEmptyWithRoom};
 
 use crate::answers::{Done, DoneOf, Worked, WorkedOf};
 use crate::gate::Gate;
@@ -33,8 +31,8 @@ where
     M::Kept: Send,
     requires scripts { length scripts.now.items ≡ length clerks.items }
     requires of { All (λ c. IsClerkOf M.frame turn.now c) clerks.items }
-    requires takes { All (λ s. All (λ c. M.takes (turn_frame M.frame turn.now) (arc_value c)) s.items) scripts.now.items }
-    ensures worked { HaveWorked M.frame M.answers turn.now result.memory (map calls_of scripts.now.items) clerks.items result.clerks.items (map answers_of result.answers.items) }
+    requires takes { AreTaken (M.takes (turn_frame M.frame turn.now)) scripts.now }
+    ensures worked { IsWorkOf M.frame M.answers turn.now scripts.now clerks result }
     ensures of { All (λ c. IsClerkOf M.frame turn.now c) result.clerks.items }
     ensures numbers { map (λ c. number c) result.clerks.items ≡ map (λ c. number c) clerks.items }
 {
@@ -61,7 +59,7 @@ fn seated<M: Machine>(
     clerks: List<Clerk<M>>,
 ) -> Result<(Vec<Desk<M>>, List<Clerk<M>>, List<List<Done<M>>>), List<Clerk<M>>>
     ensures desks { IfOk result (λ r. map (λ d. d.clerk) r.0.items ≡ clerks.items) }
-    ensures room { IfOk result (λ r. (r.1.items ≡ []) × (length clerks.items ≤ r.1.room) × (r.2.items ≡ []) × (length clerks.items ≤ r.2.room)) }
+    ensures room { IfOk result (λ r. AreEmptyWithRoom (length clerks.items) r.1 r.2) }
     ensures back { IfErr result (λ c. c.items ≡ clerks.items) }
 {
     let mut back = List::new(alloc);

@@ -1,10 +1,10 @@
 //! All clerks at once. Threads know the turnstile by what it does to a desk, since a closure cannot hold one.
-ghost use Rattle.std.specs.Prelude.{◌≡◌, ℕ, ◌+◌, ◌<◌, ◌≤◌, [], ◌∷◌, length, map, All, slice_index_or};
-ghost use Rattle.std.specs.Prelude as prelude;
+ghost use Rattle.std.specs.Prelude.{ℕ, ◌<◌, length, All, slice_index_or};
 ghost use Rattle.std.specs.Thread.{IsSync};
 ghost use Rattle.std.specs.Arc.{arc_value};
 ghost use Rattle.poets_turn.specs.Clerks.{turn_frame, IsClerkOf};
 ghost use Rattle.poets_clerks.specs.Scripts.{HasWorked, answers_of, calls_of};
+ghost use Rattle.poets_clerks.specs.code.Desks.{AtEach, AtEachOfTwo};
 
 use crate::answers::DoneOf;
 use crate::gate::Gate;
@@ -92,8 +92,8 @@ pub(crate) fn spread<T: Team + Sync, G: Gate + Sync, R: Threads + Wait + Sync>(
 )
 where
     T::Desk: Send,
-    requires may { (k : ℕ) (d : _) → k < length desks.old → T.may team.now k (slice_index_or desks.old k d) }
-    ensures did { (k : ℕ) (d : _) → k < length desks.old → T.did team.entry.now k (slice_index_or desks.old k d) (slice_index_or desks.new k d) }
+    requires may { AtEach (T.may team.now) desks.old }
+    ensures did { AtEachOfTwo (T.did team.entry.now) desks.old desks.new }
 {
     let threads = desks.len().max(1);
     thread::for_each_mut(
