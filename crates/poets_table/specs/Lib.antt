@@ -1,3 +1,4 @@
 pub mod Pieces
 pub mod TableView
 pub mod Kept
+pub mod code

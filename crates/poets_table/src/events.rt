@@ -3,6 +3,7 @@ ghost use Rattle.std.specs.Prelude.{◌≡◌, ◌+◌, ◌*◌, ◌-◌, ◌<�
 ghost use Rattle.std.specs.Arc.{arc_value};
 ghost use Rattle.poets_table.specs.Pieces.{joined, most_pieces, piece_at, pieces_of, AreSealed};
 ghost use Rattle.poets_table.specs.Pieces as spec;
+ghost use Rattle.poets_table.specs.code.Rows.{events_in};
 
 use poets_value::{Event, List, Memory, push};
 use std::alloc::Global;
@@ -123,7 +124,7 @@ fn seal(sealed: &mut Vec<Arc<List<Event>>>, last: &mut List<Event>) -> Result<()
     ensures sealed { AreSealed (pieces_of sealed.new.items) }
     ensures ok { OnOk result (last.new.items ≡ []) }
     ensures err { OnErr result (last.new ≡ last.old) }
-    ensures same { joined (pieces_of sealed.new.items) last.new.items ≡ joined (pieces_of sealed.old.items) last.old.items }
+    ensures same { events_in sealed.new.items last.new ≡ events_in sealed.old.items last.old }
 {
     if sealed.len() == MOST_PIECES {
         return Err(Memory);

@@ -1,7 +1,7 @@
 //! Rows by name, and a log.
 ghost use Rattle.std.specs.Prelude.{◌≡◌, map, ◌+◌, ◌-◌, ◌≤◌, ◌<◌, ◌++◌, ◌∷◌, [], true, false, length, IfOk, OnOk, IsOk, OnErr, Some, None, slice_get};
-ghost use Rattle.std.specs.Arc.{arc_value};
-ghost use Rattle.poets_table.specs.TableView.{row_view, IsLive, changed_at, with_event, finished, number_named, new_row};
+ghost use Rattle.poets_table.specs.TableView.{AreEventsOf, IsLive, IsSameButRoom, changed_at, finished, number_named, recorded, row_view, with_event, with_row};
+ghost use Rattle.poets_table.specs.code.Rows.{HasChangedAt, HasRoomAt, rooms_of};
 
 use crate::events::Events;
 use indexmap::IndexSet;
@@ -80,7 +80,7 @@ impl<O, T> Table<O, T> {
     /// The events of the row with a number, as they are now. The sealed pieces are shared with the row.
     pub fn events(&self, number: u64) -> Result<Events, Memory>
         requires { IsLive number self.now.rows }
-        ensures { IfOk result (λ e. (r : _) → slice_get self.now.rows (number - 1) ≡ Some r → e.items ≡ r.events) }
+        ensures { IfOk result (λ e. AreEventsOf number self.now.rows e.items) }
     {
         self.row(number).events.share()
     }
@@ -148,7 +148,7 @@ fn room_at<O, T>(rows: &mut Vec<Row<O, T>>, place: usize) -> Result<(), Memory>
     requires { place < length rows.old.items }
     ensures same { map row_view rows.new.items ≡ map row_view rows.old.items }
     ensures names { map (λ r. r.name) rows.new.items ≡ map (λ r. r.name) rows.old.items }
-    ensures ok { OnOk result ((r : _) → slice_get rows.new.items place ≡ Some r → 0 < r.events.room) }
+    ensures ok { OnOk result (HasRoomAt place rows.new.items) }
 {
     room_in(&mut rows[place])
 }
@@ -157,9 +157,9 @@ fn room_at<O, T>(rows: &mut Vec<Row<O, T>>, place: usize) -> Result<(), Memory>
 #[tactic(auto, using(crate::proofs::Setting::set_map, crate::proofs::Setting::set_same, crate::proofs::Setting::set_get, crate::proofs::Setting::index_get))]
 fn end_at<O, T>(rows: &mut Vec<Row<O, T>>, place: usize)
     requires { place < length rows.old.items }
-    ensures same { map row_view rows.new.items ≡ changed_at finished place (map row_view rows.old.items) }
+    ensures same { HasChangedAt finished place rows.old.items rows.new.items }
     ensures names { map (λ r. r.name) rows.new.items ≡ map (λ r. r.name) rows.old.items }
-    ensures rooms { map (λ r. r.events.room) rows.new.items ≡ map (λ r. r.events.room) rows.old.items }
+    ensures rooms { rooms_of rows.new.items ≡ rooms_of rows.old.items }
 {
     end(&mut rows[place]);
 }
@@ -168,8 +168,8 @@ fn end_at<O, T>(rows: &mut Vec<Row<O, T>>, place: usize)
 #[tactic(auto, using(crate::proofs::Setting::set_map, crate::proofs::Setting::set_same, crate::proofs::Setting::set_get, crate::proofs::Setting::index_get))]
 fn append_at<O, T: Drop>(rows: &mut Vec<Row<O, T>>, place: usize, event: Event, current: T)
     requires place { place < length rows.old.items }
-    requires room { (r : _) → slice_get rows.old.items place ≡ Some r → 0 < r.events.room }
-    ensures same { map row_view rows.new.items ≡ changed_at (with_event event current) place (map row_view rows.old.items) }
+    requires room { HasRoomAt place rows.old.items }
+    ensures same { HasChangedAt (with_event event current) place rows.old.items rows.new.items }
     ensures names { map (λ r. r.name) rows.new.items ≡ map (λ r. r.name) rows.old.items }
 {
     append(&mut rows[place], event, current);
@@ -199,9 +199,9 @@ impl<O: Drop, T: Drop> Table<O, T> {
     pub fn add(&mut self, name: Name, original: Arc<O>, current: T) -> Result<u64, Memory>
         requires { number_named name self.old.rows ≡ None }
         ensures ok { IfOk result (λ n. n ≡ length self.old.rows + 1) }
-        ensures rows { OnOk result (self.new.rows ≡ self.old.rows ++ new_row name (arc_value original) current ∷ []) }
+        ensures rows { OnOk result (self.new.rows ≡ with_row name original current self.old.rows) }
         ensures log { OnOk result (self.new.log ≡ self.old.log) }
-        ensures err { OnErr result ((self.new.rows ≡ self.old.rows) × (self.new.log ≡ self.old.log)) }
+        ensures err { OnErr result (IsSameButRoom self.old self.new) }
         ensures ready { self.new.ready ≡ 0 }
     {
         self.ready = 0;
@@ -234,7 +234,7 @@ impl<O: Drop, T: Drop> Table<O, T> {
     pub fn enter(&mut self, number: u64, event: Event, current: T)
         requires live { IsLive number self.old.rows }
         requires ready { self.old.ready ≡ number }
-        ensures rows { self.new.rows ≡ changed_at (with_event event current) (number - 1) self.old.rows }
+        ensures rows { self.new.rows ≡ recorded number event current self.old.rows }
         ensures log { self.new.log ≡ self.old.log ++ (number, event) ∷ [] }
         ensures ready { self.new.ready ≡ 0 }
     {

@@ -1,4 +1,4 @@
-use Rattle.std.proofs.Common.{◌≡◌, ◌∙◌, ◌-◌, ap, subst, sym, length, slice_get, Some, None}
+use Rattle.std.proofs.Common.{◌≡◌, ◌∙◌, ◌-◌, ap, subst, length, slice_get, Some, None}
 use Rattle.poets_table.proofs.Pieces.{last_shared}
 use Rattle.poets_table.proofs.events.Events.last.Goals as goal
 

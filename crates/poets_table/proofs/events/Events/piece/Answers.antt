@@ -1,4 +1,4 @@
-use Rattle.std.proofs.Common.{◌≡◌, ◌<◌, ◌≤◌, ◌*◌, ◌+◌, ◌∙◌, ap, subst, sym, arith, length, slice_index_or, [], refl}
+use Rattle.std.proofs.Common.{◌<◌, ◌≤◌, ◌*◌, ◌+◌, ◌∙◌, ap, subst, arith, length, slice_index_or, refl}
 use Rattle.poets_table.specs.Pieces.{piece_at, piece_length, pieces_of, joined}
 use Rattle.poets_table.proofs.Pieces.{piece_at-shared, is_below, is_not_below, some_event, past_shared, piece_at-behind, past_behind, past_all}
 use Rattle.poets_table.proofs.events.Events.piece.Goals.{else-place-len-via-then-place-len+else-not-is_empty, else-place-len-via-else-place-len}
