@@ -4,3 +4,5 @@ pub mod Reports
 pub mod Answers
 pub mod Keyed
 pub mod Folds
+pub mod UnderNames
+pub mod code

@@ -1,8 +1,6 @@
 //! The values of a report's arguments.
-ghost use Rattle.std.specs.Prelude.{◌≡◌, ◌+◌, ◌≤◌, [], length, map, IfOk};
-ghost use Rattle.poets_expr.specs.Env.{declared_of};
-ghost use Rattle.poets_expr.specs.Expression.{expression_of};
-ghost use Rattle.poets_expr.specs.Val.{val};
+ghost use Rattle.std.specs.Prelude.{◌≡◌, ◌+◌, ◌≤◌, length, IfOk};
+ghost use Rattle.poets_report.specs.UnderNames.{evaluated_arguments};
 
 use poets_expr::{Asks, Decls, Env, Expr, eval};
 use poets_value::{List, Memory, Value, push};
@@ -15,8 +13,7 @@ pub fn argument_values<L>(
     args: &[Expr],
     asks: &mut Asks<L>,
 ) -> Result<List<Option<Value>>, Memory>
-    ensures values { IfOk result (λ l. l.items
-        ≡ map (val (declared_of decls.now.names) []) (map expression_of args.now)) }
+    ensures values { IfOk result (λ l. l.items ≡ evaluated_arguments decls.now args.now) }
     ensures asks { asks.new ≤ asks.old + length args.now }
     ensures rises { asks.old ≤ asks.new }
 {

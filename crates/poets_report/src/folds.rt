@@ -1,11 +1,10 @@
 //! The answer of a report over events, and folds that go on from event to event.
-ghost use Rattle.std.specs.Prelude.{◌≡◌, ◌+◌, ◌*◌, ◌≤◌, ◌∷◌, [], Some, length, IfOk, IsOk, OnOk, OnErr};
+ghost use Rattle.std.specs.Prelude.{◌≡◌, ◌+◌, ◌*◌, ◌≤◌, ◌∷◌, [], length, IfOk, IsOk, OnOk, OnErr};
 ghost use Rattle.poets_expr.specs.Asked.{one_more};
-ghost use Rattle.poets_expr.specs.Env.{Declared, declared_of};
-ghost use Rattle.poets_report.specs.Reports.{report_of, given, key_on};
-ghost use Rattle.poets_report.specs.Reports as reports;
-ghost use Rattle.poets_report.specs.Answers.{answer_of, IsAnswer};
-ghost use Rattle.poets_report.specs.Folds.{StandsFor, GoesOn, Brings, Changes, HasRoomFor, IsSingle, answer_in, events_of, fold_by};
+ghost use Rattle.poets_report.specs.Answers.{answer_of};
+ghost use Rattle.poets_report.specs.Folds.{Changes, HasRoomFor, IsSingle, events_of, fold_by};
+ghost use Rattle.poets_report.specs.UnderNames.{BringsUnder, GoesOnUnder, IsAnswerUnder, StandsForUnder};
+ghost use Rattle.poets_report.specs.code.Stages.{IsCarriedPast, IsFirstAnswer, IsKeyOn};
 
 use crate::keyed::KeyedRows;
 use crate::report::{Answer, Report};
@@ -62,8 +61,7 @@ impl Fold {
         asks: &mut Asks<L>,
     ) -> Result<Fold, Memory>
         requires { length args.now.items ≡ length report.now.params.items }
-        ensures stands { IfOk result
-            (StandsFor (declared_of decls.now.names) (report_of report.now) args.now.items []) }
+        ensures stands { IfOk result (StandsForUnder decls.now report.now args.now.items []) }
         ensures asks { asks.new ≤ asks.old + 1 }
         ensures rises { asks.old ≤ asks.new }
     {
@@ -85,8 +83,7 @@ impl Fold {
         events: &[Event],
         asks: &mut Asks<L>,
     ) -> Result<Fold, Memory>
-        ensures stands { IfOk result
-            (GoesOn (declared_of decls.now.names) (report_of report.now) events.now self) }
+        ensures stands { IfOk result (GoesOnUnder decls.now report.now events.now self) }
         ensures asks { asks.new ≤ asks.old + 2 * length events.now }
         ensures rises { asks.old ≤ asks.new }
     {
@@ -104,8 +101,7 @@ impl Fold {
         log: &[(u64, Event)],
         asks: &mut Asks<L>,
     ) -> Result<Fold, Memory>
-        ensures stands { IfOk result
-            (GoesOn (declared_of decls.now.names) (report_of report.now) (events_of log.now) self) }
+        ensures stands { IfOk result (GoesOnUnder decls.now report.now (events_of log.now) self) }
         ensures asks { asks.new ≤ asks.old + 2 * length log.now }
         ensures rises { asks.old ≤ asks.new }
     {
@@ -123,8 +119,7 @@ impl Fold {
         event: &Event,
         asks: &mut Asks<L>,
     ) -> Result<(), Memory>
-        ensures stands { OnOk result
-            (GoesOn (declared_of decls.now.names) (report_of report.now) (event.now ∷ []) self.old self.new) }
+        ensures stands { OnOk result (GoesOnUnder decls.now report.now (event.now ∷ []) self.old self.new) }
         ensures err { OnErr result (self.new ≡ self.old) }
         ensures asks { asks.new ≤ asks.old + 2 }
         ensures rises { asks.old ≤ asks.new }
@@ -141,7 +136,7 @@ impl Fold {
         event: &Event,
         asks: &mut Asks<L>,
     ) -> Change
-        ensures brings { Brings (declared_of decls.now.names) (report_of report.now) event.now self.old result }
+        ensures brings { BringsUnder decls.now report.now event.now self.old result }
         ensures same { self.new ≡ self.old }
         ensures asks { asks.new ≤ asks.old + 2 }
         ensures rises { asks.old ≤ asks.new }
@@ -209,8 +204,7 @@ impl Fold {
 
 // The answer over no event, where the start is this.
 fn running_from(alloc: Global, report: &Report, start: &Option<Value>) -> Running
-    ensures { (declared : Declared) (args : _) → start.now ≡ reports.start declared (report_of report.now) args
-        → IsAnswer declared (report_of report.now) args [] (answer_in result) }
+    ensures { IsFirstAnswer report.now start.now result }
 {
     match &report.key {
         None => Running::Carried(*start),
@@ -228,8 +222,7 @@ fn brought<L>(
     event: &Event,
     asks: &mut Asks<L>,
 ) -> Change
-    ensures brings { Brings (declared_of decls.now.names) (report_of report.now) event.now
-        (fold_by scope.old start.now running.now) result }
+    ensures brings { BringsUnder decls.now report.now event.now (fold_by scope.old start.now running.now) result }
     ensures same { scope.new ≡ scope.old }
     ensures asks { asks.new ≤ asks.old + 2 }
     ensures rises { asks.old ≤ asks.new }
@@ -262,9 +255,7 @@ fn key_of<L>(
     event: &Event,
     asks: &mut Asks<L>,
 ) -> Option<Value>
-    ensures value { (args : _) (key : _) → scope.old ≡ given (report_of report.now) args
-        → (report_of report.now).key ≡ Some key
-        → result ≡ key_on (declared_of decls.now.names) (report_of report.now) args key event.now }
+    ensures value { IsKeyOn decls.now report.now scope.old event.now result }
     ensures same { scope.new ≡ scope.old }
     ensures asks { asks.new ≤ asks.old + 1 }
     ensures rises { asks.old ≤ asks.new }
@@ -284,8 +275,7 @@ fn stage<L>(
     event: &Event,
     asks: &mut Asks<L>,
 ) -> Option<Value>
-    ensures value { (args : _) → scope.old ≡ given (report_of report.now) args
-        → result ≡ reports.stage (declared_of decls.now.names) (report_of report.now) args carried event.now }
+    ensures value { IsCarriedPast decls.now report.now scope.old carried event.now result }
     ensures same { scope.new ≡ scope.old }
     ensures asks { asks.new ≡ one_more asks.old }
     ensures rises { asks.old ≤ asks.new }
@@ -304,8 +294,7 @@ pub fn value_of<L>(
     asks: &mut Asks<L>,
 ) -> Result<Answer, Memory>
     requires { length args.now.items ≡ length report.now.params.items }
-    ensures answer { IfOk result (λ a.
-        IsAnswer (declared_of decls.now.names) (report_of report.now) args.now.items events.now (answer_of a)) }
+    ensures answer { IfOk result (IsAnswerUnder decls.now report.now args.now.items events.now) }
     ensures asks { asks.new ≤ asks.old + 1 + 2 * length events.now }
     ensures rises { asks.old ≤ asks.new }
 {

@@ -1,11 +1,8 @@
 //! Expressions of a report under its arguments and an event.
-ghost use Rattle.std.specs.Prelude.{◌≡◌, ◌+◌, ◌<◌, ◌≤◌, ◌++◌, ◌∷◌, [], IfOk, Some, reverse, vec_len, vec_capacity};
-ghost use Rattle.poets_value.specs.declared.value.Value.TheVariants as V;
+ghost use Rattle.std.specs.Prelude.{◌≡◌, ◌+◌, ◌<◌, ◌≤◌, ◌++◌, ◌∷◌, [], IfOk, reverse, vec_len, vec_capacity};
 ghost use Rattle.poets_expr.specs.Asked.{one_more};
-ghost use Rattle.poets_expr.specs.Env.{declared_of};
-ghost use Rattle.poets_expr.specs.Expression.{expression_of};
-ghost use Rattle.poets_expr.specs.Val.{val};
 ghost use Rattle.poets_syntax.specs.Book.{parameter_env, taken};
+ghost use Rattle.poets_report.specs.code.Stages.{evaluated, parts_of};
 
 use poets_expr::{Asks, Decls, Env, Expr, eval};
 use poets_syntax::{Binders, Param};
@@ -58,7 +55,7 @@ impl Scope {
 
     /// The value of an expression.
     pub(crate) fn value<L>(&self, decls: &Decls, e: &Expr, asks: &mut Asks<L>) -> Option<Value>
-        ensures value { result ≡ val (declared_of decls.now.names) self.now (expression_of e.now) }
+        ensures value { result ≡ evaluated decls.now self.now e.now }
         ensures asks { asks.new ≡ one_more asks.old }
         ensures rises { asks.old ≤ asks.new }
     {
@@ -74,8 +71,7 @@ impl Scope {
         e: &Expr,
         asks: &mut Asks<L>,
     ) -> Option<Value>
-        ensures value { result
-            ≡ val (declared_of decls.now.names) (taken binders.now event.now self.old) (expression_of e.now) }
+        ensures value { result ≡ evaluated decls.now (taken binders.now event.now self.old) e.now }
         ensures same { self.new ≡ self.old }
         ensures asks { asks.new ≡ one_more asks.old }
         ensures rises { asks.old ≤ asks.new }
@@ -97,9 +93,7 @@ impl Scope {
         e: &Expr,
         asks: &mut Asks<L>,
     ) -> Option<Value>
-        ensures value { result
-            ≡ val (declared_of decls.now.names) (taken binders.now event.now (carried ∷ self.old))
-            (expression_of e.now) }
+        ensures value { result ≡ evaluated decls.now (taken binders.now event.now (carried ∷ self.old)) e.now }
         ensures same { self.new ≡ self.old }
         ensures asks { asks.new ≡ one_more asks.old }
         ensures rises { asks.old ≤ asks.new }
@@ -120,7 +114,7 @@ fn value_under<L>(
     e: &Expr,
     asks: &mut Asks<L>,
 ) -> Option<Value>
-    ensures value { result ≡ val (declared_of decls.now.names) (reverse pairs.now) (expression_of e.now) }
+    ensures value { result ≡ evaluated decls.now (reverse pairs.now) e.now }
     ensures asks { asks.new ≡ one_more asks.old }
     ensures rises { asks.old ≤ asks.new }
 {
@@ -143,11 +137,7 @@ fn bind(pairs: &mut Vec<(Name, Option<Value>)>, pair: (Name, Option<Value>))
 // Adds the parts of an event, for which there is room.
 fn bind_event(pairs: &mut Vec<(Name, Option<Value>)>, binders: &Binders, event: &Event)
     requires { vec_len pairs.old + 4 ≤ vec_capacity pairs.old }
-    ensures items { pairs.new.items ≡ pairs.old.items
-        ++ (binders.now.sender, Some (V.Agent event.now.sender))
-        ∷ (binders.now.receiver, Some (V.Agent event.now.receiver))
-        ∷ (binders.now.what, Some (V.Resource event.now.what))
-        ∷ (binders.now.day, Some (V.Day event.now.day)) ∷ [] }
+    ensures items { pairs.new.items ≡ pairs.old.items ++ parts_of binders.now event.now }
     ensures len { vec_len pairs.new ≡ vec_len pairs.old + 4 }
     ensures capacity { vec_capacity pairs.old ≤ vec_capacity pairs.new }
 {
