@@ -1,16 +1,19 @@
 -- Reports that are kept live, as plain data. `Follows` and `Begins` speak of their answers by `IsAnswer`; all else only ties
 -- the code to them.
-use Rattle.std.specs.Prelude.{◌≡◌, ℕ, List, [], ◌∷◌, ◌++◌, Option}
+use Rattle.std.specs.Prelude.{◌≡◌, ℕ, ◌-◌, List, [], ◌∷◌, ◌++◌, Option, Some, slice_get}
 use Rattle.std.specs.List.{All, AllZip}
 use Rattle.poets_value.specs.declared.event.Event.{Event}
 use Rattle.poets_value.specs.declared.value.Value.{Value}
-use Rattle.poets_expr.specs.Env.{Declared}
+use Rattle.poets_value.specs.Listed.{Listed}
+use Rattle.poets_expr.specs.declared.env.Decls.{Decls}
+use Rattle.poets_expr.specs.Env.{Declared, declared_of}
 use Rattle.poets_report.specs.declared.report.Report.{Report}
 use Rattle.poets_report.specs.declared.folds.Change.{Change}
 use Rattle.poets_report.specs.Reports.{report_of, start}
 use Rattle.poets_report.specs.Plain.{Answer}
-use Rattle.poets_report.specs.Answers.{IsAnswer}
-use Rattle.poets_report.specs.Folds.{Changes, HasRoomFor, events_of}
+use Rattle.poets_report.specs.Answers.{IsAnswer, answer_of}
+use Rattle.poets_report.specs.Folds.{Changes, HasRoomFor, IsSingle, events_of}
+use Rattle.poets_report.specs.declared.report.Answer.{Answer as CodeAnswer}
 
 -- a watch: a report and its arguments
 pub record WatchView : Type 0 where
@@ -54,6 +57,10 @@ Brought declared e w c = (events : List Event) (new : Answer) → Follows declar
 abbrev pub AllBrought : Declared → Event → List WatchView → List Change → Type 0
 AllBrought declared e watches changes = AllZip (Brought declared e) watches changes
 
+-- each change is what the event brings to its watch under the declared names
+abbrev pub AllBroughtUnder : Decls → Event → List WatchView → List Change → Type 0
+AllBroughtUnder decls e watches changes = AllBrought (declared_of decls.names) e watches changes
+
 -- the watch was asked what an event brings: it answers as before, and has room for the change
 pub record IsSeen (declared : Declared) (e : Event) (old new : WatchState) (c : Change) : Type 0 where
   pub same : new.watch ≡ old.watch
@@ -88,6 +95,18 @@ pub record Begins
   pub of_report : last.report ≡ report
   pub of_args : last.args ≡ args
   pub follows : Follows declared (events_of log) last
+
+-- one watch more of the report under the declared names, which begins with the fold of the log; the others are as before
+abbrev pub BeginsUnder : Decls → Report → Listed (Option Value) → Listed (ℕ × Event) → (old new : WatchesView) → Type 0
+BeginsUnder decls report args log old new = Begins (declared_of decls.names) report args.items log.items old.watches new.watches
+
+-- the answer is that of the watch with the number, if there is one
+abbrev pub IsAnswerOf : ℕ → List WatchView → CodeAnswer → Type 0
+IsAnswerOf n watches a = (w : WatchView) → slice_get watches (n - 1) ≡ Some w → answer_of a ≡ w.answer
+
+-- where the watch with the number is of a report without a key, this holds
+abbrev pub WhereSingle : ℕ → List WatchView → Type 0 → Type 0
+WhereSingle n watches P = (w : WatchView) → slice_get watches (n - 1) ≡ Some w → IsSingle w.answer → P
 
 -- watches that have their answers over events, moved by what an event brings, have them over the events with it
 abbrev pub OneEventMore : Type 0

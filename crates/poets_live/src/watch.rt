@@ -1,9 +1,9 @@
 //! A report that is kept live.
 ghost use Rattle.std.specs.Prelude.{◌≡◌, ◌+◌, ◌≤◌, length, IfOk, IsOk, OnOk, OnErr};
-ghost use Rattle.poets_expr.specs.Env.{declared_of};
 ghost use Rattle.poets_report.specs.Answers.{answer_of};
-ghost use Rattle.poets_report.specs.Folds.{HasRoomFor, IsSingle, events_of};
-ghost use Rattle.poets_live.specs.Watching.{Follows, Brought, Moved};
+ghost use Rattle.poets_report.specs.Folds.{HasRoomFor, IsSingle};
+ghost use Rattle.poets_live.specs.Watching.{Moved};
+ghost use Rattle.poets_live.specs.code.Watches.{BroughtUnder, FollowsLog};
 
 use poets_expr::{Asks, Decls};
 use poets_report::{Answer, Change, Fold, Report};
@@ -52,7 +52,7 @@ impl Watch {
         requires { length args.items ≡ length report.params.items }
         ensures report { IfOk result (λ w. w.watch.report ≡ report) }
         ensures args { IfOk result (λ w. w.watch.args ≡ args.items) }
-        ensures follows { IfOk result (λ w. Follows (declared_of decls.now.names) (events_of log.now) w.watch) }
+        ensures follows { IfOk result (λ w. FollowsLog decls.now log.now w.watch) }
     {
         let mut asks = Asks::new(());
         let start = Fold::start(alloc, decls, &report, &args, &mut asks)?;
@@ -76,7 +76,7 @@ impl Watch {
         asks: &mut Asks<L>,
     ) -> Result<Change, Memory>
         ensures same { self.new.watch ≡ self.old.watch }
-        ensures brings { IfOk result (λ c. Brought (declared_of decls.now.names) event.now self.old.watch c) }
+        ensures brings { IfOk result (BroughtUnder decls.now event.now self.old.watch) }
         ensures room { IfOk result (λ c. HasRoomFor c self.new.watch.answer self.new.keys) }
         ensures asks { asks.new ≤ asks.old + 2 }
         ensures rises { asks.old ≤ asks.new }

@@ -1,9 +1,7 @@
 //! All watches.
-ghost use Rattle.std.specs.Prelude.{◌≡◌, ◌+◌, ◌*◌, ◌-◌, ◌<◌, ◌≤◌, [], map, length, Some, slice_get, IfOk, IsOk, OnOk, OnErr};
-ghost use Rattle.poets_expr.specs.Env.{declared_of};
-ghost use Rattle.poets_report.specs.Answers.{answer_of};
-ghost use Rattle.poets_report.specs.Folds.{IsSingle};
-ghost use Rattle.poets_live.specs.Watching.{AllBrought, AllMoved, Begins, HaveRoom, AllOfThree, HasRoomIn, IsSeen, Moved};
+ghost use Rattle.std.specs.Prelude.{◌≡◌, ◌+◌, ◌*◌, ◌<◌, ◌≤◌, [], map, length, IfOk, IsOk, OnOk, OnErr};
+ghost use Rattle.poets_live.specs.Watching.{AllBroughtUnder, AllMoved, BeginsUnder, HaveRoom, IsAnswerOf, WhereSingle};
+ghost use Rattle.poets_live.specs.code.Watches.{AllHaveRoom, AllSeen, AllTook};
 
 use crate::watch::Watch;
 use poets_expr::{Asks, Decls};
@@ -74,9 +72,8 @@ impl Watches {
     /// The answer of the watch with the number. Without a key it takes no memory.
     pub fn read(&self, number: u64) -> Result<Answer, Memory>
         requires { (0 < number) × (number ≤ length self.now.watches) }
-        ensures answer { IfOk result (λ a.
-            (w : _) → slice_get self.now.watches (number - 1) ≡ Some w → answer_of a ≡ w.answer) }
-        ensures single { (w : _) → slice_get self.now.watches (number - 1) ≡ Some w → IsSingle w.answer → IsOk result }
+        ensures answer { IfOk result (IsAnswerOf number self.now.watches) }
+        ensures single { WhereSingle number self.now.watches (IsOk result) }
     {
         self.watches[(number - 1) as usize].read()
     }
@@ -90,8 +87,7 @@ impl Watches {
         log: &List<(u64, Event)>,
     ) -> Result<u64, Memory>
         requires { length args.items ≡ length report.params.items }
-        ensures begins { OnOk result
-            (Begins (declared_of decls.now.names) report args.items log.now.items self.old.watches self.new.watches) }
+        ensures begins { OnOk result (BeginsUnder decls.now report args log.now self.old self.new) }
         ensures number { IfOk result (λ n. n ≡ length self.old.watches + 1) }
         ensures memory { OnErr result (self.new ≡ self.old) }
     {
@@ -112,7 +108,7 @@ impl Watches {
         asks: &mut Asks<L>,
     ) -> Result<Seen, Memory>
         ensures same { self.new.watches ≡ self.old.watches }
-        ensures brought { IfOk result (AllBrought (declared_of decls.now.names) event.now self.old.watches) }
+        ensures brought { IfOk result (AllBroughtUnder decls.now event.now self.old.watches) }
         ensures room { IfOk result (HaveRoom self.new) }
         ensures asks { asks.new ≤ asks.old + 2 * length self.old.watches }
         ensures rises { asks.old ≤ asks.new }
@@ -140,8 +136,7 @@ fn see_all<L>(
     asks: &mut Asks<L>,
 ) -> Result<List<Change>, Memory>
     ensures same { map (λ s. s.watch) watches.new.items ≡ map (λ s. s.watch) watches.old.items }
-    ensures seen { IfOk result (λ l. AllOfThree (IsSeen (declared_of decls.now.names) event.now)
-        watches.old.items watches.new.items l.items) }
+    ensures seen { IfOk result (AllSeen decls.now event.now watches.old.items watches.new.items) }
     ensures asks { asks.new ≤ asks.old + 2 * length watches.old.items }
     ensures rises { asks.old ≤ asks.new }
 {
@@ -156,9 +151,8 @@ fn see_all<L>(
 
 // Puts in place what an event brought to each watch.
 fn take_all(watches: &mut Vec<Watch>, changes: &[Change])
-    requires { AllOfThree HasRoomIn
-        (map (λ s. s.watch) watches.old.items) (map (λ s. s.keys) watches.old.items) changes.now }
-    ensures { AllOfThree (λ old new c. Moved old.watch c new.watch) watches.old.items watches.new.items changes.now }
+    requires { AllHaveRoom watches.old.items changes.now }
+    ensures { AllTook watches.old.items watches.new.items changes.now }
 {
     for (place, change) in changes.iter().enumerate() {
         watches[place].take(*change);
