@@ -1,12 +1,9 @@
 //! Portfolios.
-ghost use Rattle.std.specs.Prelude.{◌≡◌, length, map, IfOk};
+ghost use Rattle.std.specs.Prelude.{◌≡◌, length, IfOk};
 ghost use Rattle.std.specs.List.{AllZip};
-ghost use Rattle.poets_expr.specs.Env.{declared_of};
-ghost use Rattle.poets_report.specs.Folds.{GoesOn};
-ghost use Rattle.poets_report.specs.Reports.{report_of};
-ghost use Rattle.poets_call.specs.Calls.{folio_row_of};
-ghost use Rattle.poets_call.specs.Replies.{total_of};
-ghost use Rattle.poets_folio.specs.Rows.{IsRow};
+ghost use Rattle.poets_report.specs.UnderNames.{GoesOnUnder};
+ghost use Rattle.poets_folio.specs.Rows.{HasRowsOf, HasTotalOf};
+ghost use Rattle.poets_folio.specs.code.Parts.{IsRowUnder};
 
 use crate::total::total;
 use poets_call::Folio;
@@ -36,9 +33,8 @@ pub fn portfolio<R: Threads + Sync>(
     parts: &List<Part>,
 ) -> Result<Folio, Memory>
     requires { length args.now.items ≡ length report.now.params.items }
-    ensures rows { IfOk result (λ f. AllZip
-        (IsRow (declared_of decls.now.names) (report_of report.now) args.now.items) parts.now.items f.rows.items) }
-    ensures total { IfOk result (λ f. f.total ≡ total_of (report_of report.now) (map folio_row_of f.rows.items)) }
+    ensures rows { IfOk result (HasRowsOf decls.now report.now args.now parts.now) }
+    ensures total { IfOk result (HasTotalOf report.now) }
 {
     let rows = listed(
         alloc,
@@ -58,16 +54,14 @@ fn rows<R: Threads + Sync>(
     parts: &[Part],
 ) -> Result<Vec<(Name, Answer)>, Memory>
     requires { length args.now.items ≡ length report.now.params.items }
-    ensures { IfOk result (λ v. AllZip
-        (IsRow (declared_of decls.now.names) (report_of report.now) args.now.items) parts.now v.items) }
+    ensures { IfOk result (λ v. AllZip (IsRowUnder decls.now report.now args.now) parts.now v.items) }
 {
     let made: Result<Result<Vec<(Name, Answer)>, Memory>, _> = parts
         .par_iter()
         .map(
             |part: &Part| -> Result<(Name, Answer), Memory>
                 requires { length args.now.items ≡ length report.now.params.items }
-                ensures { IfOk result (IsRow
-                    (declared_of decls.entry.now.names) (report_of report.entry.now) args.entry.now.items part.now) }
+                ensures { IfOk result (IsRowUnder decls.entry.now report.entry.now args.entry.now part.now) }
             { row(alloc, decls, report, args, part) },
         )
         .collect(rt, alloc);
@@ -86,7 +80,7 @@ fn row(
     part: &Part,
 ) -> Result<(Name, Answer), Memory>
     requires { length args.now.items ≡ length report.now.params.items }
-    ensures { IfOk result (IsRow (declared_of decls.now.names) (report_of report.now) args.now.items part.now) }
+    ensures { IfOk result (IsRowUnder decls.now report.now args.now part.now) }
 {
     let mut asks = Asks::new(());
     let start = Fold::start(alloc, decls, report, args, &mut asks)?;
@@ -102,7 +96,7 @@ fn folded<L>(
     events: &Events,
     asks: &mut Asks<L>,
 ) -> Result<Fold, Memory>
-    ensures { IfOk result (GoesOn (declared_of decls.now.names) (report_of report.now) events.now.items fold) }
+    ensures { IfOk result (GoesOnUnder decls.now report.now events.now.items fold) }
 {
     for place in 0..events.len().div_ceil(PIECE_LENGTH) {
         let Some(piece) = events.piece(place) else {

@@ -1,10 +1,10 @@
 //! The total of a portfolio.
-ghost use Rattle.std.specs.Prelude.{◌≡◌, ◌^◌, ◌-◌, ◌+ℤ◌, ◌-ℤ◌, ◌≤ℤ◌, neg_ℤ, fold, map, option_map, IfSome, Some, pos};
+ghost use Rattle.std.specs.Prelude.{◌≡◌, ◌^◌, ◌-◌, ◌+ℤ◌, ◌-ℤ◌, ◌≤ℤ◌, neg_ℤ, map, IfSome, pos};
 ghost use Rattle.poets_expr.specs.Val as val;
 ghost use Rattle.poets_report.specs.Reports.{report_of};
-ghost use Rattle.poets_report.specs.Answers.{answer_of};
 ghost use Rattle.poets_call.specs.Calls.{folio_row_of};
-ghost use Rattle.poets_call.specs.Replies.{added, if_whole, total_of};
+ghost use Rattle.poets_call.specs.Replies.{total_of};
+ghost use Rattle.poets_folio.specs.code.Sums.{Adds, sum_of};
 
 use poets_report::{Answer, Report};
 use poets_value::{Name, Ty, Value};
@@ -24,7 +24,7 @@ pub(crate) fn total(report: &Report, rows: &[(Name, Answer)]) -> Option<Option<V
 
 // The exact sum, none where a row is undefined or the sum is no whole number of the language.
 fn sum(rows: &[(Name, Answer)]) -> Option<Value>
-    ensures { result ≡ if_whole (fold (λ z row. added z row.1) (Some (pos 0)) (map folio_row_of rows.now)) }
+    ensures { result ≡ sum_of rows.now }
 {
     let mut sum: i128 = 0;
     for row in rows {
@@ -45,7 +45,7 @@ fn plus(sum: i128, number: i64) -> i128
 
 // The answer's whole number.
 fn number(answer: &Answer) -> Option<i64>
-    ensures adds { (z : _) → added (Some z) (answer_of answer.now) ≡ option_map (λ n. z +ℤ n) result }
+    ensures adds { Adds answer.now result }
     ensures range { IfSome result (λ n. (neg_ℤ (pos (2 ^ 63)) ≤ℤ n) × (n ≤ℤ pos (2 ^ 63 - 1))) }
 {
     match answer {
