@@ -1,9 +1,12 @@
 -- The book and the reports of rules, as plain data.
-use Rattle.std.specs.Prelude.{List, map}
+use Rattle.std.specs.Prelude.{List, Option, map, option_map}
+use Rattle.std.specs.Borrow.{Bor}
+use Rattle.std.specs.Option.{option_copied}
 use Rattle.poets_syntax.specs.Plain.{Book}
 use Rattle.poets_syntax.specs.Book.{book_of}
 use Rattle.poets_report.specs.Plain.{Report}
 use Rattle.poets_report.specs.Reports.{report_of}
+use Rattle.poets_report.specs.declared.report.Report as code
 use Rattle.poets_call.specs.declared.rules.Rules.{Rules}
 
 -- the declared names and the templates of the rules
@@ -13,3 +16,7 @@ book_of_rules rules = book_of rules.studied.book
 -- the reports of the rules, as plain data
 abbrev pub reports_of_rules : Rules → List Report
 reports_of_rules rules = map report_of rules.reports.items
+
+-- the report that was found, if there is one, as plain data
+abbrev pub found_report : Option (Bor code.Report) → Option Report
+found_report found = option_map report_of (option_copied found)

@@ -1,10 +1,10 @@
 //! What a history is taken for.
-ghost use Rattle.std.specs.Prelude.{◌≡◌, find, map, option_map};
+ghost use Rattle.std.specs.Prelude.{◌≡◌, find, map};
 ghost use Rattle.std.specs.Option.{option_copied};
 ghost use Rattle.poets_expr.specs.Env.{same_name};
 ghost use Rattle.poets_report.specs.Reports.{report_of};
 ghost use Rattle.poets_call.specs.Replies.{report_in};
-ghost use Rattle.poets_call.specs.Rules.{reports_of_rules};
+ghost use Rattle.poets_call.specs.Rules.{found_report, reports_of_rules};
 
 use poets_report::Report;
 use poets_syntax::Studied;
@@ -20,7 +20,7 @@ pub struct Rules {
 impl Rules {
     /// The report with a name.
     pub fn report(&self, name: Name) -> Option<&Report>
-        ensures { option_map report_of (option_copied result) ≡ report_in (reports_of_rules self.now) name }
+        ensures { found_report result ≡ report_in (reports_of_rules self.now) name }
     {
         named_report(self.reports.as_slice(), name)
     }
@@ -36,7 +36,7 @@ fn first_of(reports: &[Report], name: Name) -> Option<&Report>
 /// The report with that name among reports.
 #[tactic(auto, using(crate::proofs::Reports::report_in_find))]
 pub fn named_report(reports: &[Report], name: Name) -> Option<&Report>
-    ensures { option_map report_of (option_copied result) ≡ report_in (map report_of reports.now) name }
+    ensures { found_report result ≡ report_in (map report_of reports.now) name }
 {
     first_of(reports, name)
 }
