@@ -1,8 +1,9 @@
 //! The line that sums up the history of a demonstration.
-ghost use Rattle.std.specs.Prelude.{◌≡◌, ◌+◌, ◌<◌, ◌^◌, ◌+ℤ◌, ◌-ℤ◌, ◌≤ℤ◌, neg_ℤ, pos, if◌then◌else◌, IfOk, string_bytes};
+ghost use Rattle.std.specs.Prelude.{◌≡◌, ◌<◌, ◌^◌, ◌+ℤ◌, ◌-ℤ◌, ◌≤ℤ◌, neg_ℤ, pos, IfOk, string_bytes};
 ghost use Rattle.poets_call.specs.Calls.{history_of, reply_of};
 ghost use Rattle.poets_demo.specs.Line.{amount_of, count_replies, is_ended, is_recorded, is_refused, is_registered, paid_in};
 ghost use Rattle.poets_demo.specs.Line as spec;
+ghost use Rattle.poets_demo.specs.code.Sums.{Grows};
 
 use poets_call::{Entry, Folio, Reply};
 use poets_value::{Memory, Value};
@@ -25,14 +26,10 @@ impl Sums {
         requires ended { self.old.ended < 2 ^ 63 }
         requires refused { self.old.refused < 2 ^ 63 }
         requires paid { (neg_ℤ (pos (2 ^ 126)) ≤ℤ self.old.paid) × (self.old.paid ≤ℤ pos (2 ^ 126)) }
-        ensures registered { self.new.registered
-            ≡ self.old.registered + (if is_registered (reply_of reply.now) then 1 else 0) }
-        ensures recorded { self.new.recorded
-            ≡ self.old.recorded + (if is_recorded (reply_of reply.now) then 1 else 0) }
-        ensures ended { self.new.ended
-            ≡ self.old.ended + (if is_ended (reply_of reply.now) then 1 else 0) }
-        ensures refused { self.new.refused
-            ≡ self.old.refused + (if is_refused (reply_of reply.now) then 1 else 0) }
+        ensures registered { Grows is_registered reply.now self.old.registered self.new.registered }
+        ensures recorded { Grows is_recorded reply.now self.old.recorded self.new.recorded }
+        ensures ended { Grows is_ended reply.now self.old.ended self.new.ended }
+        ensures refused { Grows is_refused reply.now self.old.refused self.new.refused }
         ensures paid { self.new.paid ≡ self.old.paid +ℤ paid_in (reply_of reply.now) }
         ensures least { (self.old.paid -ℤ pos (2 ^ 63)) ≤ℤ self.new.paid }
         ensures greatest { self.new.paid ≤ℤ (self.old.paid +ℤ pos (2 ^ 63)) }

@@ -1,9 +1,9 @@
 //! The text of the demonstration.
-ghost use Rattle.std.specs.Prelude.{◌≡◌, ◌++◌, ◌≤◌, ◌-◌, IfOk, OnOk, Some, codes, length, string_bytes};
-ghost use Rattle.std.specs.List.{flat_map, range_with_len};
+ghost use Rattle.std.specs.Prelude.{◌≡◌, ◌≤◌, IfOk, OnOk, Some, length, string_bytes};
 ghost use Rattle.poets_value.specs.Limits.{longest_text, most_sales};
-ghost use Rattle.poets_demo.specs.Text.{numbers_to, portfolio, sale_lines, sale_name, section};
+ghost use Rattle.poets_demo.specs.Text.{portfolio, sale_lines, sale_name, section};
 ghost use Rattle.poets_demo.specs.Text as spec;
+ghost use Rattle.poets_demo.specs.code.Putting.{IsPut, lines_of_sales, more_names, next_name};
 
 use poets_value::Memory;
 use std::alloc::Global;
@@ -59,7 +59,7 @@ pub fn demo_text(alloc: Global, sales: u32) -> Result<String, Memory>
 // Puts what a clerk does.
 fn put_section(text: &mut String, clerk: u32, sales: u32) -> Result<(), Memory>
     requires { (1 ≤ sales) × (sales ≤ most_sales) }
-    ensures { OnOk result (string_bytes text.new ≡ string_bytes text.old ++ section clerk sales) }
+    ensures { OnOk result (IsPut (section clerk sales) text.old text.new) }
 {
     writeln!(text, "clerk;;")?;
     put_sales(text, clerk, sales)?;
@@ -69,8 +69,7 @@ fn put_section(text: &mut String, clerk: u32, sales: u32) -> Result<(), Memory>
 // Puts the lines of a clerk's sales.
 fn put_sales(text: &mut String, clerk: u32, sales: u32) -> Result<(), Memory>
     requires { (1 ≤ sales) × (sales ≤ most_sales) }
-    ensures { OnOk result (string_bytes text.new ≡ string_bytes text.old
-        ++ flat_map (sale_lines clerk) (numbers_to sales)) }
+    ensures { OnOk result (IsPut (lines_of_sales clerk sales) text.old text.new) }
 {
     for sale in 1..=sales {
         put_sale(text, clerk, sale)?;
@@ -81,7 +80,7 @@ fn put_sales(text: &mut String, clerk: u32, sales: u32) -> Result<(), Memory>
 // Puts the lines of a sale.
 fn put_sale(text: &mut String, clerk: u32, sale: u32) -> Result<(), Memory>
     requires { sale ≤ most_sales }
-    ensures { OnOk result (string_bytes text.new ≡ string_bytes text.old ++ sale_lines clerk sale) }
+    ensures { OnOk result (IsPut (sale_lines clerk sale) text.old text.new) }
 {
     let name = SaleName { clerk, sale };
     let price = 3 * sale;
@@ -96,7 +95,7 @@ fn put_sale(text: &mut String, clerk: u32, sale: u32) -> Result<(), Memory>
 // Puts the portfolio of a clerk's sales.
 fn put_portfolio(text: &mut String, clerk: u32, sales: u32) -> Result<(), Memory>
     requires { 1 ≤ sales }
-    ensures { OnOk result (string_bytes text.new ≡ string_bytes text.old ++ portfolio clerk sales) }
+    ensures { OnOk result (IsPut (portfolio clerk sales) text.old text.new) }
 {
     let first = SaleName { clerk, sale: 1 };
     write!(text, "portfolio paid() over {first}")?;
@@ -108,8 +107,7 @@ fn put_portfolio(text: &mut String, clerk: u32, sales: u32) -> Result<(), Memory
 // Puts the names of a clerk's sales but the first, each behind a comma.
 fn put_more_names(text: &mut String, clerk: u32, sales: u32) -> Result<(), Memory>
     requires { 1 ≤ sales }
-    ensures { OnOk result (string_bytes text.new ≡ string_bytes text.old
-        ++ flat_map (λ sale. codes ", " ++ sale_name clerk sale) (range_with_len 2 (sales - 1))) }
+    ensures { OnOk result (IsPut (more_names clerk sales) text.old text.new) }
 {
     for sale in 2..=sales {
         put_next_name(text, clerk, sale)?;
@@ -119,7 +117,7 @@ fn put_more_names(text: &mut String, clerk: u32, sales: u32) -> Result<(), Memor
 
 // Puts a sale's name behind a comma.
 fn put_next_name(text: &mut String, clerk: u32, sale: u32) -> Result<(), Memory>
-    ensures { OnOk result (string_bytes text.new ≡ string_bytes text.old ++ (codes ", " ++ sale_name clerk sale)) }
+    ensures { OnOk result (IsPut (next_name clerk sale) text.old text.new) }
 {
     let name = SaleName { clerk, sale };
     write!(text, ", {name}")?;
