@@ -7,7 +7,6 @@ use Rattle.std.proofs.lemmas.List.{append-nil}
 use Rattle.poets_value.specs.declared.value.Name.{Name}
 use Rattle.poets_value.specs.Civil.{day_text}
 use Rattle.poets_value.proofs.EachDay.{IsDayText-day_text}
-use Rattle.poets_call.specs.Calls as R
 use Rattle.poets_call.specs.Plain.{Command}
 use Rattle.poets_lex.specs.declared.token.Word.TheVariants as W
 use Rattle.poets_lex.specs.declared.token.Sign.TheVariants as S

@@ -1,6 +1,7 @@
 -- The printed texts of expressions and contracts.
-use Rattle.std.specs.Prelude.{ℕ, Bool, true, false, nat_lt, nat_le, List, [], ◌∷◌, ◌++◌, unwrap_or, slice_get, codes}
+use Rattle.std.specs.Prelude.{◌≡◌, ℕ, Bool, true, false, nat_lt, nat_le, List, [], ◌∷◌, ◌++◌, unwrap_or, slice_get, codes, String, string_bytes}
 use Rattle.std.specs.Fmt.{signed_decimal}
+use Rattle.std.specs.declared.alloc.Global.{Global}
 use Rattle.std.specs.List.{flat_map}
 use Rattle.poets_value.specs.declared.value.Name.{Name}
 use Rattle.poets_value.specs.declared.value.Ty.{Ty}
@@ -16,6 +17,10 @@ use Rattle.poets_syntax.specs.declared.term.Binders.{Binders}
 use Rattle.poets_syntax.specs.Contract.{Contract, Success, Failure, Transmit, Plus, Par, Seq, App}
 use Rattle.poets_lex.specs.Table.{Table}
 use Rattle.poets_print.specs.Levels.{left_in_brackets, right_in_brackets, negated_in_brackets, denied_in_brackets, contract_level}
+
+-- the string is this text
+abbrev pub IsText : List ℕ → String Global → Type 0
+IsText text string = string_bytes string ≡ text
 
 -- the text of a name: its bytes in the table, and nothing for a name that the table does not have
 abbrev pub name_text : Table → Name → List ℕ

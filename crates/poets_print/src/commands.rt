@@ -1,10 +1,10 @@
 //! The texts of commands.
-ghost use Rattle.std.specs.Prelude.{◌≡◌, ◌++◌, OnOk, IfOk, string_bytes, map};
+ghost use Rattle.std.specs.Prelude.{OnOk, IfOk};
 ghost use Rattle.poets_call.specs.Calls.{command_of};
-ghost use Rattle.poets_print.specs.Texts.{behind_commas, name_text};
-ghost use Rattle.poets_print.specs.Texts as texts;
+ghost use Rattle.poets_print.specs.Texts.{IsText, behind_commas, name_text};
 ghost use Rattle.poets_print.specs.Lines.{amount_text, event_text};
 ghost use Rattle.poets_print.specs.Lines as lines;
+ghost use Rattle.poets_print.specs.code.Putting.{Puts, names_text};
 
 use crate::contracts::{put_call, put_contract};
 use crate::pieces::{put, put_counted, put_day, put_name, put_named, put_number};
@@ -15,7 +15,7 @@ use std::alloc::Global;
 
 // Puts an amount of a kind, as `7 Oil`.
 fn put_amount(out: &mut String, names: &Names, what: Resource) -> Result<(), Memory>
-    ensures { OnOk result (string_bytes out.new ≡ string_bytes out.old ++ amount_text names.now what) }
+    ensures { OnOk result (Puts out.old out.new (amount_text names.now what)) }
 {
     put_number(out, what.amount)?;
     put(out, " ")?;
@@ -24,7 +24,7 @@ fn put_amount(out: &mut String, names: &Names, what: Resource) -> Result<(), Mem
 
 // Puts an event, as `ann bob 7 Oil @2006-05-03`.
 fn put_event(out: &mut String, names: &Names, event: &Event) -> Result<(), Memory>
-    ensures { OnOk result (string_bytes out.new ≡ string_bytes out.old ++ event_text names.now event.now) }
+    ensures { OnOk result (Puts out.old out.new (event_text names.now event.now)) }
 {
     put_name(out, names, event.sender)?;
     put(out, " ")?;
@@ -37,7 +37,7 @@ fn put_event(out: &mut String, names: &Names, event: &Event) -> Result<(), Memor
 
 // Puts each name after a comma.
 fn put_rest(out: &mut String, names: &Names, listed: &[Name]) -> Result<(), Memory>
-    ensures { OnOk result (string_bytes out.new ≡ string_bytes out.old ++ behind_commas (name_text names.now) listed.now) }
+    ensures { OnOk result (Puts out.old out.new (behind_commas (name_text names.now) listed.now)) }
 {
     for name in listed {
         put(out, ", ")?;
@@ -48,7 +48,7 @@ fn put_rest(out: &mut String, names: &Names, listed: &[Name]) -> Result<(), Memo
 
 // Puts names with commas between them.
 fn put_names(out: &mut String, names: &Names, listed: &List<Name>) -> Result<(), Memory>
-    ensures { OnOk result (string_bytes out.new ≡ string_bytes out.old ++ texts.listed (name_text names.now) listed.now.items) }
+    ensures { OnOk result (Puts out.old out.new (names_text names.now listed.now.items)) }
 {
     if let [first, rest @ ..] = listed.as_slice() {
         put_name(out, names, *first)?;
@@ -59,7 +59,7 @@ fn put_names(out: &mut String, names: &Names, listed: &List<Name>) -> Result<(),
 
 /// Puts a command.
 pub(crate) fn put_command(out: &mut String, names: &Names, command: &Command) -> Result<(), Memory>
-    ensures { OnOk result (string_bytes out.new ≡ string_bytes out.old ++ lines.command_text names.now (command_of command.now)) }
+    ensures { OnOk result (Puts out.old out.new (lines.command_text names.now (command_of command.now))) }
 {
     match command {
         Command::Register { name, term } => {
@@ -96,7 +96,7 @@ pub(crate) fn put_command(out: &mut String, names: &Names, command: &Command) ->
 ///
 /// A name that the table does not have prints as nothing.
 pub fn command_text(alloc: Global, names: &Names, command: &Command) -> Result<String, Memory>
-    ensures { IfOk result (λ text. string_bytes text ≡ lines.command_text names.now (command_of command.now)) }
+    ensures { IfOk result (IsText (lines.command_text names.now (command_of command.now))) }
 {
     let mut text = String::new(alloc);
     put_command(&mut text, names, command)?;

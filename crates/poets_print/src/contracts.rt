@@ -1,9 +1,9 @@
 //! The texts of contracts.
-ghost use Rattle.std.specs.Prelude.{◌≡◌, ◌++◌, [], OnOk, IfOk, string_bytes, map, codes, nat_lt, nat_le};
+ghost use Rattle.std.specs.Prelude.{OnOk, IfOk, map};
 ghost use Rattle.poets_expr.specs.Expression.{expression_of};
 ghost use Rattle.poets_syntax.specs.Contract.{contract_of};
-ghost use Rattle.poets_print.specs.Levels as spec;
-ghost use Rattle.poets_print.specs.Texts.{expression_text, contract_text, bracketed, call_text, behind_commas, listed, binders_text};
+ghost use Rattle.poets_print.specs.Texts.{IsText, contract_text, call_text, binders_text};
+ghost use Rattle.poets_print.specs.code.Putting.{Puts, more_arguments, contract_part};
 
 use crate::expressions::put_expression;
 use crate::levels::contract_level;
@@ -16,7 +16,7 @@ use std::alloc::Global;
 
 // Puts the four names that a transmit binds.
 fn put_binders(out: &mut String, names: &Names, binders: &Binders) -> Result<(), Memory>
-    ensures { OnOk result (string_bytes out.new ≡ string_bytes out.old ++ binders_text names.now binders.now) }
+    ensures { OnOk result (Puts out.old out.new (binders_text names.now binders.now)) }
 {
     put_name(out, names, binders.sender)?;
     put(out, ", ")?;
@@ -29,7 +29,7 @@ fn put_binders(out: &mut String, names: &Names, binders: &Binders) -> Result<(),
 
 // Puts each argument after a comma.
 fn put_rest(out: &mut String, names: &Names, args: &[Expr]) -> Result<(), Memory>
-    ensures { OnOk result (string_bytes out.new ≡ string_bytes out.old ++ behind_commas (expression_text names.now) (map expression_of args.now)) }
+    ensures { OnOk result (Puts out.old out.new (more_arguments names.now args.now)) }
 {
     for arg in args {
         put(out, ", ")?;
@@ -45,7 +45,7 @@ pub(crate) fn put_call(
     name: Name,
     args: &List<Expr>,
 ) -> Result<(), Memory>
-    ensures { OnOk result (string_bytes out.new ≡ string_bytes out.old ++ call_text names.now name (map expression_of args.now.items)) }
+    ensures { OnOk result (Puts out.old out.new (call_text names.now name (map expression_of args.now.items))) }
 {
     put_name(out, names, name)?;
     put(out, "(")?;
@@ -59,7 +59,7 @@ pub(crate) fn put_call(
 /// Puts a contract.
 #[cycle(contract)]
 pub(crate) fn put_contract(out: &mut String, names: &Names, term: &Term) -> Result<(), Memory>
-    ensures { OnOk result (string_bytes out.new ≡ string_bytes out.old ++ contract_text names.now (contract_of term.now)) }
+    ensures { OnOk result (Puts out.old out.new (contract_text names.now (contract_of term.now))) }
 {
     match term {
         Term::Success => put(out, "Success"),
@@ -98,7 +98,7 @@ pub(crate) fn put_contract(out: &mut String, names: &Names, term: &Term) -> Resu
 // Puts a part of a contract, in brackets or not.
 #[cycle(contract)]
 fn put_part(out: &mut String, names: &Names, in_brackets: bool, part: &Term) -> Result<(), Memory>
-    ensures { OnOk result (string_bytes out.new ≡ string_bytes out.old ++ bracketed in_brackets (contract_text names.now (contract_of part.now))) }
+    ensures { OnOk result (Puts out.old out.new (contract_part names.now in_brackets part.now)) }
 {
     if !in_brackets {
         return put_contract(out, names, part);
@@ -112,7 +112,7 @@ fn put_part(out: &mut String, names: &Names, in_brackets: bool, part: &Term) -> 
 ///
 /// A name that the table does not have prints as nothing.
 pub fn term_text(alloc: Global, names: &Names, term: &Term) -> Result<String, Memory>
-    ensures { IfOk result (λ text. string_bytes text ≡ contract_text names.now (contract_of term.now)) }
+    ensures { IfOk result (IsText (contract_text names.now (contract_of term.now))) }
 {
     let mut text = String::new(alloc);
     put_contract(&mut text, names, term)?;

@@ -1,7 +1,8 @@
 //! The texts of expressions.
-ghost use Rattle.std.specs.Prelude.{◌≡◌, ◌++◌, OnOk, string_bytes, codes};
+ghost use Rattle.std.specs.Prelude.{◌≡◌, ◌++◌, OnOk, codes};
 ghost use Rattle.poets_expr.specs.Expression.{expression_of};
-ghost use Rattle.poets_print.specs.Texts.{expression_text, bracketed, op_text};
+ghost use Rattle.poets_print.specs.Texts.{expression_text, op_text};
+ghost use Rattle.poets_print.specs.code.Putting.{Puts, expression_part};
 
 use crate::levels::{denied_in_brackets, left_in_brackets, negated_in_brackets, right_in_brackets};
 use crate::pieces::{
@@ -33,7 +34,7 @@ fn op_text_of(op: Op) -> &'static str
 
 // Puts an operator between single spaces.
 fn put_operator(out: &mut String, op: Op) -> Result<(), Memory>
-    ensures { OnOk result (string_bytes out.new ≡ string_bytes out.old ++ (codes " " ++ op_text op ++ codes " ")) }
+    ensures { OnOk result (Puts out.old out.new (codes " " ++ op_text op ++ codes " ")) }
 {
     put(out, " ")?;
     put(out, op_text_of(op))?;
@@ -43,7 +44,7 @@ fn put_operator(out: &mut String, op: Op) -> Result<(), Memory>
 /// Puts an expression.
 #[cycle(expression)]
 pub(crate) fn put_expression(out: &mut String, names: &Names, e: &Expr) -> Result<(), Memory>
-    ensures { OnOk result (string_bytes out.new ≡ string_bytes out.old ++ expression_text names.now (expression_of e.now)) }
+    ensures { OnOk result (Puts out.old out.new (expression_text names.now (expression_of e.now))) }
 {
     match e {
         Expr::Int(number) => put_number(out, *number),
@@ -83,7 +84,7 @@ pub(crate) fn put_expression(out: &mut String, names: &Names, e: &Expr) -> Resul
 // Puts a part of an expression, in brackets or not.
 #[cycle(expression)]
 fn put_part(out: &mut String, names: &Names, in_brackets: bool, part: &Expr) -> Result<(), Memory>
-    ensures { OnOk result (string_bytes out.new ≡ string_bytes out.old ++ bracketed in_brackets (expression_text names.now (expression_of part.now))) }
+    ensures { OnOk result (Puts out.old out.new (expression_part names.now in_brackets part.now)) }
 {
     if !in_brackets {
         return put_expression(out, names, part);
@@ -102,7 +103,7 @@ fn put_prefixed(
     in_brackets: bool,
     part: &Expr,
 ) -> Result<(), Memory>
-    ensures { OnOk result (string_bytes out.new ≡ string_bytes out.old ++ (prefix.now ++ bracketed in_brackets (expression_text names.now (expression_of part.now)))) }
+    ensures { OnOk result (Puts out.old out.new (prefix.now ++ expression_part names.now in_brackets part.now)) }
 {
     put(out, prefix)?;
     put_part(out, names, in_brackets, part)

@@ -1,6 +1,7 @@
 //! The lines of a history.
-ghost use Rattle.std.specs.Prelude.{◌≡◌, ◌++◌, OnOk, IfOk, string_bytes};
+ghost use Rattle.std.specs.Prelude.{IfOk};
 ghost use Rattle.poets_call.specs.Calls.{entry_of};
+ghost use Rattle.poets_print.specs.Texts.{IsText};
 ghost use Rattle.poets_print.specs.Lines as lines;
 
 use crate::commands::put_command;
@@ -15,7 +16,7 @@ use std::alloc::Global;
 ///
 /// A name that the table does not have prints as nothing.
 pub fn line_text(alloc: Global, names: &Names, number: u64, entry: &Entry) -> Result<String, Memory>
-    ensures { IfOk result (λ text. string_bytes text ≡ lines.line_text names.now number (entry_of entry.now)) }
+    ensures { IfOk result (IsText (lines.line_text names.now number (entry_of entry.now))) }
 {
     let mut text = String::new(alloc);
     put_count(&mut text, number)?;

@@ -1,10 +1,11 @@
 //! Pieces of text put at the end of a text.
-ghost use Rattle.std.specs.Prelude.{◌≡◌, ◌++◌, OnOk, string_bytes, codes, Some, None, option_map, unwrap_or, slice_get, true, false};
+ghost use Rattle.std.specs.Prelude.{◌++◌, OnOk, codes};
 ghost use Rattle.std.specs.Fmt.{decimal, signed_decimal};
 ghost use Rattle.poets_value.specs.Civil.{day_text};
 ghost use Rattle.poets_print.specs.Texts.{truth_text, resource_text, value_text};
 ghost use Rattle.poets_print.specs.Texts as texts;
 ghost use Rattle.poets_print.specs.Lines.{optional_text};
+ghost use Rattle.poets_print.specs.code.Putting.{Puts};
 
 use crate::words::{name_text, type_text};
 use poets_lex::Names;
@@ -12,14 +13,14 @@ use poets_value::{Day, Memory, Name, Resource, Ty, Value};
 
 /// Puts a text at the end.
 pub(crate) fn put(out: &mut String, text: &str) -> Result<(), Memory>
-    ensures { OnOk result (string_bytes out.new ≡ string_bytes out.old ++ text.now) }
+    ensures { OnOk result (Puts out.old out.new text.now) }
 {
     out.push_str(text)?;
     Ok(())
 }
 
 pub(crate) fn put_name(out: &mut String, names: &Names, name: Name) -> Result<(), Memory>
-    ensures { OnOk result (string_bytes out.new ≡ string_bytes out.old ++ texts.name_text names.now name) }
+    ensures { OnOk result (Puts out.old out.new (texts.name_text names.now name)) }
 {
     put(out, name_text(names, name))
 }
@@ -31,14 +32,14 @@ pub(crate) fn put_named(
     text: &str,
     name: Name,
 ) -> Result<(), Memory>
-    ensures { OnOk result (string_bytes out.new ≡ string_bytes out.old ++ (text.now ++ texts.name_text names.now name)) }
+    ensures { OnOk result (Puts out.old out.new (text.now ++ texts.name_text names.now name)) }
 {
     put(out, text)?;
     put_name(out, names, name)
 }
 
 pub(crate) fn put_count(out: &mut String, count: u64) -> Result<(), Memory>
-    ensures { OnOk result (string_bytes out.new ≡ string_bytes out.old ++ decimal count) }
+    ensures { OnOk result (Puts out.old out.new (decimal count)) }
 {
     write!(out, "{count}")?;
     Ok(())
@@ -46,21 +47,21 @@ pub(crate) fn put_count(out: &mut String, count: u64) -> Result<(), Memory>
 
 /// Puts a text, and a count after it.
 pub(crate) fn put_counted(out: &mut String, text: &str, count: u64) -> Result<(), Memory>
-    ensures { OnOk result (string_bytes out.new ≡ string_bytes out.old ++ (text.now ++ decimal count)) }
+    ensures { OnOk result (Puts out.old out.new (text.now ++ decimal count)) }
 {
     put(out, text)?;
     put_count(out, count)
 }
 
 pub(crate) fn put_number(out: &mut String, number: i64) -> Result<(), Memory>
-    ensures { OnOk result (string_bytes out.new ≡ string_bytes out.old ++ signed_decimal number) }
+    ensures { OnOk result (Puts out.old out.new (signed_decimal number)) }
 {
     write!(out, "{number}")?;
     Ok(())
 }
 
 pub(crate) fn put_day(out: &mut String, day: Day) -> Result<(), Memory>
-    ensures { OnOk result (string_bytes out.new ≡ string_bytes out.old ++ day_text day) }
+    ensures { OnOk result (Puts out.old out.new (day_text day)) }
 {
     let bytes = day.text();
     let Ok(text) = str::from_utf8(&bytes) else {
@@ -71,7 +72,7 @@ pub(crate) fn put_day(out: &mut String, day: Day) -> Result<(), Memory>
 
 /// Puts a day as its literal, `@2006-05-03`.
 pub(crate) fn put_literal_day(out: &mut String, day: Day) -> Result<(), Memory>
-    ensures { OnOk result (string_bytes out.new ≡ string_bytes out.old ++ (codes "@" ++ day_text day)) }
+    ensures { OnOk result (Puts out.old out.new (codes "@" ++ day_text day)) }
 {
     put(out, "@")?;
     put_day(out, day)
@@ -79,14 +80,14 @@ pub(crate) fn put_literal_day(out: &mut String, day: Day) -> Result<(), Memory>
 
 /// Puts the undefined literal of a type, `undefined Int`.
 pub(crate) fn put_undefined(out: &mut String, ty: Ty) -> Result<(), Memory>
-    ensures { OnOk result (string_bytes out.new ≡ string_bytes out.old ++ (codes "undefined " ++ texts.type_text ty)) }
+    ensures { OnOk result (Puts out.old out.new (codes "undefined " ++ texts.type_text ty)) }
 {
     put(out, "undefined ")?;
     put(out, type_text(ty))
 }
 
 pub(crate) fn put_truth(out: &mut String, truth: bool) -> Result<(), Memory>
-    ensures { OnOk result (string_bytes out.new ≡ string_bytes out.old ++ truth_text truth) }
+    ensures { OnOk result (Puts out.old out.new (truth_text truth)) }
 {
     if truth {
         put(out, "true")
@@ -100,7 +101,7 @@ pub(crate) fn put_resource(
     names: &Names,
     resource: Resource,
 ) -> Result<(), Memory>
-    ensures { OnOk result (string_bytes out.new ≡ string_bytes out.old ++ resource_text names.now resource) }
+    ensures { OnOk result (Puts out.old out.new (resource_text names.now resource)) }
 {
     put(out, "[")?;
     put_number(out, resource.amount)?;
@@ -111,7 +112,7 @@ pub(crate) fn put_resource(
 
 /// Puts a value as its literal.
 pub(crate) fn put_value(out: &mut String, names: &Names, value: &Value) -> Result<(), Memory>
-    ensures { OnOk result (string_bytes out.new ≡ string_bytes out.old ++ value_text names.now value.now) }
+    ensures { OnOk result (Puts out.old out.new (value_text names.now value.now)) }
 {
     match value {
         Value::Int(number) => put_number(out, *number),
@@ -128,7 +129,7 @@ pub(crate) fn put_optional(
     names: &Names,
     value: &Option<Value>,
 ) -> Result<(), Memory>
-    ensures { OnOk result (string_bytes out.new ≡ string_bytes out.old ++ optional_text names.now value.now) }
+    ensures { OnOk result (Puts out.old out.new (optional_text names.now value.now)) }
 {
     match value {
         None => put(out, "undefined"),

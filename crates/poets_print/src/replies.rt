@@ -1,13 +1,12 @@
 //! The texts of replies.
-ghost use Rattle.std.specs.Prelude.{◌≡◌, ◌++◌, OnOk, IfOk, string_bytes, codes, map};
+ghost use Rattle.std.specs.Prelude.{OnOk, IfOk, map};
 ghost use Rattle.std.specs.Fmt.{decimal};
-ghost use Rattle.poets_syntax.specs.Contract.{contract_of};
 ghost use Rattle.poets_report.specs.Answers.{answer_of};
 ghost use Rattle.poets_call.specs.Calls.{reply_of, folio_row_of};
-ghost use Rattle.poets_call.specs.Plain as plain;
-ghost use Rattle.poets_print.specs.Texts.{contract_text, behind_commas};
+ghost use Rattle.poets_print.specs.Texts.{IsText, behind_commas};
 ghost use Rattle.poets_print.specs.Lines.{yes_text, row_text, rows_text, answer_text, answered_text, part_text, parts_text, total_text};
 ghost use Rattle.poets_print.specs.Lines as lines;
+ghost use Rattle.poets_print.specs.code.Putting.{Puts, more_parts, folio_text, shown_text};
 
 use crate::contracts::put_contract;
 use crate::pieces::{put, put_counted, put_day, put_name, put_named, put_optional};
@@ -22,14 +21,14 @@ type Row = (Option<Value>, Option<Value>);
 
 // Puts `yes` or `no`.
 fn put_yes(out: &mut String, yes: bool) -> Result<(), Memory>
-    ensures { OnOk result (string_bytes out.new ≡ string_bytes out.old ++ yes_text yes) }
+    ensures { OnOk result (Puts out.old out.new (yes_text yes)) }
 {
     if yes { put(out, "yes") } else { put(out, "no") }
 }
 
 // Puts a row, as `Oil: 5`.
 fn put_row(out: &mut String, names: &Names, row: &Row) -> Result<(), Memory>
-    ensures { OnOk result (string_bytes out.new ≡ string_bytes out.old ++ row_text names.now row.now) }
+    ensures { OnOk result (Puts out.old out.new (row_text names.now row.now)) }
 {
     put_optional(out, names, &row.0)?;
     put(out, ": ")?;
@@ -38,7 +37,7 @@ fn put_row(out: &mut String, names: &Names, row: &Row) -> Result<(), Memory>
 
 // Puts each row after a comma.
 fn put_rest(out: &mut String, names: &Names, rows: &[Row]) -> Result<(), Memory>
-    ensures { OnOk result (string_bytes out.new ≡ string_bytes out.old ++ behind_commas (row_text names.now) rows.now) }
+    ensures { OnOk result (Puts out.old out.new (behind_commas (row_text names.now) rows.now)) }
 {
     for row in rows {
         put(out, ", ")?;
@@ -49,7 +48,7 @@ fn put_rest(out: &mut String, names: &Names, rows: &[Row]) -> Result<(), Memory>
 
 // Puts rows, as `{Oil: 5, USD: 7}`.
 fn put_rows(out: &mut String, names: &Names, rows: &List<Row>) -> Result<(), Memory>
-    ensures { OnOk result (string_bytes out.new ≡ string_bytes out.old ++ rows_text names.now rows.now.items) }
+    ensures { OnOk result (Puts out.old out.new (rows_text names.now rows.now.items)) }
 {
     put(out, "{")?;
     if let [first, rest @ ..] = rows.as_slice() {
@@ -61,7 +60,7 @@ fn put_rows(out: &mut String, names: &Names, rows: &List<Row>) -> Result<(), Mem
 
 // Puts a report's answer.
 fn put_answer(out: &mut String, names: &Names, answer: &Answer) -> Result<(), Memory>
-    ensures { OnOk result (string_bytes out.new ≡ string_bytes out.old ++ answer_text names.now (answer_of answer.now)) }
+    ensures { OnOk result (Puts out.old out.new (answer_text names.now (answer_of answer.now))) }
 {
     match answer {
         Answer::Single(value) => put_optional(out, names, value),
@@ -71,7 +70,7 @@ fn put_answer(out: &mut String, names: &Names, answer: &Answer) -> Result<(), Me
 
 // Puts a report's answer with the word that tells its form.
 fn put_answered(out: &mut String, names: &Names, answer: &Answer) -> Result<(), Memory>
-    ensures { OnOk result (string_bytes out.new ≡ string_bytes out.old ++ answered_text names.now (answer_of answer.now)) }
+    ensures { OnOk result (Puts out.old out.new (answered_text names.now (answer_of answer.now))) }
 {
     match answer {
         Answer::Single(value) => {
@@ -87,7 +86,7 @@ fn put_answered(out: &mut String, names: &Names, answer: &Answer) -> Result<(), 
 
 // Puts a contract's part of a portfolio, as `a 5`.
 fn put_part(out: &mut String, names: &Names, part: &(Name, Answer)) -> Result<(), Memory>
-    ensures { OnOk result (string_bytes out.new ≡ string_bytes out.old ++ part_text names.now (folio_row_of part.now)) }
+    ensures { OnOk result (Puts out.old out.new (part_text names.now (folio_row_of part.now))) }
 {
     put_name(out, names, part.0)?;
     put(out, " ")?;
@@ -96,7 +95,7 @@ fn put_part(out: &mut String, names: &Names, part: &(Name, Answer)) -> Result<()
 
 // Puts each part after a comma.
 fn put_more_parts(out: &mut String, names: &Names, parts: &[(Name, Answer)]) -> Result<(), Memory>
-    ensures { OnOk result (string_bytes out.new ≡ string_bytes out.old ++ behind_commas (part_text names.now) (map folio_row_of parts.now)) }
+    ensures { OnOk result (Puts out.old out.new (more_parts names.now parts.now)) }
 {
     for part in parts {
         put(out, ", ")?;
@@ -107,7 +106,7 @@ fn put_more_parts(out: &mut String, names: &Names, parts: &[(Name, Answer)]) -> 
 
 // Puts the parts of a portfolio, and its total where there is one.
 fn put_folio(out: &mut String, names: &Names, folio: &Folio) -> Result<(), Memory>
-    ensures { OnOk result (string_bytes out.new ≡ string_bytes out.old ++ lines.reply_text names.now (plain.Reply.Folio (map folio_row_of folio.now.rows.items) folio.now.total)) }
+    ensures { OnOk result (Puts out.old out.new (folio_text names.now folio.now)) }
 {
     put(out, "portfolio ")?;
     put_parts(out, names, folio.rows.as_slice())?;
@@ -116,7 +115,7 @@ fn put_folio(out: &mut String, names: &Names, folio: &Folio) -> Result<(), Memor
 
 // Puts parts with commas between them.
 fn put_parts(out: &mut String, names: &Names, parts: &[(Name, Answer)]) -> Result<(), Memory>
-    ensures { OnOk result (string_bytes out.new ≡ string_bytes out.old ++ parts_text names.now (map folio_row_of parts.now)) }
+    ensures { OnOk result (Puts out.old out.new (parts_text names.now (map folio_row_of parts.now))) }
 {
     match parts {
         [] => Ok(()),
@@ -129,7 +128,7 @@ fn put_parts(out: &mut String, names: &Names, parts: &[(Name, Answer)]) -> Resul
 
 // Puts the total, where there is one.
 fn put_total(out: &mut String, names: &Names, total: &Option<Option<Value>>) -> Result<(), Memory>
-    ensures { OnOk result (string_bytes out.new ≡ string_bytes out.old ++ total_text names.now total.now) }
+    ensures { OnOk result (Puts out.old out.new (total_text names.now total.now)) }
 {
     match total {
         None => Ok(()),
@@ -149,7 +148,7 @@ fn put_shown(
     may_end: bool,
     ended: bool,
 ) -> Result<(), Memory>
-    ensures { OnOk result (string_bytes out.new ≡ string_bytes out.old ++ lines.reply_text names.now (plain.Reply.Shown (contract_of residual.now) count may_end ended)) }
+    ensures { OnOk result (Puts out.old out.new (shown_text names.now residual.now count may_end ended)) }
 {
     put_counted(out, "events ", count)?;
     put(out, ", may end ")?;
@@ -162,7 +161,7 @@ fn put_shown(
 
 /// Puts a reply.
 pub(crate) fn put_reply(out: &mut String, names: &Names, reply: &Reply) -> Result<(), Memory>
-    ensures { OnOk result (string_bytes out.new ≡ string_bytes out.old ++ lines.reply_text names.now (reply_of reply.now)) }
+    ensures { OnOk result (Puts out.old out.new (lines.reply_text names.now (reply_of reply.now))) }
 {
     match reply {
         Reply::Registered(number) => put_counted(out, "registered ", *number),
@@ -201,7 +200,7 @@ pub(crate) fn put_reply(out: &mut String, names: &Names, reply: &Reply) -> Resul
 ///
 /// A name that the table does not have prints as nothing.
 pub fn reply_text(alloc: Global, names: &Names, reply: &Reply) -> Result<String, Memory>
-    ensures { IfOk result (λ text. string_bytes text ≡ lines.reply_text names.now (reply_of reply.now)) }
+    ensures { IfOk result (IsText (lines.reply_text names.now (reply_of reply.now))) }
 {
     let mut text = String::new(alloc);
     put_reply(&mut text, names, reply)?;

@@ -1,7 +1,8 @@
-use Rattle.std.proofs.Common.{◌≡◌, ◌++◌, string_bytes, take}
+use Rattle.std.proofs.Common.{take}
 use Rattle.poets_print.specs.Texts.{behind_commas}
 use Rattle.poets_print.specs.Lines.{row_text}
+use Rattle.poets_print.specs.code.Putting.{Puts}
 use Rattle.poets_print.proofs.replies.put_rest.Given as goal
 
 abbrev pub invariant-loop-row : goal.invariant-loop-row
-invariant-loop-row l = string_bytes l.out ≡ string_bytes l.initial.out ++ behind_commas (row_text l.names) (take l.row-index l.rows)
+invariant-loop-row l = Puts l.initial.out l.out (behind_commas (row_text l.names) (take l.row-index l.rows))
