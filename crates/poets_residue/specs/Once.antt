@@ -8,9 +8,10 @@ use Rattle.poets_syntax.specs.Contract.{Contract, Success, Failure, Transmit, Pl
 use Rattle.poets_syntax.specs.Same.{same_contract}
 use Rattle.poets_syntax.specs.Arguments.{arguments}
 use Rattle.poets_syntax.specs.Plain.{Book}
-use Rattle.poets_syntax.specs.Book.{template_in}
+use Rattle.poets_syntax.specs.Book.{book_of, template_in}
 use Rattle.poets_syntax.specs.Marks.{Marks, nullable}
 use Rattle.poets_syntax.specs.Residual.{body_of}
+use Rattle.poets_syntax.specs.Studied.{StudiedBook, marks_of}
 use Rattle.poets_syntax.specs.Width.{body_in}
 use Rattle.poets_norm.specs.Questions.{operated}
 
@@ -43,6 +44,10 @@ asked_of book _ = 0
 -- what a residual of the contract asks at most: the sum over the different transmits and applications in its unguarded positions
 abbrev pub once : Book → Marks → Contract → ℕ
 once book marks c = sum_by (asked_of book) (unique_keys same_contract (ready book marks c))
+
+-- the same in a studied book
+abbrev pub once_in : StudiedBook → Contract → ℕ
+once_in s c = once (book_of s.book) (marks_of s) c
 
 -- the contract is one of the list
 abbrev pub IsAmong : Contract → List Contract → Type 0

@@ -1,15 +1,14 @@
 //! Applications unfolded.
-ghost use Rattle.std.specs.Prelude.{◌≡◌, ◌+◌, ◌≤◌, IfOk, OnOk, Some, map, reverse, sum_by, []};
+ghost use Rattle.std.specs.Prelude.{◌≡◌, ◌+◌, ◌≤◌, IfOk, OnOk, []};
 ghost use Rattle.poets_expr.specs.Env.{declared_of, itself};
 ghost use Rattle.poets_expr.specs.Expression.{expression_of};
 ghost use Rattle.poets_expr.specs.Val.{val};
 ghost use Rattle.poets_syntax.specs.Arguments as spec;
-ghost use Rattle.poets_syntax.specs.Book.{template_of, book_of};
-ghost use Rattle.poets_syntax.specs.Contract.{contract_of};
-ghost use Rattle.poets_syntax.specs.Residual.{argument_givens, body_of};
-ghost use Rattle.poets_syntax.specs.Studied.{marks_of};
+ghost use Rattle.poets_norm.specs.Asking.{to_ask};
 ghost use Rattle.poets_norm.specs.Questions.{operated, questions};
-ghost use Rattle.poets_cons.specs.Table.{Stands, Extends};
+ghost use Rattle.poets_norm.specs.Rows.{Enters};
+ghost use Rattle.poets_cons.specs.Table.{Extends};
+ghost use Rattle.poets_residue.specs.code.Bodies.{unfolded, with_body, AreGivens, Unfolds};
 
 use poets_cons::Arena;
 use poets_expr::{Asks, Decls, Env, Expr, Given, eval};
@@ -56,9 +55,9 @@ fn arguments<L>(
     args: &[Expr],
     asks: &mut Asks<L>,
 ) -> Result<List<(Name, Given)>, Memory>
-    ensures pairs { IfOk result (λ r. reverse r.items ≡ argument_givens (declared_of decls.now.names) params.now (map expression_of args.now)) }
+    ensures pairs { IfOk result (λ r. AreGivens decls.now params.now args.now r.items) }
     ensures rises { asks.old ≤ asks.new }
-    ensures asks { asks.new ≤ asks.old + sum_by operated (map expression_of args.now) }
+    ensures asks { asks.new ≤ asks.old + to_ask args.now }
 {
     let mut pairs = List::new(alloc);
     for (param, arg) in params.iter().zip(args) {
@@ -83,11 +82,11 @@ pub(crate) fn unfold<L>(
     asks: &mut Asks<L>,
 ) -> Result<usize, Memory>
     ensures grows { Extends arena.old arena.new }
-    ensures body { IfOk result (λ p. Stands arena.new p (body_of (book_of studied.now.book) (marks_of studied.now) (Some (template_of template.now)) (map expression_of args.now))) }
+    ensures body { Enters arena.new result (unfolded studied.now template.now args.now) }
     ensures rises { asks.old ≤ asks.new }
-    ensures asks { asks.new ≤ asks.old + sum_by operated (map expression_of args.now) + questions (contract_of template.now.body) }
-    ensures arguments { asks.new ≤ asks.old + sum_by operated (map expression_of args.now) + spec.arguments (contract_of template.now.body) }
-    ensures questions { OnOk result (asks.new + questions (body_of (book_of studied.now.book) (marks_of studied.now) (Some (template_of template.now)) (map expression_of args.now)) ≤ asks.old + sum_by operated (map expression_of args.now) + questions (contract_of template.now.body)) }
+    ensures asks { asks.new ≤ with_body questions template.now args.now asks.old }
+    ensures arguments { asks.new ≤ with_body spec.arguments template.now args.now asks.old }
+    ensures questions { OnOk result (Unfolds studied.now template.now args.now asks.old asks.new) }
 {
     let decls = &studied.book().decls;
     let pairs = arguments(alloc, decls, template.params.as_slice(), args, asks)?;

@@ -1,17 +1,16 @@
 //! Residuals of contracts as rows, each different row derived once.
-ghost use Rattle.std.specs.Prelude.{◌≡◌, ◌+◌, ◌≤◌, ◌<◌, IfOk, None, length};
-ghost use Rattle.poets_syntax.specs.Applied.{CountsFit};
+ghost use Rattle.std.specs.Prelude.{◌≡◌, ◌+◌, ◌≤◌, ◌<◌, None, length};
 ghost use Rattle.poets_syntax.specs.Book.{book_of};
 ghost use Rattle.poets_syntax.specs.Contract.{Plus, Par, Seq};
-ghost use Rattle.poets_syntax.specs.Residual.{after};
+ghost use Rattle.poets_syntax.specs.InStudied.{after_in, width_in, CountsFitIn};
 ghost use Rattle.poets_syntax.specs.Studied.{marks_of};
-ghost use Rattle.poets_syntax.specs.Width.{width};
+ghost use Rattle.poets_norm.specs.Rows.{joined_at, GivesRows};
 ghost use Rattle.poets_cons.specs.Notes.{noted};
 ghost use Rattle.poets_cons.specs.Table.{contract_at, contract_of_rows, Extends};
-ghost use Rattle.poets_residue.specs.code.Notes.{AreNotes, IsDerived, AsksInWidth};
-ghost use Rattle.poets_residue.specs.Once as spec;
-ghost use Rattle.poets_residue.specs.code.Spent.{IsNoted, IsNotedBut, IsSpent};
+ghost use Rattle.poets_residue.specs.Once.{once_in};
 ghost use Rattle.poets_residue.specs.Unfolding.{IsStudied};
+ghost use Rattle.poets_residue.specs.code.Notes.{AreNotesIn, AsksWithinWidth, Derives};
+ghost use Rattle.poets_residue.specs.code.Spent.{Spends, SpendsAnew};
 
 use crate::bodies::unfold;
 use crate::shared::{is_joined, may_end_at, sides};
@@ -37,13 +36,13 @@ fn derive<L>(
 ) -> Result<usize, Memory>
     requires studied { IsStudied (book_of studied.now.book) (marks_of studied.now) }
     requires within { place < length arena.old }
-    requires fits { CountsFit (book_of studied.now.book) (contract_at arena.old place) }
-    requires notes { AreNotes (book_of studied.now.book) (marks_of studied.now) event.now arena.old (noted memo.old) }
+    requires fits { CountsFitIn studied.now (contract_at arena.old place) }
+    requires notes { AreNotesIn studied.now event.now arena.old memo.old }
     ensures grows { Extends arena.old arena.new }
-    ensures derived { IfOk result (IsDerived (book_of studied.now.book) (marks_of studied.now) event.now arena.new (noted memo.new) (contract_at arena.old place)) }
+    ensures derived { Derives studied.now event.now arena.new memo.new result (contract_at arena.old place) }
     ensures rises { asks.old ≤ asks.new }
-    ensures asks { AsksInWidth (book_of studied.now.book) (marks_of studied.now) (contract_at arena.old place) asks.old asks.new }
-    ensures once { IsSpent (book_of studied.now.book) (marks_of studied.now) (contract_at arena.old place) (IsNoted arena.old (noted memo.old)) (IsNoted arena.new (noted memo.new)) asks.old asks.new result }
+    ensures asks { AsksWithinWidth studied.now (contract_at arena.old place) asks.old asks.new }
+    ensures once { Spends studied.now (contract_at arena.old place) arena.old memo.old arena.new memo.new asks.old asks.new result }
 {
     if let Some(known) = memo.get(place) {
         return Ok(known);
@@ -65,14 +64,14 @@ fn derive_anew<L>(
 ) -> Result<usize, Memory>
     requires studied { IsStudied (book_of studied.now.book) (marks_of studied.now) }
     requires within { place < length arena.old }
-    requires fits { CountsFit (book_of studied.now.book) (contract_at arena.old place) }
-    requires notes { AreNotes (book_of studied.now.book) (marks_of studied.now) event.now arena.old (noted memo.old) }
+    requires fits { CountsFitIn studied.now (contract_at arena.old place) }
+    requires notes { AreNotesIn studied.now event.now arena.old memo.old }
     requires new { noted memo.old place ≡ None }
     ensures grows { Extends arena.old arena.new }
-    ensures derived { IfOk result (IsDerived (book_of studied.now.book) (marks_of studied.now) event.now arena.new (noted memo.new) (contract_at arena.old place)) }
+    ensures derived { Derives studied.now event.now arena.new memo.new result (contract_at arena.old place) }
     ensures rises { asks.old ≤ asks.new }
-    ensures asks { AsksInWidth (book_of studied.now.book) (marks_of studied.now) (contract_at arena.old place) asks.old asks.new }
-    ensures once { IsSpent (book_of studied.now.book) (marks_of studied.now) (contract_at arena.old place) (IsNoted arena.old (noted memo.old)) (IsNotedBut (contract_at arena.old place) arena.new (noted memo.new)) asks.old asks.new result }
+    ensures asks { AsksWithinWidth studied.now (contract_at arena.old place) asks.old asks.new }
+    ensures once { SpendsAnew studied.now (contract_at arena.old place) arena.old memo.old arena.new memo.new asks.old asks.new result }
 {
     match arena.node(place) {
         Node::Success => failure(arena),
@@ -128,13 +127,13 @@ fn derive_plus<L>(
     requires studied { IsStudied (book_of studied.now.book) (marks_of studied.now) }
     requires first { a < length arena.old }
     requires second { b < length arena.old }
-    requires fits { CountsFit (book_of studied.now.book) (Plus (contract_at arena.old a) (contract_at arena.old b)) }
-    requires notes { AreNotes (book_of studied.now.book) (marks_of studied.now) event.now arena.old (noted memo.old) }
+    requires fits { CountsFitIn studied.now (joined_at Plus arena.old a b) }
+    requires notes { AreNotesIn studied.now event.now arena.old memo.old }
     ensures grows { Extends arena.old arena.new }
-    ensures derived { IfOk result (IsDerived (book_of studied.now.book) (marks_of studied.now) event.now arena.new (noted memo.new) (Plus (contract_at arena.old a) (contract_at arena.old b))) }
+    ensures derived { Derives studied.now event.now arena.new memo.new result (joined_at Plus arena.old a b) }
     ensures rises { asks.old ≤ asks.new }
-    ensures asks { AsksInWidth (book_of studied.now.book) (marks_of studied.now) (Plus (contract_at arena.old a) (contract_at arena.old b)) asks.old asks.new }
-    ensures once { IsSpent (book_of studied.now.book) (marks_of studied.now) (Plus (contract_at arena.old a) (contract_at arena.old b)) (IsNoted arena.old (noted memo.old)) (IsNoted arena.new (noted memo.new)) asks.old asks.new result }
+    ensures asks { AsksWithinWidth studied.now (joined_at Plus arena.old a b) asks.old asks.new }
+    ensures once { Spends studied.now (joined_at Plus arena.old a b) arena.old memo.old arena.new memo.new asks.old asks.new result }
 {
     let after_a = derive(alloc, studied, event, arena, memo, a, asks)?;
     let after_b = derive(alloc, studied, event, arena, memo, b, asks)?;
@@ -158,13 +157,13 @@ fn derive_par<L>(
     requires studied { IsStudied (book_of studied.now.book) (marks_of studied.now) }
     requires first { a < length arena.old }
     requires second { b < length arena.old }
-    requires fits { CountsFit (book_of studied.now.book) (Par (contract_at arena.old a) (contract_at arena.old b)) }
-    requires notes { AreNotes (book_of studied.now.book) (marks_of studied.now) event.now arena.old (noted memo.old) }
+    requires fits { CountsFitIn studied.now (joined_at Par arena.old a b) }
+    requires notes { AreNotesIn studied.now event.now arena.old memo.old }
     ensures grows { Extends arena.old arena.new }
-    ensures derived { IfOk result (IsDerived (book_of studied.now.book) (marks_of studied.now) event.now arena.new (noted memo.new) (Par (contract_at arena.old a) (contract_at arena.old b))) }
+    ensures derived { Derives studied.now event.now arena.new memo.new result (joined_at Par arena.old a b) }
     ensures rises { asks.old ≤ asks.new }
-    ensures asks { AsksInWidth (book_of studied.now.book) (marks_of studied.now) (Par (contract_at arena.old a) (contract_at arena.old b)) asks.old asks.new }
-    ensures once { IsSpent (book_of studied.now.book) (marks_of studied.now) (Par (contract_at arena.old a) (contract_at arena.old b)) (IsNoted arena.old (noted memo.old)) (IsNoted arena.new (noted memo.new)) asks.old asks.new result }
+    ensures asks { AsksWithinWidth studied.now (joined_at Par arena.old a b) asks.old asks.new }
+    ensures once { Spends studied.now (joined_at Par arena.old a b) arena.old memo.old arena.new memo.new asks.old asks.new result }
 {
     let after_a = derive(alloc, studied, event, arena, memo, a, asks)?;
     let after_b = derive(alloc, studied, event, arena, memo, b, asks)?;
@@ -186,13 +185,13 @@ fn derive_seq<L>(
     requires studied { IsStudied (book_of studied.now.book) (marks_of studied.now) }
     requires first { a < length arena.old }
     requires second { b < length arena.old }
-    requires fits { CountsFit (book_of studied.now.book) (Seq (contract_at arena.old a) (contract_at arena.old b)) }
-    requires notes { AreNotes (book_of studied.now.book) (marks_of studied.now) event.now arena.old (noted memo.old) }
+    requires fits { CountsFitIn studied.now (joined_at Seq arena.old a b) }
+    requires notes { AreNotesIn studied.now event.now arena.old memo.old }
     ensures grows { Extends arena.old arena.new }
-    ensures derived { IfOk result (IsDerived (book_of studied.now.book) (marks_of studied.now) event.now arena.new (noted memo.new) (Seq (contract_at arena.old a) (contract_at arena.old b))) }
+    ensures derived { Derives studied.now event.now arena.new memo.new result (joined_at Seq arena.old a b) }
     ensures rises { asks.old ≤ asks.new }
-    ensures asks { AsksInWidth (book_of studied.now.book) (marks_of studied.now) (Seq (contract_at arena.old a) (contract_at arena.old b)) asks.old asks.new }
-    ensures once { IsSpent (book_of studied.now.book) (marks_of studied.now) (Seq (contract_at arena.old a) (contract_at arena.old b)) (IsNoted arena.old (noted memo.old)) (IsNoted arena.new (noted memo.new)) asks.old asks.new result }
+    ensures asks { AsksWithinWidth studied.now (joined_at Seq arena.old a b) asks.old asks.new }
+    ensures once { Spends studied.now (joined_at Seq arena.old a b) arena.old memo.old arena.new memo.new asks.old asks.new result }
 {
     let after_a = derive(alloc, studied, event, arena, memo, a, asks)?;
     let first = seq(arena, after_a, b)?;
@@ -212,11 +211,11 @@ pub fn residual_rows<L>(
     event: &Event,
     asks: &mut Asks<L>,
 ) -> Result<Rows, Memory>
-    requires { CountsFit (book_of studied.now.book) (contract_of_rows rows.now) }
-    ensures residual { IfOk result (λ r. contract_of_rows r ≡ after (book_of studied.now.book) (marks_of studied.now) event.now (contract_of_rows rows.now)) }
+    requires { CountsFitIn studied.now (contract_of_rows rows.now) }
+    ensures residual { GivesRows result (after_in studied.now event.now (contract_of_rows rows.now)) }
     ensures rises { asks.old ≤ asks.new }
-    ensures asks { asks.new ≤ asks.old + width (book_of studied.now.book) (marks_of studied.now) (contract_of_rows rows.now) }
-    ensures once { asks.new ≤ asks.old + spec.once (book_of studied.now.book) (marks_of studied.now) (contract_of_rows rows.now) }
+    ensures asks { asks.new ≤ asks.old + width_in studied.now (contract_of_rows rows.now) }
+    ensures once { asks.new ≤ asks.old + once_in studied.now (contract_of_rows rows.now) }
 {
     // The book is checked and guarded, and the marks are right.
     let _book = studied.book();

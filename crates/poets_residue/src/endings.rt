@@ -1,9 +1,8 @@
 //! Contracts that may end.
 ghost use Rattle.std.specs.Prelude.{◌≡◌, ◌↔◌, IsTrue, []};
-ghost use Rattle.poets_syntax.specs.Applied.{CountsFit};
 ghost use Rattle.poets_syntax.specs.Book.{book_of};
 ghost use Rattle.poets_syntax.specs.Contract.{contract_of};
-ghost use Rattle.poets_syntax.specs.Marks as marks;
+ghost use Rattle.poets_syntax.specs.InStudied.{nullable_in, CountsFitIn};
 ghost use Rattle.poets_syntax.specs.Perf.{Perf};
 ghost use Rattle.poets_syntax.specs.Studied.{marks_of};
 
@@ -12,7 +11,7 @@ use poets_value::Name;
 
 /// Whether the empty trace performs the contract.
 pub fn may_end(studied: &Studied, term: &Term) -> bool
-    requires { CountsFit (book_of studied.now.book) (contract_of term.now) }
+    requires { CountsFitIn studied.now (contract_of term.now) }
     ensures { IsTrue result ↔ Perf (book_of studied.now.book) [] (contract_of term.now) [] }
 {
     // The marks are right.
@@ -31,7 +30,7 @@ pub(crate) fn is_marked(studied: &Studied, name: Name) -> bool
 
 // Whether the forms of the contract and the marks of its templates let it end.
 pub(crate) fn nullable(studied: &Studied, term: &Term) -> bool
-    ensures { result ≡ marks.nullable (marks_of studied.now) (contract_of term.now) }
+    ensures { result ≡ nullable_in studied.now (contract_of term.now) }
 {
     match term {
         Term::Success => true,

@@ -1,12 +1,9 @@
 //! Residuals.
-ghost use Rattle.std.specs.Prelude.{◌≡◌, ◌+◌, ◌≤◌, IfOk};
-ghost use Rattle.poets_syntax.specs.Applied.{CountsFit};
-ghost use Rattle.poets_syntax.specs.Book.{book_of};
+ghost use Rattle.std.specs.Prelude.{◌+◌, ◌≤◌};
 ghost use Rattle.poets_syntax.specs.Contract.{contract_of};
-ghost use Rattle.poets_syntax.specs.Residual.{after};
-ghost use Rattle.poets_syntax.specs.Studied.{marks_of};
-ghost use Rattle.poets_syntax.specs.Width.{width};
-ghost use Rattle.poets_residue.specs.Once as spec;
+ghost use Rattle.poets_syntax.specs.InStudied.{after_in, width_in, CountsFitIn};
+ghost use Rattle.poets_syntax.specs.Results.{GivesContract};
+ghost use Rattle.poets_residue.specs.Once.{once_in};
 
 use crate::derivation::residual_rows;
 use poets_cons::{of_term, to_term};
@@ -25,11 +22,11 @@ pub fn residual<L>(
     event: &Event,
     asks: &mut Asks<L>,
 ) -> Result<Term, Memory>
-    requires { CountsFit (book_of studied.now.book) (contract_of term.now) }
-    ensures residual { IfOk result (λ r. contract_of r ≡ after (book_of studied.now.book) (marks_of studied.now) event.now (contract_of term.now)) }
+    requires { CountsFitIn studied.now (contract_of term.now) }
+    ensures residual { GivesContract result (after_in studied.now event.now (contract_of term.now)) }
     ensures rises { asks.old ≤ asks.new }
-    ensures asks { asks.new ≤ asks.old + width (book_of studied.now.book) (marks_of studied.now) (contract_of term.now) }
-    ensures once { asks.new ≤ asks.old + spec.once (book_of studied.now.book) (marks_of studied.now) (contract_of term.now) }
+    ensures asks { asks.new ≤ asks.old + width_in studied.now (contract_of term.now) }
+    ensures once { asks.new ≤ asks.old + once_in studied.now (contract_of term.now) }
 {
     let rows = of_term(alloc, term)?;
     let left = residual_rows(alloc, studied, &rows, event, asks)?;

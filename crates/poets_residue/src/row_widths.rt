@@ -2,12 +2,8 @@
 ghost use Rattle.std.specs.Prelude.{◌≡◌, ◌+◌, ◌-◌, ◌≤◌, ◌<◌, false, length, map};
 ghost use Rattle.poets_expr.specs.Expression.{expression_of};
 ghost use Rattle.poets_expr.specs.Size.{nodes_of_all};
-ghost use Rattle.poets_syntax.specs.Applied.{CountsFit};
-ghost use Rattle.poets_syntax.specs.Book.{book_of, template_in};
-ghost use Rattle.poets_syntax.specs.Marks as marks;
-ghost use Rattle.poets_syntax.specs.Studied.{marks_of};
-ghost use Rattle.poets_syntax.specs.Width.{size, body_in, wide_by, width, widest};
-ghost use Rattle.poets_syntax.specs.Width as spec;
+ghost use Rattle.poets_syntax.specs.InStudied.{nullable_in, width_by_bodies, wide_in, CountsFitIn};
+ghost use Rattle.poets_syntax.specs.Width.{size, widest};
 ghost use Rattle.poets_cons.specs.Table.{contract_at, contract_of_rows, IsTable};
 
 use poets_cons::{Node, Rows, node_at};
@@ -77,8 +73,8 @@ fn measure(studied: &Studied, nodes: &[Node], place: usize, left: u64) -> Measur
     requires table { IsTable nodes.now }
     requires within { place < length nodes.now }
     requires cut { left ≤ 1 + widest }
-    ensures left { result.left ≡ left - wide_by (λ f. body_in (template_in (book_of studied.now.book).templates f) (width (book_of studied.now.book) (marks_of studied.now))) (marks_of studied.now) (contract_at nodes.now place) }
-    ensures nullable { 0 < result.left → result.nullable ≡ marks.nullable (marks_of studied.now) (contract_at nodes.now place) }
+    ensures left { result.left ≡ left - width_by_bodies studied.now (contract_at nodes.now place) }
+    ensures nullable { 0 < result.left → result.nullable ≡ nullable_in studied.now (contract_at nodes.now place) }
 {
     if left == 0 {
         return unexposed(nodes, place, left);
@@ -130,8 +126,8 @@ fn measure(studied: &Studied, nodes: &[Node], place: usize, left: u64) -> Measur
 
 /// The width of the contract of the rows, cut at one more than the greatest.
 pub fn wide_rows(studied: &Studied, rows: &Rows) -> u64
-    requires { CountsFit (book_of studied.now.book) (contract_of_rows rows.now) }
-    ensures { result ≡ spec.cut (width (book_of studied.now.book) (marks_of studied.now) (contract_of_rows rows.now)) }
+    requires { CountsFitIn studied.now (contract_of_rows rows.now) }
+    ensures { result ≡ wide_in studied.now (contract_of_rows rows.now) }
 {
     // The book is checked and guarded, and the marks are right.
     let _book = studied.book();

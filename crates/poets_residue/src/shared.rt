@@ -1,15 +1,11 @@
 //! Contracts as rows that may end, and the joined residuals of their parts.
-ghost use Rattle.std.specs.Prelude.{◌≡◌, ◌<◌, ◌↔◌, IfOk, IsTrue, length, []};
-ghost use Rattle.poets_syntax.specs.Applied.{CountsFit};
+ghost use Rattle.std.specs.Prelude.{◌≡◌, ◌<◌, ◌↔◌, IsTrue, length, []};
 ghost use Rattle.poets_syntax.specs.Book.{book_of};
-ghost use Rattle.poets_syntax.specs.Marks as marks;
-ghost use Rattle.poets_syntax.specs.Normal as normal;
+ghost use Rattle.poets_syntax.specs.InStudied.{nullable_in, CountsFitIn};
 ghost use Rattle.poets_syntax.specs.Perf.{Perf};
-ghost use Rattle.poets_syntax.specs.Residual.{after};
-ghost use Rattle.poets_syntax.specs.Studied.{marks_of};
-ghost use Rattle.poets_value.specs.declared.event.Event.{Event as TheEvent};
-ghost use Rattle.poets_norm.specs.Choices.{IsDistinctChoice};
-ghost use Rattle.poets_cons.specs.Table.{contract_at, contract_of_rows, IsTable, Stands, Extends};
+ghost use Rattle.poets_norm.specs.Rows.{Enters};
+ghost use Rattle.poets_cons.specs.Table.{contract_at, contract_of_rows, IsTable, Extends};
+ghost use Rattle.poets_residue.specs.code.Sides.{sides_at, LeavesChoices};
 
 use crate::endings::is_marked;
 use poets_cons::{Arena, Node, Rows, node_at};
@@ -19,7 +15,7 @@ use poets_value::Memory;
 
 /// Whether the empty trace performs the contract of the rows.
 pub fn may_end_rows(studied: &Studied, rows: &Rows) -> bool
-    requires { CountsFit (book_of studied.now.book) (contract_of_rows rows.now) }
+    requires { CountsFitIn studied.now (contract_of_rows rows.now) }
     ensures { IsTrue result ↔ Perf (book_of studied.now.book) [] (contract_of_rows rows.now) [] }
 {
     // The marks are right.
@@ -33,7 +29,7 @@ pub fn may_end_rows(studied: &Studied, rows: &Rows) -> bool
 pub(crate) fn may_end_at(studied: &Studied, nodes: &[Node], place: usize) -> bool
     requires table { IsTable nodes.now }
     requires within { place < length nodes.now }
-    ensures { result ≡ marks.nullable (marks_of studied.now) (contract_at nodes.now place) }
+    ensures { result ≡ nullable_in studied.now (contract_at nodes.now place) }
 {
     match node_at(nodes, place) {
         Node::Success => true,
@@ -50,7 +46,7 @@ pub(crate) fn may_end_at(studied: &Studied, nodes: &[Node], place: usize) -> boo
 pub(crate) fn is_joined(studied: &Studied, nodes: &[Node], place: usize) -> bool
     requires table { IsTable nodes.now }
     requires within { place < length nodes.now }
-    ensures { IsTrue result → (e : TheEvent) → IsDistinctChoice (after (book_of studied.now.book) (marks_of studied.now) e (contract_at nodes.now place)) }
+    ensures { IsTrue result → LeavesChoices studied.now (contract_at nodes.now place) }
 {
     match node_at(nodes, place) {
         Node::Seq(a, _) => may_end_at(studied, nodes, *a),
@@ -71,7 +67,7 @@ pub(crate) fn sides(
     requires after_first { after_a < length arena.old }
     requires after_second { after_b < length arena.old }
     ensures grows { Extends arena.old arena.new }
-    ensures stands { IfOk result (λ p. Stands arena.new p (normal.plus (normal.par (contract_at arena.old after_a) (contract_at arena.old b)) (normal.par (contract_at arena.old a) (contract_at arena.old after_b)))) }
+    ensures stands { Enters arena.new result (sides_at arena.old a b after_a after_b) }
 {
     let first = par(arena, after_a, b)?;
     let second = par(arena, a, after_b)?;

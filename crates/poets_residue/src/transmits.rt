@@ -1,18 +1,12 @@
 //! Transmissions that take an event or refuse it.
-ghost use Rattle.std.specs.Prelude.{◌≡◌, ◌+◌, ◌≤◌, ◌<◌, IfOk, length, reverse, []};
-ghost use Rattle.poets_expr.specs.Env.{declared_of};
-ghost use Rattle.poets_expr.specs.Expression.{expression_of};
-ghost use Rattle.poets_expr.specs.Val.{val};
+ghost use Rattle.std.specs.Prelude.{◌≡◌, ◌+◌, ◌≤◌, ◌<◌, length, reverse};
 ghost use Rattle.poets_syntax.specs.Arguments.{arguments};
-ghost use Rattle.poets_syntax.specs.Book.{book_of, taken};
-ghost use Rattle.poets_syntax.specs.Contract.{Transmit};
-ghost use Rattle.poets_syntax.specs.Normal as normal;
-ghost use Rattle.poets_syntax.specs.Replace.{replace};
-ghost use Rattle.poets_syntax.specs.Residual.{after, is_true};
+ghost use Rattle.poets_syntax.specs.InStudied.{after_in};
 ghost use Rattle.poets_syntax.specs.Residual as spec;
-ghost use Rattle.poets_syntax.specs.Studied.{marks_of};
 ghost use Rattle.poets_norm.specs.Questions.{questions};
-ghost use Rattle.poets_cons.specs.Table.{contract_at, Stands, Extends};
+ghost use Rattle.poets_norm.specs.Rows.{Enters};
+ghost use Rattle.poets_cons.specs.Table.{contract_at, Extends};
+ghost use Rattle.poets_residue.specs.code.Taking.{holds_of, sending, taken_at};
 
 use poets_cons::{Arena, replaced_at};
 use poets_expr::{Asks, Decls, Env, Expr, Given, eval};
@@ -58,7 +52,7 @@ fn holds<L>(
     event: &Event,
     asks: &mut Asks<L>,
 ) -> bool
-    ensures value { result ≡ is_true (val (declared_of decls.now.names) (taken binders.now event.now []) (expression_of when.now)) }
+    ensures value { result ≡ holds_of decls.now binders.now event.now when.now }
     ensures rises { asks.old ≤ asks.new }
     ensures asks { asks.new ≤ asks.old + 1 }
 {
@@ -92,7 +86,7 @@ fn taken_on<L>(
 ) -> Result<usize, Memory>
     requires { then < length arena.old }
     ensures grows { Extends arena.old arena.new }
-    ensures residual { IfOk result (λ p. Stands arena.new p (normal.normal (book_of studied.now.book) (marks_of studied.now) (replace (spec.event_givens binders.now event.now) (contract_at arena.old then)))) }
+    ensures residual { Enters arena.new result (taken_at studied.now binders.now event.now arena.old then) }
     ensures rises { asks.old ≤ asks.new }
     ensures asks { asks.new ≤ asks.old + questions (contract_at arena.old then) }
     ensures arguments { asks.new ≤ asks.old + arguments (contract_at arena.old then) }
@@ -115,9 +109,9 @@ pub(crate) fn transmit_at<L>(
 ) -> Result<usize, Memory>
     requires { then < length arena.old }
     ensures grows { Extends arena.old arena.new }
-    ensures residual { IfOk result (λ p. Stands arena.new p (after (book_of studied.now.book) (marks_of studied.now) event.now (Transmit binders.now (expression_of when.now) (contract_at arena.old then)))) }
+    ensures residual { Enters arena.new result (after_in studied.now event.now (sending binders.now when.now arena.old then)) }
     ensures rises { asks.old ≤ asks.new }
-    ensures asks { asks.new ≤ asks.old + questions (Transmit binders.now (expression_of when.now) (contract_at arena.old then)) }
+    ensures asks { asks.new ≤ asks.old + questions (sending binders.now when.now arena.old then) }
     ensures once { asks.new ≤ asks.old + 1 + arguments (contract_at arena.old then) }
 {
     if !holds(&studied.book().decls, binders, when, event, asks) {

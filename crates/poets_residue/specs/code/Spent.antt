@@ -1,11 +1,14 @@
 -- What a call that derives a contract asks, by the transmits and applications that it begins.
 use Rattle.std.specs.Prelude.{◌≡◌, ◌+◌, ◌≤◌, ◌⊎◌, ℕ, true, List, sum_by, Option, Some, Result, IfOk}
 use Rattle.std.specs.List.{IsDistinct, list_any}
+use Rattle.poets_syntax.specs.Book.{book_of}
 use Rattle.poets_syntax.specs.Contract.{Contract}
 use Rattle.poets_syntax.specs.Same.{same_contract}
 use Rattle.poets_syntax.specs.Plain.{Book}
 use Rattle.poets_syntax.specs.Marks.{Marks}
+use Rattle.poets_syntax.specs.Studied.{StudiedBook, marks_of}
 use Rattle.poets_cons.specs.declared.node.Node.{Node}
+use Rattle.poets_cons.specs.Notes.{noted}
 use Rattle.poets_cons.specs.Table.{contract_at}
 use Rattle.poets_residue.specs.Once.{ready, asked_of, IsAmong}
 
@@ -27,3 +30,15 @@ pub record IsSpent (book : Book) (marks : Marks) (c : Contract) (Before After : 
   pub noted : IfOk r (λ _. (d : Contract) → IsAmong d begun → After d)
   pub kept : IfOk r (λ _. (d : Contract) → Before d → After d)
   pub asks : new ≤ old + sum_by (asked_of book) begun
+
+-- so it is in a studied book, where a memo notes rows of a table before the call and after it
+abbrev pub Spends : {E : Type 0} → StudiedBook → Contract → (nodes : List Node) → (memo : List (Option ℕ)) →
+    (new_nodes : List Node) → (new_memo : List (Option ℕ)) → (old new : ℕ) → Result ℕ E → Type 0
+Spends s c nodes memo new_nodes new_memo old new result =
+    IsSpent (book_of s.book) (marks_of s) c (IsNoted nodes (noted memo)) (IsNoted new_nodes (noted new_memo)) old new result
+
+-- so it is where the contract itself is yet to be noted
+abbrev pub SpendsAnew : {E : Type 0} → StudiedBook → Contract → (nodes : List Node) → (memo : List (Option ℕ)) →
+    (new_nodes : List Node) → (new_memo : List (Option ℕ)) → (old new : ℕ) → Result ℕ E → Type 0
+SpendsAnew s c nodes memo new_nodes new_memo old new result =
+    IsSpent (book_of s.book) (marks_of s) c (IsNoted nodes (noted memo)) (IsNotedBut c new_nodes (noted new_memo)) old new result
