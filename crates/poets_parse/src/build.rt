@@ -4,6 +4,7 @@ ghost use Rattle.poets_expr.specs.Expression.{expression_of, Make, Binary, If};
 ghost use Rattle.poets_syntax.specs.Contract.{contract_of};
 ghost use Rattle.poets_call.specs.Calls.{command_of};
 ghost use Rattle.poets_call.specs.Plain as plain;
+ghost use Rattle.poets_parse.specs.code.Gives.{Makes};
 
 use poets_call::Command;
 use poets_expr::build::boxed;
@@ -15,7 +16,7 @@ use std::sync::Arc;
 
 // Two operands under an operator.
 pub(crate) fn binary(alloc: Global, op: Op, left: Expr, right: Expr) -> Result<Expr, Memory>
-    ensures { IfOk result (λ e. expression_of e ≡ Binary op (expression_of left) (expression_of right)) }
+    ensures { Makes result (Binary op (expression_of left) (expression_of right)) }
 {
     let left = boxed(alloc, left)?;
     let right = boxed(alloc, right)?;
@@ -24,7 +25,7 @@ pub(crate) fn binary(alloc: Global, op: Op, left: Expr, right: Expr) -> Result<E
 
 // The resource of an amount and a kind.
 pub(crate) fn made(alloc: Global, amount: Expr, kind: Expr) -> Result<Expr, Memory>
-    ensures { IfOk result (λ e. expression_of e ≡ Make (expression_of amount) (expression_of kind)) }
+    ensures { Makes result (Make (expression_of amount) (expression_of kind)) }
 {
     let amount = boxed(alloc, amount)?;
     let kind = boxed(alloc, kind)?;
@@ -38,7 +39,7 @@ pub(crate) fn conditional(
     yes: Expr,
     no: Expr,
 ) -> Result<Expr, Memory>
-    ensures { IfOk result (λ e. expression_of e ≡ If (expression_of condition) (expression_of yes) (expression_of no)) }
+    ensures { Makes result (If (expression_of condition) (expression_of yes) (expression_of no)) }
 {
     let condition = boxed(alloc, condition)?;
     let yes = boxed(alloc, yes)?;

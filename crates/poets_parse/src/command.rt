@@ -1,10 +1,8 @@
 //! Commands, each after its word and up to the end of the statement.
-ghost use Rattle.std.specs.Prelude.{◌≡◌, map};
-ghost use Rattle.poets_expr.specs.Expression.{expression_of};
 ghost use Rattle.poets_call.specs.Calls.{command_of};
 ghost use Rattle.poets_grammar.specs.Tokens.{toks};
 ghost use Rattle.poets_grammar.specs.StatementReading as reading;
-ghost use Rattle.poets_parse.specs.code.Gives.{Gives};
+ghost use Rattle.poets_parse.specs.code.Gives.{Gives, expressions_of};
 
 use crate::build::registration;
 use crate::contract::whole_contract;
@@ -29,7 +27,7 @@ pub(crate) fn whole_names(alloc: Global, tokens: &[Token]) -> Result<List<Name>,
 // "(" [ expression { "," expression } ] ")", up to the end
 #[tactic(auto, unfolding(poets_grammar::specs::StatementReading::whole_arguments))]
 fn whole_arguments(alloc: Global, tokens: &[Token]) -> Result<List<Expr>, ReadFault>
-    ensures { Gives (λ args. map expression_of args.items) result (reading.whole_arguments (toks tokens.now)) }
+    ensures { Gives expressions_of result (reading.whole_arguments (toks tokens.now)) }
 {
     let (args, rest) = arguments(alloc, tokens)?;
     whole(args, rest)

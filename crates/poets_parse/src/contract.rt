@@ -3,7 +3,7 @@ ghost use Rattle.std.specs.Prelude.{◌≡◌};
 ghost use Rattle.poets_syntax.specs.Contract.{contract_of};
 ghost use Rattle.poets_grammar.specs.Tokens.{toks};
 ghost use Rattle.poets_grammar.specs.ContractReading as reading;
-ghost use Rattle.poets_parse.specs.code.Gives.{Gives, GivesFront, LeavesLess};
+ghost use Rattle.poets_parse.specs.code.Gives.{Gives, GivesFront, GivesContract, LeavesLess};
 
 use crate::expression::expression;
 use crate::fault::ReadFault;
@@ -34,7 +34,7 @@ pub(crate) fn contract(alloc: Global, tokens: &[Token]) -> Result<(Term, &[Token
 #[tactic(auto, using(crate::proofs::Loops::joining), unfolding(poets_grammar::specs::ContractReading::parallel))]
 #[cycle(contract)]
 fn parallel(alloc: Global, tokens: &[Token]) -> Result<(Term, &[Token]), ReadFault>
-    ensures gives { GivesFront contract_of result (reading.parallel reading.simple (toks tokens.now)) }
+    ensures gives { GivesContract reading.parallel tokens.now result }
     ensures shorter { LeavesLess tokens.now result }
 {
     let (mut left, mut rest) = sequence(alloc, tokens)?;
@@ -50,7 +50,7 @@ fn parallel(alloc: Global, tokens: &[Token]) -> Result<(Term, &[Token]), ReadFau
 #[tactic(auto, using(crate::proofs::Loops::joining), unfolding(poets_grammar::specs::ContractReading::sequence))]
 #[cycle(contract)]
 fn sequence(alloc: Global, tokens: &[Token]) -> Result<(Term, &[Token]), ReadFault>
-    ensures gives { GivesFront contract_of result (reading.sequence reading.simple (toks tokens.now)) }
+    ensures gives { GivesContract reading.sequence tokens.now result }
     ensures shorter { LeavesLess tokens.now result }
 {
     let (mut left, mut rest) = simple(alloc, tokens)?;
@@ -83,7 +83,7 @@ fn simple(alloc: Global, tokens: &[Token]) -> Result<(Term, &[Token]), ReadFault
 #[tactic(auto, unfolding(poets_grammar::specs::ContractReading::closed_contract, poets_grammar::specs::ContractReading::contract))]
 #[cycle(contract)]
 fn closed(alloc: Global, tokens: &[Token]) -> Result<(Term, &[Token]), ReadFault>
-    ensures gives { GivesFront contract_of result (reading.closed_contract reading.simple (toks tokens.now)) }
+    ensures gives { GivesContract reading.closed_contract tokens.now result }
     ensures shorter { LeavesLess tokens.now result }
 {
     let (inside, rest) = contract(alloc, tokens)?;
@@ -95,7 +95,7 @@ fn closed(alloc: Global, tokens: &[Token]) -> Result<(Term, &[Token]), ReadFault
 #[tactic(auto, unfolding(poets_grammar::specs::ContractReading::transmit))]
 #[cycle(contract)]
 fn transmit(alloc: Global, tokens: &[Token]) -> Result<(Term, &[Token]), ReadFault>
-    ensures gives { GivesFront contract_of result (reading.transmit reading.simple (toks tokens.now)) }
+    ensures gives { GivesContract reading.transmit tokens.now result }
     ensures shorter { LeavesLess tokens.now result }
 {
     let rest = sign(Sign::LeftParen, tokens)?;

@@ -1,11 +1,10 @@
 //! Templates and reports, each after its word and up to the end of the statement.
-ghost use Rattle.std.specs.Prelude.{◌≡◌, option_map};
 ghost use Rattle.poets_expr.specs.Expression.{expression_of};
 ghost use Rattle.poets_call.specs.Statements.{statement_of};
 ghost use Rattle.poets_grammar.specs.Tokens.{toks};
 ghost use Rattle.poets_grammar.specs.Reading as expressions;
 ghost use Rattle.poets_grammar.specs.StatementReading as reading;
-ghost use Rattle.poets_parse.specs.code.Gives.{Gives, GivesFront};
+ghost use Rattle.poets_parse.specs.code.Gives.{Gives, GivesFront, head_of, start_of, step_of};
 
 use crate::contract::whole_contract;
 use crate::expression::expression;
@@ -38,7 +37,7 @@ fn report_head(
     alloc: Global,
     tokens: &[Token],
 ) -> Result<((Name, List<Param>, Ty), &[Token]), ReadFault>
-    ensures { GivesFront (λ head. (head.0, head.1.items, head.2)) result (reading.report_head (toks tokens.now)) }
+    ensures { GivesFront head_of result (reading.report_head (toks tokens.now)) }
 {
     let (name, rest) = name(tokens)?;
     let (params, rest) = parameters(alloc, rest)?;
@@ -51,7 +50,7 @@ fn report_head(
 // "fold" NAME "=" expression
 #[tactic(auto, unfolding(poets_grammar::specs::StatementReading::report_start))]
 fn report_start(alloc: Global, tokens: &[Token]) -> Result<((Name, Expr), &[Token]), ReadFault>
-    ensures { GivesFront (λ start. (start.0, expression_of start.1)) result (reading.report_start (toks tokens.now)) }
+    ensures { GivesFront start_of result (reading.report_start (toks tokens.now)) }
 {
     let rest = word(Word::Fold, tokens)?;
     let (carry, rest) = name(rest)?;
@@ -85,7 +84,7 @@ fn whole_expression(alloc: Global, tokens: &[Token]) -> Result<Expr, ReadFault>
 // expression [ "by" expression ]
 #[tactic(auto, unfolding(poets_grammar::specs::StatementReading::report_step))]
 fn report_step(alloc: Global, tokens: &[Token]) -> Result<(Expr, Option<Expr>), ReadFault>
-    ensures { Gives (λ r. (expression_of r.0, option_map expression_of r.1)) result (reading.report_step (toks tokens.now)) }
+    ensures { Gives step_of result (reading.report_step (toks tokens.now)) }
 {
     let (step, rest) = expression(alloc, tokens)?;
     match behind_word(Word::By, rest) {

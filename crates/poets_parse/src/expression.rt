@@ -3,7 +3,7 @@ ghost use Rattle.std.specs.Prelude.{◌≡◌, ◌≤◌, length, IfOk};
 ghost use Rattle.poets_expr.specs.Expression.{expression_of, AmountOf, KindOf};
 ghost use Rattle.poets_grammar.specs.Tokens.{toks};
 ghost use Rattle.poets_grammar.specs.Reading as reading;
-ghost use Rattle.poets_parse.specs.code.Gives.{GivesFront, LeavesLess};
+ghost use Rattle.poets_parse.specs.code.Gives.{GivesFront, GivesExpression, LeavesLess};
 
 use crate::build;
 use crate::fault::ReadFault;
@@ -36,7 +36,7 @@ pub(crate) fn expression(alloc: Global, tokens: &[Token]) -> Result<(Expr, &[Tok
 #[tactic(auto, using(crate::proofs::Loops::joining), unfolding(poets_grammar::specs::Reading::conjunction))]
 #[cycle(expression)]
 fn conjunction(alloc: Global, tokens: &[Token]) -> Result<(Expr, &[Token]), ReadFault>
-    ensures gives { GivesFront expression_of result (reading.conjunction reading.expression (toks tokens.now)) }
+    ensures gives { GivesExpression reading.conjunction tokens.now result }
     ensures shorter { LeavesLess tokens.now result }
 {
     let (mut left, mut rest) = negation(alloc, tokens)?;
@@ -52,7 +52,7 @@ fn conjunction(alloc: Global, tokens: &[Token]) -> Result<(Expr, &[Token]), Read
 #[tactic(auto, unfolding(poets_grammar::specs::Reading::negation))]
 #[cycle(expression)]
 fn negation(alloc: Global, tokens: &[Token]) -> Result<(Expr, &[Token]), ReadFault>
-    ensures gives { GivesFront expression_of result (reading.negation reading.expression (toks tokens.now)) }
+    ensures gives { GivesExpression reading.negation tokens.now result }
     ensures shorter { LeavesLess tokens.now result }
 {
     let Some(rest) = behind_word(Word::Not, tokens) else {
@@ -66,7 +66,7 @@ fn negation(alloc: Global, tokens: &[Token]) -> Result<(Expr, &[Token]), ReadFau
 #[tactic(auto, unfolding(poets_grammar::specs::Reading::comparison))]
 #[cycle(expression)]
 fn comparison(alloc: Global, tokens: &[Token]) -> Result<(Expr, &[Token]), ReadFault>
-    ensures gives { GivesFront expression_of result (reading.comparison reading.expression (toks tokens.now)) }
+    ensures gives { GivesExpression reading.comparison tokens.now result }
     ensures shorter { LeavesLess tokens.now result }
 {
     let (left, rest) = sum(alloc, tokens)?;
@@ -85,7 +85,7 @@ fn comparison(alloc: Global, tokens: &[Token]) -> Result<(Expr, &[Token]), ReadF
 #[tactic(auto, using(crate::proofs::Loops::joining), unfolding(poets_grammar::specs::Reading::sum))]
 #[cycle(expression)]
 fn sum(alloc: Global, tokens: &[Token]) -> Result<(Expr, &[Token]), ReadFault>
-    ensures gives { GivesFront expression_of result (reading.sum reading.expression (toks tokens.now)) }
+    ensures gives { GivesExpression reading.sum tokens.now result }
     ensures shorter { LeavesLess tokens.now result }
 {
     let (mut left, mut rest) = product(alloc, tokens)?;
@@ -101,7 +101,7 @@ fn sum(alloc: Global, tokens: &[Token]) -> Result<(Expr, &[Token]), ReadFault>
 #[tactic(auto, using(crate::proofs::Loops::joining), unfolding(poets_grammar::specs::Reading::product))]
 #[cycle(expression)]
 fn product(alloc: Global, tokens: &[Token]) -> Result<(Expr, &[Token]), ReadFault>
-    ensures gives { GivesFront expression_of result (reading.product reading.expression (toks tokens.now)) }
+    ensures gives { GivesExpression reading.product tokens.now result }
     ensures shorter { LeavesLess tokens.now result }
 {
     let (mut left, mut rest) = prefixed(alloc, tokens)?;
@@ -117,7 +117,7 @@ fn product(alloc: Global, tokens: &[Token]) -> Result<(Expr, &[Token]), ReadFaul
 #[tactic(auto, unfolding(poets_grammar::specs::Reading::prefixed))]
 #[cycle(expression)]
 fn prefixed(alloc: Global, tokens: &[Token]) -> Result<(Expr, &[Token]), ReadFault>
-    ensures gives { GivesFront expression_of result (reading.prefixed reading.expression (toks tokens.now)) }
+    ensures gives { GivesExpression reading.prefixed tokens.now result }
     ensures shorter { LeavesLess tokens.now result }
 {
     let Some(rest) = behind_sign(Sign::Minus, tokens) else {
@@ -134,7 +134,7 @@ fn prefixed(alloc: Global, tokens: &[Token]) -> Result<(Expr, &[Token]), ReadFau
 #[tactic(auto, unfolding(poets_grammar::specs::Reading::primary))]
 #[cycle(expression)]
 fn primary(alloc: Global, tokens: &[Token]) -> Result<(Expr, &[Token]), ReadFault>
-    ensures gives { GivesFront expression_of result (reading.primary reading.expression (toks tokens.now)) }
+    ensures gives { GivesExpression reading.primary tokens.now result }
     ensures shorter { LeavesLess tokens.now result }
 {
     let Some((tok, rest)) = first(tokens) else {
@@ -154,7 +154,7 @@ fn primary(alloc: Global, tokens: &[Token]) -> Result<(Expr, &[Token]), ReadFaul
 // "true" | "false" | "undefined" type | "amount" .. | "kind" .. | "res" .. | "if" .., after the word
 #[cycle(expression)]
 fn primary_word(alloc: Global, word: Word, tokens: &[Token]) -> Result<(Expr, &[Token]), ReadFault>
-    ensures gives { GivesFront expression_of result (reading.primary_word reading.expression word (toks tokens.now)) }
+    ensures gives { GivesExpression (λ reader. reading.primary_word reader word) tokens.now result }
     ensures shorter { IfOk result (λ r. length r.1.now ≤ length tokens.now) }
 {
     match word {
@@ -173,7 +173,7 @@ fn primary_word(alloc: Global, word: Word, tokens: &[Token]) -> Result<(Expr, &[
 #[tactic(auto, unfolding(poets_grammar::specs::Reading::closed))]
 #[cycle(expression)]
 fn closed(alloc: Global, tokens: &[Token]) -> Result<(Expr, &[Token]), ReadFault>
-    ensures gives { GivesFront expression_of result (reading.closed reading.expression (toks tokens.now)) }
+    ensures gives { GivesExpression reading.closed tokens.now result }
     ensures shorter { LeavesLess tokens.now result }
 {
     let (inside, rest) = expression(alloc, tokens)?;
@@ -185,7 +185,7 @@ fn closed(alloc: Global, tokens: &[Token]) -> Result<(Expr, &[Token]), ReadFault
 #[tactic(auto, unfolding(poets_grammar::specs::Reading::applied))]
 #[cycle(expression)]
 fn amount_of(alloc: Global, tokens: &[Token]) -> Result<(Expr, &[Token]), ReadFault>
-    ensures gives { GivesFront expression_of result (reading.applied AmountOf reading.expression (toks tokens.now)) }
+    ensures gives { GivesExpression (reading.applied AmountOf) tokens.now result }
     ensures shorter { LeavesLess tokens.now result }
 {
     let inside = sign(Sign::LeftParen, tokens)?;
@@ -197,7 +197,7 @@ fn amount_of(alloc: Global, tokens: &[Token]) -> Result<(Expr, &[Token]), ReadFa
 #[tactic(auto, unfolding(poets_grammar::specs::Reading::applied))]
 #[cycle(expression)]
 fn kind_of(alloc: Global, tokens: &[Token]) -> Result<(Expr, &[Token]), ReadFault>
-    ensures gives { GivesFront expression_of result (reading.applied KindOf reading.expression (toks tokens.now)) }
+    ensures gives { GivesExpression (reading.applied KindOf) tokens.now result }
     ensures shorter { LeavesLess tokens.now result }
 {
     let inside = sign(Sign::LeftParen, tokens)?;
@@ -209,7 +209,7 @@ fn kind_of(alloc: Global, tokens: &[Token]) -> Result<(Expr, &[Token]), ReadFaul
 #[tactic(auto, unfolding(poets_grammar::specs::Reading::made))]
 #[cycle(expression)]
 fn made(alloc: Global, tokens: &[Token]) -> Result<(Expr, &[Token]), ReadFault>
-    ensures gives { GivesFront expression_of result (reading.made reading.expression (toks tokens.now)) }
+    ensures gives { GivesExpression reading.made tokens.now result }
     ensures shorter { LeavesLess tokens.now result }
 {
     let rest = sign(Sign::LeftParen, tokens)?;
@@ -223,7 +223,7 @@ fn made(alloc: Global, tokens: &[Token]) -> Result<(Expr, &[Token]), ReadFault>
 #[tactic(auto, unfolding(poets_grammar::specs::Reading::conditional))]
 #[cycle(expression)]
 fn conditional(alloc: Global, tokens: &[Token]) -> Result<(Expr, &[Token]), ReadFault>
-    ensures gives { GivesFront expression_of result (reading.conditional reading.expression (toks tokens.now)) }
+    ensures gives { GivesExpression reading.conditional tokens.now result }
     ensures shorter { LeavesLess tokens.now result }
 {
     let (condition, rest) = expression(alloc, tokens)?;

@@ -1,11 +1,9 @@
 //! Lists: items with a comma between them, and such lists in brackets.
-ghost use Rattle.std.specs.Prelude.{◌≡◌, map};
-ghost use Rattle.poets_expr.specs.Expression.{expression_of};
 ghost use Rattle.poets_grammar.specs.Tokens.{toks};
 ghost use Rattle.poets_grammar.specs.Reading as reading;
 ghost use Rattle.poets_grammar.specs.ContractReading as contracts;
 ghost use Rattle.poets_grammar.specs.StatementReading as statements;
-ghost use Rattle.poets_parse.specs.code.Gives.{GivesFront, LeavesLess};
+ghost use Rattle.poets_parse.specs.code.Gives.{GivesFront, GivesItems, GivesArguments, LeavesLess};
 
 use crate::expression::expression;
 use crate::fault::ReadFault;
@@ -41,7 +39,7 @@ pub(crate) fn binders(tokens: &[Token]) -> Result<(Binders, &[Token]), ReadFault
 // names = NAME { "," NAME }
 #[tactic(auto, using(crate::proofs::Lists::listing))]
 pub(crate) fn names(alloc: Global, tokens: &[Token]) -> Result<(List<Name>, &[Token]), ReadFault>
-    ensures gives { GivesFront (λ l. l.items) result (reading.listed reading.name (toks tokens.now)) }
+    ensures gives { GivesItems result (reading.listed reading.name (toks tokens.now)) }
     ensures shorter { LeavesLess tokens.now result }
 {
     let mut names = List::new(alloc);
@@ -71,7 +69,7 @@ fn parameter(tokens: &[Token]) -> Result<(Param, &[Token]), ReadFault>
 // params = NAME ":" type { "," NAME ":" type }
 #[tactic(auto, using(crate::proofs::Lists::listing))]
 fn some_parameters(alloc: Global, tokens: &[Token]) -> Result<(List<Param>, &[Token]), ReadFault>
-    ensures gives { GivesFront (λ l. l.items) result (reading.listed statements.parameter (toks tokens.now)) }
+    ensures gives { GivesItems result (reading.listed statements.parameter (toks tokens.now)) }
     ensures shorter { LeavesLess tokens.now result }
 {
     let mut params = List::new(alloc);
@@ -92,7 +90,7 @@ pub(crate) fn parameters(
     alloc: Global,
     tokens: &[Token],
 ) -> Result<(List<Param>, &[Token]), ReadFault>
-    ensures gives { GivesFront (λ l. l.items) result (statements.parameters (toks tokens.now)) }
+    ensures gives { GivesItems result (statements.parameters (toks tokens.now)) }
     ensures shorter { LeavesLess tokens.now result }
 {
     let inside = sign(Sign::LeftParen, tokens)?;
@@ -107,7 +105,7 @@ pub(crate) fn parameters(
 // expression { "," expression }
 #[tactic(auto, using(crate::proofs::Lists::listing))]
 fn some_arguments(alloc: Global, tokens: &[Token]) -> Result<(List<Expr>, &[Token]), ReadFault>
-    ensures gives { GivesFront (λ l. map expression_of l.items) result (reading.listed reading.expression (toks tokens.now)) }
+    ensures gives { GivesArguments result (reading.listed reading.expression (toks tokens.now)) }
     ensures shorter { LeavesLess tokens.now result }
 {
     let mut args = List::new(alloc);
@@ -128,7 +126,7 @@ pub(crate) fn arguments(
     alloc: Global,
     tokens: &[Token],
 ) -> Result<(List<Expr>, &[Token]), ReadFault>
-    ensures gives { GivesFront (λ l. map expression_of l.items) result (reading.arguments (toks tokens.now)) }
+    ensures gives { GivesArguments result (reading.arguments (toks tokens.now)) }
     ensures shorter { LeavesLess tokens.now result }
 {
     let inside = sign(Sign::LeftParen, tokens)?;

@@ -1,11 +1,11 @@
 //! Statements.
 ghost use Rattle.std.specs.Prelude.{◌≡◌, ◌≤◌, length, IfOk, Err};
 ghost use Rattle.poets_call.specs.Statements.{statement_of};
-ghost use Rattle.poets_call.specs.Said as said;
 ghost use Rattle.poets_grammar.specs.Tokens.{toks, AreNatural};
 ghost use Rattle.poets_grammar.specs.StatementReading as reading;
 ghost use Rattle.poets_grammar.specs.Statements.{IsStatement};
 ghost use Rattle.poets_grammar.specs.TooDeep.{IsTooDeep};
+ghost use Rattle.poets_parse.specs.Sentences.{AreNoSentence, IfSentence};
 ghost use Rattle.poets_parse.specs.code.Gives.{Gives};
 
 use crate::SyntaxFault;
@@ -66,7 +66,7 @@ pub fn statement(alloc: Global, tokens: &[Token]) -> Result<Statement, SyntaxFau
     requires natural { AreNatural tokens.now }
     ensures found { IfOk result (λ s. IsStatement (toks tokens.now) (statement_of s)) }
     ensures shallow { IfOk result (λ _. ¬ (IsTooDeep (toks tokens.now))) }
-    ensures none { result ≡ Err SyntaxFault.NoSentence → ¬ (IsTooDeep (toks tokens.now)) × ((s : said.Statement) → ¬ (IsStatement (toks tokens.now) s)) }
+    ensures none { result ≡ Err SyntaxFault.NoSentence → AreNoSentence (toks tokens.now) }
     ensures deep { result ≡ Err SyntaxFault.TooDeep → IsTooDeep (toks tokens.now) }
 {
     if is_too_deep(tokens) {
@@ -81,7 +81,7 @@ pub fn statement(alloc: Global, tokens: &[Token]) -> Result<Statement, SyntaxFau
 /// The readers look at one token, take it or give up, and never go back.
 pub fn begun(alloc: Global, tokens: &[Token]) -> Result<usize, Memory>
     ensures within { IfOk result (λ count. count ≤ length tokens.now) }
-    ensures whole { ¬ (IsTooDeep (toks tokens.now)) → (s : said.Statement) → IsStatement (toks tokens.now) s → IfOk result (λ count. count ≡ length tokens.now) }
+    ensures whole { IfSentence (toks tokens.now) (IfOk result (λ all. all ≡ length tokens.now)) }
 {
     if is_too_deep(tokens) {
         return Ok(0);

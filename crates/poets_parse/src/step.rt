@@ -1,10 +1,10 @@
 //! Single tokens.
-ghost use Rattle.std.specs.Prelude.{◌≡◌, ◌<◌, ◌≤ℤ◌, pos, length, [], ◌∷◌, IfSome, IfNone, IfOk, option_map};
+ghost use Rattle.std.specs.Prelude.{◌≡◌, ◌<◌, ◌≤ℤ◌, pos, length, [], ◌∷◌, IfSome, IfNone, IfOk};
 ghost use Rattle.poets_grammar.specs.Tokens.{toks};
 ghost use Rattle.poets_grammar.specs.Tokens as spec;
 ghost use Rattle.poets_grammar.specs.Reading as reading;
 ghost use Rattle.poets_grammar.specs.StatementReading as statements;
-ghost use Rattle.poets_parse.specs.code.Gives.{Gives, GivesFront, LeavesLess};
+ghost use Rattle.poets_parse.specs.code.Gives.{Gives, GivesFront, Finds, FindsFront, LeavesLess};
 
 use crate::fault::ReadFault;
 use poets_expr::Op;
@@ -23,7 +23,7 @@ pub(crate) fn first(tokens: &[Token]) -> Option<(Tok, &[Token])>
 
 // What stands after the sign, if it is the first token.
 pub(crate) fn behind_sign(wanted: Sign, tokens: &[Token]) -> Option<&[Token]>
-    ensures found { option_map (λ r. toks r.now) result ≡ reading.behind_sign wanted (toks tokens.now) }
+    ensures found { Finds result (reading.behind_sign wanted (toks tokens.now)) }
     ensures shorter { IfSome result (λ r. length r.now < length tokens.now) }
 {
     match first(tokens) {
@@ -34,7 +34,7 @@ pub(crate) fn behind_sign(wanted: Sign, tokens: &[Token]) -> Option<&[Token]>
 
 // What stands after the word, if it is the first token.
 pub(crate) fn behind_word(wanted: Word, tokens: &[Token]) -> Option<&[Token]>
-    ensures found { option_map (λ r. toks r.now) result ≡ reading.behind_word wanted (toks tokens.now) }
+    ensures found { Finds result (reading.behind_word wanted (toks tokens.now)) }
     ensures shorter { IfSome result (λ r. length r.now < length tokens.now) }
 {
     match first(tokens) {
@@ -183,7 +183,7 @@ fn infix_operator(tok: Tok) -> Option<(u8, Op)>
 
 // The operator of the level, if one is the first token, and what stands after it.
 pub(crate) fn operator(level: u8, tokens: &[Token]) -> Option<(Op, &[Token])>
-    ensures found { option_map (λ p. (p.0, toks p.1.now)) result ≡ reading.operator level (toks tokens.now) }
+    ensures found { FindsFront result (reading.operator level (toks tokens.now)) }
     ensures shorter { IfSome result (λ p. length p.1.now < length tokens.now) }
 {
     let Some((tok, rest)) = first(tokens) else {
