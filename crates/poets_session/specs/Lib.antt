@@ -5,6 +5,7 @@ pub mod Sessions
 pub mod Refusals
 pub mod Texts
 pub mod Causes
+pub mod FaultLines
 pub mod Laws
 pub mod Written
 pub mod code

@@ -90,3 +90,7 @@ pub record Represents (statements : List Statement) (session : Session) : Type 0
   pub reports : map report_of session.rules.reports.items ≡ reports_of statements
   pub scripts : commands_in session.scripts.items ≡ scripts_of statements
   pub journal : calls_in session.journal.items ≡ journal_of statements
+
+-- the text is a session of the form, and the code's session holds what it says
+abbrev pub HoldsText : Text → Form → Session → Type 0
+HoldsText text form session = (statements : List Statement) × IsSession text form session.names statements × Represents statements session

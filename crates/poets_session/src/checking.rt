@@ -1,13 +1,12 @@
 //! Types and guardedness of the statements of a session.
-ghost use Rattle.std.specs.Prelude.{◌≡◌, false, All, None, IfSome, IfNone, IfOk, IfErr, map};
+ghost use Rattle.std.specs.Prelude.{◌≡◌, None, IfSome, IfNone, IfOk, IfErr};
 ghost use Rattle.poets_syntax.specs.Book.{book_of};
 ghost use Rattle.poets_syntax.specs.Checked.{IsChecked};
 ghost use Rattle.poets_syntax.specs.Guarded.{IsGuarded};
-ghost use Rattle.poets_report.specs.Reports.{report_of};
 ghost use Rattle.poets_call.specs.Statements.{statement_of, statements_of};
-ghost use Rattle.poets_call.specs.Declarations.{book_from, reports_of};
+ghost use Rattle.poets_call.specs.Declarations.{book_from};
 ghost use Rattle.poets_call.specs.TypedStatements.{first_fault};
-ghost use Rattle.poets_session.specs.code.Checking.{IsTypeRefusal, IsGuardRefusal};
+ghost use Rattle.poets_session.specs.code.Checking.{NoneDeclares, HasReports, TellsTypes, IsGuardRefusal};
 ghost use Rattle.poets_session.specs.code.Checking as checking;
 ghost use Rattle.poets_session.specs.Refusals.{IsTemplateAt};
 ghost use Rattle.poets_session.specs.Causes.{IsCauseOf, type_cause};
@@ -34,9 +33,9 @@ fn cause_of(fault: TypeFault) -> SessionCause
 pub(crate) fn check_types(alloc: Global, statements: &[Statement]) -> Result<Checked, SessionCause>
     ensures passes { IfOk result (λ _. first_fault (statements_of statements.now) ≡ None) }
     ensures book { IfOk result (λ c. book_of c.book ≡ book_from (statements_of statements.now)) }
-    ensures reports { IfOk result (λ c. map report_of c.reports.items ≡ reports_of (statements_of statements.now)) }
+    ensures reports { IfOk result (HasReports (statements_of statements.now)) }
     ensures checked { IfOk result (λ c. IsChecked (book_of c.book)) }
-    ensures fault { IfErr result (IsCauseOf (IsTypeRefusal (first_fault (statements_of statements.now)))) }
+    ensures fault { IfErr result (TellsTypes (statements_of statements.now)) }
 {
     match check_book(alloc, statements) {
         Ok(checked) => Ok(checked),
@@ -57,7 +56,7 @@ fn declares(statement: &Statement, name: Name) -> bool
 // The number of the statement that declares the template, if there is one.
 fn number_of(statements: &[Statement], name: Name) -> Option<u64>
     ensures found { IfSome result (λ n. IsTemplateAt (statements_of statements.now) n name) }
-    ensures none { IfNone result (All (λ s. checking.declares name (statement_of s) ≡ false) statements.now) }
+    ensures none { IfNone result (NoneDeclares name statements.now) }
 {
     for (place, statement) in statements.iter().enumerate() {
         if declares(statement, name) {

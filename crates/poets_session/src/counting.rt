@@ -1,10 +1,9 @@
 //! Whether each statement may stand in its place, and whether there are too many.
-ghost use Rattle.std.specs.Prelude.{◌≡◌, ◌≤◌, ◌++◌, ◌∷◌, [], List, true, false, None, Some, IfErr, OnOk, IfSome, IfNone, option_map};
+ghost use Rattle.std.specs.Prelude.{◌≡◌, None, Some, IfErr, OnOk, IfSome};
 ghost use Rattle.poets_call.specs.Statements.{statement_of, statements_of};
-ghost use Rattle.poets_call.specs.Said as said;
-ghost use Rattle.poets_session.specs.Places.{place_fault, is_too_many};
+ghost use Rattle.poets_session.specs.Places.{place_fault};
 ghost use Rattle.poets_session.specs.Places as places;
-ghost use Rattle.poets_session.specs.code.Counting.{part_of, fault_of, AreCounted};
+ghost use Rattle.poets_session.specs.code.Counting.{part_of, IsNextPart, IsPlaceFault, AreFew, CountsMore, FewIfSome, ManyIfNone};
 
 use crate::Form;
 use poets_call::Statement;
@@ -42,7 +41,7 @@ pub(crate) struct Counts {
 
 // The part in which the statement stands after one of the part, if it may stand there.
 fn next_part(form: Form, part: Part, statement: &Statement) -> Option<Part>
-    ensures { option_map part_of result ≡ places.next_part form (part_of part) (statement_of statement.now) }
+    ensures { IsNextPart form part (statement_of statement.now) result }
 {
     match statement {
         Statement::Agents(_) | Statement::Kinds(_) | Statement::Template(_) | Statement::Report(_)
@@ -60,11 +59,11 @@ fn next_part(form: Form, part: Part, statement: &Statement) -> Option<Part>
 impl Counts {
     // The counts with the statement, if it is not one too many.
     fn with(self, statement: &Statement) -> Option<Counts>
-        requires { (self.clerks ≤ MOST_CLERKS) × (self.templates ≤ MOST_TEMPLATES) × (self.reports ≤ MOST_REPORTS) × (self.commands ≤ MOST_COMMANDS) }
-        ensures bound { IfSome result (λ c. (c.clerks ≤ MOST_CLERKS) × (c.templates ≤ MOST_TEMPLATES) × (c.reports ≤ MOST_REPORTS) × (c.commands ≤ MOST_COMMANDS)) }
-        ensures counted { (before : List said.Statement) → AreCounted before self → IfSome result (AreCounted (before ++ statement_of statement.now ∷ [])) }
-        ensures few { (before : List said.Statement) → AreCounted before self → IfSome result (λ _. is_too_many before (statement_of statement.now) ≡ false) }
-        ensures many { (before : List said.Statement) → AreCounted before self → IfNone result (is_too_many before (statement_of statement.now) ≡ true) }
+        requires { AreFew self }
+        ensures bound { IfSome result AreFew }
+        ensures counted { CountsMore self (statement_of statement.now) result }
+        ensures few { FewIfSome self (statement_of statement.now) result }
+        ensures many { ManyIfNone self (statement_of statement.now) result }
     {
         let mut counts = self;
         match statement {
@@ -93,7 +92,7 @@ fn lacks_journal(form: Form, part: Part) -> bool
 /// Checks that each statement stands in its place, and is not one too many.
 pub(crate) fn check_places(form: Form, statements: &[Statement]) -> Result<(), PlaceFault>
     ensures placed { OnOk result (place_fault form (statements_of statements.now) ≡ None) }
-    ensures out { IfErr result (λ fault. place_fault form (statements_of statements.now) ≡ Some (fault_of fault)) }
+    ensures out { IfErr result (IsPlaceFault form (statements_of statements.now)) }
 {
     let mut part = Part::Book;
     let mut counts = Counts {

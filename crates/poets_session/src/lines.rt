@@ -1,10 +1,9 @@
 //! The lines of texts that are no sessions.
-ghost use Rattle.std.specs.Prelude.{◌≡◌, Some, IfOk, option_map, string_bytes};
-ghost use Rattle.poets_types.specs.Faults.{fault_of};
-ghost use Rattle.poets_session.specs.Texts.{refusal_text};
+ghost use Rattle.std.specs.Prelude.{◌≡◌, IfOk, string_bytes};
 ghost use Rattle.poets_session.specs.Texts as texts;
 ghost use Rattle.poets_session.specs.Refusals.{Unguarded};
-ghost use Rattle.poets_session.specs.Causes.{refusal_of};
+ghost use Rattle.poets_session.specs.FaultLines.{IsLineOf};
+ghost use Rattle.poets_session.specs.code.Lines.{TellsFault, TellsRefusal};
 ghost use Rattle.poets_session.specs.declared.fault.SessionCause.TheVariants as C;
 
 use crate::{SessionCause, SessionFault};
@@ -32,7 +31,7 @@ fn in_statement(alloc: Global, number: u64, what: &str) -> Result<String, Memory
 
 // What is wrong with the types of a statement.
 fn type_fault_text(alloc: Global, names: &Names, cause: TypeCause) -> Result<String, Memory>
-    ensures { IfOk result (λ text. option_map (texts.fault_text names.now) (fault_of cause) ≡ Some (string_bytes text)) }
+    ensures { IfOk result (TellsFault names.now cause) }
 {
     match cause {
         TypeCause::Twice { name } => {
@@ -62,7 +61,7 @@ fn type_fault_text(alloc: Global, names: &Names, cause: TypeCause) -> Result<Str
 
 // The line of a statement that is not typed.
 fn type_line(alloc: Global, names: &Names, fault: TypeFault) -> Result<String, Memory>
-    ensures { IfOk result (λ text. option_map (refusal_text names.now) (refusal_of (C.Types fault)) ≡ Some (string_bytes text)) }
+    ensures { IfOk result (IsLineOf names.now (C.Types fault)) }
 {
     let what = type_fault_text(alloc, names, fault.cause)?;
     in_statement(alloc, fault.statement, &what)
@@ -85,7 +84,7 @@ fn cycle_line(
     number: u64,
     cycle: &List<Name>,
 ) -> Result<String, Memory>
-    ensures { IfOk result (λ text. refusal_text names.now (Unguarded number cycle.now.items) ≡ string_bytes text) }
+    ensures { IfOk result (TellsRefusal names.now (Unguarded number cycle.now.items)) }
 {
     let first = first_text(names, cycle.as_slice());
     let what = format!(in alloc; "Unguarded {first}")?;
@@ -96,7 +95,7 @@ fn cycle_line(
 ///
 /// A fault that is want of memory has no line, and is answered as it is. No fault that `read` hands out has a cycle without a name.
 pub fn fault_text(alloc: Global, fault: &SessionFault) -> Result<String, Memory>
-    ensures line { IfOk result (λ text. option_map (refusal_text fault.now.names) (refusal_of fault.now.what) ≡ Some (string_bytes text)) }
+    ensures line { IfOk result (IsLineOf fault.now.names fault.now.what) }
 {
     let names = &fault.names;
     match &fault.what {

@@ -1,10 +1,8 @@
 //! Reading a text as a session.
 ghost use Rattle.std.specs.Prelude.{◌≡◌, ◌≤◌, length, [], IfOk, IfErr};
-ghost use Rattle.std.specs.Prelude as prelude;
 ghost use Rattle.poets_value.specs.Limits.{longest_text};
 ghost use Rattle.poets_call.specs.Statements.{statements_of};
-ghost use Rattle.poets_call.specs.Said as said;
-ghost use Rattle.poets_session.specs.Sessions.{IsReadAs, IsSession, Represents};
+ghost use Rattle.poets_session.specs.Sessions.{IsReadAs, HoldsText};
 ghost use Rattle.poets_session.specs.Refusals.{IsUnreadable};
 ghost use Rattle.poets_session.specs.Causes.{IsFirstFault, IsCauseOf};
 
@@ -37,7 +35,7 @@ fn read_statements(
 /// The rules are those of `docs/LANGUAGE.md`.
 pub fn read(alloc: Global, text: &[u8], form: Form) -> Result<Session, SessionFault>
     requires { length text.now ≤ longest_text }
-    ensures session { IfOk result (λ s. (statements : prelude.List said.Statement) × IsSession text.now form s.names statements × Represents statements s) }
+    ensures session { IfOk result (HoldsText text.now form) }
     ensures refused { IfErr result (IsFirstFault text.now form) }
 {
     let mut names = Names::new(alloc);

@@ -1,14 +1,11 @@
 //! The statements of a text.
-ghost use Rattle.std.specs.Prelude.{◌≡◌, ℕ, ◌≢◌, ◌∷◌, [], true, false, ◌+◌, ◌<◌, length, take, drop, IfSome, IfNone, IfOk, IfErr};
+ghost use Rattle.std.specs.Prelude.{◌≡◌, ◌≢◌, [], ◌<◌, length, IfSome, IfNone, IfOk, IfErr};
 ghost use Rattle.poets_grammar.specs.Tokens.{toks, AreNatural};
-ghost use Rattle.poets_call.specs.Statements.{statement_of, statements_of};
 ghost use Rattle.poets_session.specs.Pieces.{pieces_of};
 ghost use Rattle.poets_session.specs.Pieces as pieces;
-ghost use Rattle.poets_session.specs.Sessions.{IsStatementPiece};
 ghost use Rattle.poets_session.specs.Refusals.{IsUnread, IsStopped};
 ghost use Rattle.poets_session.specs.Causes.{IsCauseOf, syntax_cause};
-ghost use Rattle.poets_session.specs.declared.fault.SessionCause.{SessionCause};
-ghost use Rattle.poets_session.specs.code.Splitting.{piece, AreSaid};
+ghost use Rattle.poets_session.specs.code.Splitting.{piece, Says, Say, AreCutInto, StandAheadOfEnd, HaveNoEnd, TellsUnended};
 
 use crate::SessionCause;
 use poets_call::Statement;
@@ -29,8 +26,8 @@ fn is_end(token: &Token) -> bool
 
 // The number of tokens ahead of the first `;;`, if there is one.
 fn tokens_ahead(tokens: &[Token]) -> Option<usize>
-    ensures found { IfSome result (λ n. (n < length tokens.now) × (pieces_of (toks tokens.now) ≡ piece (toks (take n tokens.now)) true ∷ pieces_of (toks (drop (n + 1) tokens.now)))) }
-    ensures none { IfNone result (tokens.now ≢ [] → pieces_of (toks tokens.now) ≡ piece (toks tokens.now) false ∷ []) }
+    ensures found { IfSome result (StandAheadOfEnd tokens.now) }
+    ensures none { IfNone result (HaveNoEnd tokens.now) }
 {
     for (place, token) in tokens.iter().enumerate() {
         if is_end(token) {
@@ -43,7 +40,7 @@ fn tokens_ahead(tokens: &[Token]) -> Option<usize>
 // The tokens of the first statement, whether a `;;` ends it, and the tokens after it.
 fn first_piece(tokens: &[Token]) -> (&[Token], bool, &[Token])
     requires { tokens.now ≢ [] }
-    ensures piece { pieces_of (toks tokens.now) ≡ piece (toks result.0.now) result.1 ∷ pieces_of (toks result.2.now) }
+    ensures piece { AreCutInto tokens.now result.0.now result.1 result.2.now }
     ensures shorter { length result.2.now < length tokens.now }
     ensures natural { AreNatural tokens.now → AreNatural result.0.now × AreNatural result.2.now }
 {
@@ -55,7 +52,7 @@ fn first_piece(tokens: &[Token]) -> (&[Token], bool, &[Token])
 
 // Why a statement without a `;;` is none.
 fn unended(tokens: &[Token]) -> SyntaxFault
-    ensures { (number : ℕ) → IsCauseOf (IsUnread (piece (toks tokens.now) false) number) (SessionCause.Syntax number result) }
+    ensures { TellsUnended (toks tokens.now) result }
 {
     if is_too_deep(tokens) {
         SyntaxFault::TooDeep
@@ -85,7 +82,7 @@ fn read_statement(
     ended: bool,
 ) -> Result<Statement, SessionCause>
     requires { AreNatural tokens.now }
-    ensures said { IfOk result (λ s. IsStatementPiece (piece (toks tokens.now) ended) (statement_of s)) }
+    ensures said { IfOk result (Says (piece (toks tokens.now) ended)) }
     ensures unread { IfErr result (IsCauseOf (IsUnread (piece (toks tokens.now) ended) number)) }
 {
     if !ended {
@@ -103,7 +100,7 @@ fn read_statement(
 /// The statements of a text.
 pub(crate) fn statements(alloc: Global, tokens: &[Token]) -> Result<List<Statement>, SessionCause>
     requires { AreNatural tokens.now }
-    ensures said { IfOk result (λ found. AreSaid (pieces_of (toks tokens.now)) (statements_of found.items)) }
+    ensures said { IfOk result (Say (pieces_of (toks tokens.now))) }
     ensures stopped { IfErr result (IsCauseOf (IsStopped (pieces_of (toks tokens.now)))) }
 {
     let mut found = List::new(alloc);

@@ -1,10 +1,19 @@
 -- Statements as the code reads them.
-use Rattle.std.specs.Prelude.{Bool, List}
+use Rattle.std.specs.Prelude.{◌≡◌, ◌≢◌, ℕ, ◌+◌, ◌<◌, Bool, true, false, List, [], ◌∷◌, length, take, drop}
 use Rattle.std.specs.List.{AllZip}
+use Rattle.poets_value.specs.Listed.{Listed}
 use Rattle.poets_lex.specs.declared.token.Tok.{Tok}
+use Rattle.poets_lex.specs.declared.token.Token.{Token}
+use Rattle.poets_grammar.specs.Tokens.{toks}
+use Rattle.poets_parse.specs.declared.fault.SyntaxFault.{SyntaxFault}
 use Rattle.poets_call.specs.Said.{Statement}
-use Rattle.poets_session.specs.Pieces.{Piece}
+use Rattle.poets_call.specs.Statements.{statement_of, statements_of}
+use Rattle.poets_call.specs.declared.statement.Statement.{Statement as CodeStatement}
+use Rattle.poets_session.specs.Pieces.{Piece, pieces_of}
 use Rattle.poets_session.specs.Sessions.{IsStatementPiece}
+use Rattle.poets_session.specs.Refusals.{IsUnread}
+use Rattle.poets_session.specs.Causes.{IsCauseOf}
+use Rattle.poets_session.specs.declared.fault.SessionCause.TheVariants as C
 
 -- a statement of these tokens
 abbrev pub piece : List Tok → Bool → Piece
@@ -13,3 +22,27 @@ piece tokens ended = record { tokens = tokens; ended = ended }
 -- the statements say this, one by one
 abbrev pub AreSaid : List Piece → List Statement → Type 0
 AreSaid pieces statements = AllZip IsStatementPiece pieces statements
+
+-- the piece is a statement that says this
+abbrev pub Says : Piece → CodeStatement → Type 0
+Says p s = IsStatementPiece p (statement_of s)
+
+-- the pieces are statements that say this, one by one
+abbrev pub Say : List Piece → Listed CodeStatement → Type 0
+Say pieces found = AreSaid pieces (statements_of found.items)
+
+-- the tokens are cut into those of a statement, ended or not, and the rest
+abbrev pub AreCutInto : (tokens first : List Token) → Bool → (rest : List Token) → Type 0
+AreCutInto tokens first ended rest = pieces_of (toks tokens) ≡ piece (toks first) ended ∷ pieces_of (toks rest)
+
+-- so many tokens stand ahead of the first `;;`
+abbrev pub StandAheadOfEnd : List Token → ℕ → Type 0
+StandAheadOfEnd tokens n = (n < length tokens) × AreCutInto tokens (take n tokens) true (drop (n + 1) tokens)
+
+-- the tokens, if there are any, are those of one statement that is not ended
+abbrev pub HaveNoEnd : List Token → Type 0
+HaveNoEnd tokens = tokens ≢ [] → pieces_of (toks tokens) ≡ piece (toks tokens) false ∷ []
+
+-- the fault tells why a statement of the tokens without a `;;` is none, whatever its number
+abbrev pub TellsUnended : List Tok → SyntaxFault → Type 0
+TellsUnended tokens fault = (number : ℕ) → IsCauseOf (IsUnread (piece tokens false) number) (C.Syntax number fault)
