@@ -1,19 +1,15 @@
 //! Books of statements.
-ghost use Rattle.std.specs.Prelude.{◌≡◌, ◌++◌, None, IfOk, IfErr, map};
-ghost use Rattle.std.specs.Option.{option_or};
-ghost use Rattle.poets_value.specs.declared.value.Name.{Name};
-ghost use Rattle.poets_expr.specs.Env.{declared_of};
+ghost use Rattle.std.specs.Prelude.{◌≡◌, None, IfOk, IfErr, map};
 ghost use Rattle.poets_syntax.specs.Book.{template_of, book_of};
-ghost use Rattle.poets_syntax.specs.Checked.{IsCheckedBook};
-ghost use Rattle.poets_syntax.specs.TypeOf.{type_in};
-ghost use Rattle.poets_report.specs.Reports.{report_of};
 ghost use Rattle.poets_call.specs.Statements.{statement_of, statements_of};
-ghost use Rattle.poets_call.specs.Declarations.{agents_and_kinds, template_in_statement, report_in_statement, book_from, reports_of};
-ghost use Rattle.poets_call.specs.TypedStatements.{report_names, mistyped_from, first_fault};
-ghost use Rattle.poets_call.specs.TypedStatements as typed_statements;
+ghost use Rattle.poets_call.specs.Declarations.{book_from};
+ghost use Rattle.poets_call.specs.TypedStatements.{first_fault};
+ghost use Rattle.poets_call.specs.TypedStatements as spec;
 ghost use Rattle.poets_types.specs.Faults.{IsFirstFault};
+ghost use Rattle.poets_types.specs.Verdicts.{HasReportsOf, IsCheckedWithReports};
 ghost use Rattle.poets_types.specs.code.Answers.{IsAnswerOf};
-ghost use Rattle.poets_types.specs.code.Indices.{book_in};
+ghost use Rattle.poets_types.specs.code.Checks.{mistyped_in, with_reports};
+ghost use Rattle.poets_types.specs.code.Gathering.{AddsNames, AddsReport, AddsTemplate, AreDeclared};
 
 use crate::command::check_command;
 use crate::declared::check_names;
@@ -40,7 +36,7 @@ pub struct Checked {
 
 // Declares the names that are not declared yet.
 fn declare(decls: &mut Decls, names: &[Name], ty: Ty) -> Result<(), Memory>
-    ensures { IfOk result (λ _. (x : Name) → declared_of decls.new.names x ≡ option_or (declared_of decls.old.names x) (type_in (λ _. None) (map (λ y. (y, ty)) names.now) x)) }
+    ensures { IfOk result (λ _. AreDeclared (map (λ y. (y, ty)) names.now) decls.old decls.new) }
 {
     for name in names {
         enter(&mut decls.names, *name, ty)?;
@@ -61,9 +57,9 @@ fn copy_template(alloc: Global, template: &Template) -> Result<Template, Memory>
 
 // Adds what a statement declares.
 fn add(alloc: Global, checked: &mut Checked, statement: &Statement) -> Result<(), Memory>
-    ensures declared { IfOk result (λ _. (x : Name) → declared_of checked.new.book.decls.names x ≡ option_or (declared_of checked.old.book.decls.names x) (type_in (λ _. None) (agents_and_kinds (statement_of statement.now)) x)) }
-    ensures templates { IfOk result (λ _. map template_of checked.new.book.templates.items ≡ map template_of checked.old.book.templates.items ++ template_in_statement (statement_of statement.now)) }
-    ensures reports { IfOk result (λ _. map report_of checked.new.reports.items ≡ map report_of checked.old.reports.items ++ report_in_statement (statement_of statement.now)) }
+    ensures declared { IfOk result (λ _. AddsNames statement.now checked.old checked.new) }
+    ensures templates { IfOk result (λ _. AddsTemplate statement.now checked.old checked.new) }
+    ensures reports { IfOk result (λ _. AddsReport statement.now checked.old checked.new) }
 {
     match statement {
         Statement::Agents(names) => {
@@ -85,7 +81,7 @@ fn add(alloc: Global, checked: &mut Checked, statement: &Statement) -> Result<()
 // What the statements declare.
 fn gather(alloc: Global, statements: &[Statement]) -> Result<Checked, Memory>
     ensures book { IfOk result (λ c. book_of c.book ≡ book_from (statements_of statements.now)) }
-    ensures reports { IfOk result (λ c. map report_of c.reports.items ≡ reports_of (statements_of statements.now)) }
+    ensures reports { IfOk result (HasReportsOf (statements_of statements.now)) }
 {
     let mut checked = Checked {
         book: Book {
@@ -105,7 +101,7 @@ fn gather(alloc: Global, statements: &[Statement]) -> Result<Checked, Memory>
 // The statement is typed in the book.
 #[tactic(auto, using(crate::proofs::Checks::answer_told))]
 fn check_statement(alloc: Global, index: &Index, statement: &Statement) -> Result<(), TypeCause>
-    ensures { IsAnswerOf (typed_statements.check_statement (book_in index.now) (map report_of index.now.reports.now) (statement_of statement.now)) result }
+    ensures { IsAnswerOf (with_reports index.now spec.check_statement (statement_of statement.now)) result }
 {
     match statement {
         Statement::Template(template) => check_template(alloc, index, template),
@@ -126,8 +122,8 @@ fn check_statements(
     reports: &[Report],
     statements: &[Statement],
 ) -> Result<(), TypeFault>
-    ensures passes { IfOk result (λ _. mistyped_from 1 (book_of book.now) (map report_of reports.now) (statements_of statements.now) ≡ None) }
-    ensures fault { IfErr result (IsFirstFault (mistyped_from 1 (book_of book.now) (map report_of reports.now) (statements_of statements.now))) }
+    ensures passes { IfOk result (λ _. mistyped_in book.now reports.now statements.now ≡ None) }
+    ensures fault { IfErr result (IsFirstFault (mistyped_in book.now reports.now statements.now)) }
 {
     let index = Index::new(alloc, book, reports)?;
     for (place, statement) in statements.iter().enumerate() {
@@ -146,8 +142,8 @@ fn check_statements(
 pub fn check_book(alloc: Global, statements: &[Statement]) -> Result<Checked, TypeFault>
     ensures passes { IfOk result (λ _. first_fault (statements_of statements.now) ≡ None) }
     ensures book { IfOk result (λ c. book_of c.book ≡ book_from (statements_of statements.now)) }
-    ensures reports { IfOk result (λ c. map report_of c.reports.items ≡ reports_of (statements_of statements.now)) }
-    ensures typed { IfOk result (λ c. IsCheckedBook (book_of c.book) (report_names (map report_of c.reports.items))) }
+    ensures reports { IfOk result (HasReportsOf (statements_of statements.now)) }
+    ensures typed { IfOk result IsCheckedWithReports }
     ensures fault { IfErr result (IsFirstFault (first_fault (statements_of statements.now))) }
 {
     check_names(alloc, statements)?;

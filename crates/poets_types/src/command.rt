@@ -1,20 +1,12 @@
 //! Types of commands, and of contracts by themselves.
-ghost use Rattle.std.specs.Prelude.{◌≡◌, [], IfOk, IfErr, map};
+ghost use Rattle.std.specs.Prelude.{◌≡◌, IfOk, IfErr};
 ghost use Rattle.poets_expr.specs.Env.{declared_of};
-ghost use Rattle.poets_expr.specs.Expression.{expression_of};
-ghost use Rattle.poets_syntax.specs.Book.{book_of};
-ghost use Rattle.poets_syntax.specs.Contract.{contract_of};
-ghost use Rattle.poets_syntax.specs.Typed as typed;
-ghost use Rattle.poets_syntax.specs.Typing.{IsTyped};
-ghost use Rattle.poets_report.specs.Reports.{report_of};
 ghost use Rattle.poets_call.specs.Calls.{command_of};
-ghost use Rattle.poets_call.specs.Replies.{report_in};
-ghost use Rattle.poets_call.specs.TypedStatements.{report_names};
-ghost use Rattle.poets_call.specs.TypedStatements as typed_statements;
-ghost use Rattle.poets_call.specs.Typing.{IsTypedCommand};
+ghost use Rattle.poets_call.specs.TypedStatements as spec;
 ghost use Rattle.poets_types.specs.Faults.{IsFaultOf};
+ghost use Rattle.poets_types.specs.Verdicts.{CommandIsTyped, TermIsTyped, command_verdict, term_verdict};
 ghost use Rattle.poets_types.specs.code.Answers.{answer_of};
-ghost use Rattle.poets_types.specs.code.Indices.{book_in};
+ghost use Rattle.poets_types.specs.code.Checks.{arguments_verdict, with_reports};
 
 use crate::TypeCause;
 use crate::contract::{check_arguments, check_contract};
@@ -30,7 +22,7 @@ use std::alloc::Global;
 
 // The name is declared as the wanted one of an agent and a kind.
 fn check_declared(decls: &Decls, wanted: Ty, name: Name) -> Result<(), TypeCause>
-    ensures { result ≡ answer_of (typed_statements.check_declared (declared_of decls.now.names) wanted name) }
+    ensures { result ≡ answer_of (spec.check_declared (declared_of decls.now.names) wanted name) }
 {
     let found = name_type(name, decls.names.get(&name).copied())?;
     must_be(wanted, found)
@@ -38,7 +30,7 @@ fn check_declared(decls: &Decls, wanted: Ty, name: Name) -> Result<(), TypeCause
 
 // The event's agents and its kind are declared as such.
 fn check_event(decls: &Decls, event: &Event) -> Result<(), TypeCause>
-    ensures { result ≡ answer_of (typed_statements.check_event (declared_of decls.now.names) event.now) }
+    ensures { result ≡ answer_of (spec.check_event (declared_of decls.now.names) event.now) }
 {
     check_declared(decls, Ty::Agent, event.sender)?;
     check_declared(decls, Ty::Agent, event.receiver)?;
@@ -52,7 +44,7 @@ fn check_report_arguments(
     name: Name,
     args: &[Expr],
 ) -> Result<(), TypeCause>
-    ensures { result ≡ answer_of (typed_statements.check_report_arguments (declared_of decls.now.names) name (report_in (map report_of reports.now) name) (map expression_of args.now)) }
+    ensures { result ≡ answer_of (arguments_verdict decls.now reports.now name args.now) }
 {
     match named_report(reports, name) {
         None => Err(TypeCause::Unknown { name }),
@@ -64,7 +56,7 @@ fn check_report_arguments(
 
 // The command is typed.
 pub(crate) fn check_command(index: &Index, command: &Command) -> Result<(), TypeCause>
-    ensures { result ≡ answer_of (typed_statements.check_command (book_in index.now) (map report_of index.now.reports.now) (command_of command.now)) }
+    ensures { result ≡ answer_of (with_reports index.now spec.check_command (command_of command.now)) }
 {
     let decls = &index.book.decls;
     match command {
@@ -87,8 +79,8 @@ pub fn check_term(
     reports: &[Report],
     term: &Term,
 ) -> Result<(), TypeCause>
-    ensures passes { IfOk result (λ _. IsTyped (book_of book.now) (report_names (map report_of reports.now)) [] (contract_of term.now)) }
-    ensures fault { IfErr result (IsFaultOf (typed.check_contract (book_of book.now) (report_names (map report_of reports.now)) [] (contract_of term.now))) }
+    ensures passes { IfOk result (λ _. TermIsTyped book.now reports.now term.now) }
+    ensures fault { IfErr result (IsFaultOf (term_verdict book.now reports.now term.now)) }
 {
     let index = Index::new(alloc, book, reports)?;
     check_contract(&index, &Scope::Empty, term)
@@ -103,8 +95,8 @@ pub fn check_call(
     reports: &[Report],
     command: &Command,
 ) -> Result<(), TypeCause>
-    ensures passes { IfOk result (λ _. IsTypedCommand (book_of book.now) (map report_of reports.now) (command_of command.now)) }
-    ensures fault { IfErr result (IsFaultOf (typed_statements.check_command (book_of book.now) (map report_of reports.now) (command_of command.now))) }
+    ensures passes { IfOk result (λ _. CommandIsTyped book.now reports.now command.now) }
+    ensures fault { IfErr result (IsFaultOf (command_verdict book.now reports.now command.now)) }
 {
     let index = Index::new(alloc, book, reports)?;
     check_command(&index, command)

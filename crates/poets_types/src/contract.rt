@@ -1,11 +1,10 @@
 //! Types of contracts.
-ghost use Rattle.std.specs.Prelude.{◌≡◌, map, option_map};
-ghost use Rattle.poets_expr.specs.Env.{declared_of};
+ghost use Rattle.std.specs.Prelude.{◌≡◌, map};
 ghost use Rattle.poets_expr.specs.Expression.{expression_of};
 ghost use Rattle.poets_syntax.specs.Contract.{contract_of};
 ghost use Rattle.poets_syntax.specs.Typed as typed;
 ghost use Rattle.poets_types.specs.code.Answers.{answer_of};
-ghost use Rattle.poets_types.specs.code.Indices.{book_in, reports_in};
+ghost use Rattle.poets_types.specs.code.Checks.{in_book, under};
 ghost use Rattle.poets_types.specs.code.Scopes.{names_in};
 
 use crate::TypeCause;
@@ -24,7 +23,7 @@ fn check_args(
     params: &[Param],
     args: &[Expr],
 ) -> Result<(), TypeCause>
-    ensures { result ≡ answer_of (typed.check_args (declared_of decls.now.names) (names_in scope.now) params.now (map expression_of args.now)) }
+    ensures { result ≡ answer_of (under decls.now scope.now typed.check_args params.now (map expression_of args.now)) }
 {
     for (param, arg) in params.iter().zip(args) {
         check_type(decls, scope, param.ty, arg)?;
@@ -40,7 +39,7 @@ pub(crate) fn check_arguments(
     params: &[Param],
     args: &[Expr],
 ) -> Result<(), TypeCause>
-    ensures { result ≡ answer_of (typed.check_arguments (declared_of decls.now.names) (names_in scope.now) name params.now (map expression_of args.now)) }
+    ensures { result ≡ answer_of (under decls.now scope.now typed.check_arguments name params.now (map expression_of args.now)) }
 {
     if params.len() != args.len() {
         return Err(TypeCause::WrongCount {
@@ -54,7 +53,7 @@ pub(crate) fn check_arguments(
 
 // The contract is typed in the scope.
 pub(crate) fn check_contract(index: &Index, scope: &Scope, term: &Term) -> Result<(), TypeCause>
-    ensures { result ≡ answer_of (typed.check_contract (book_in index.now) (reports_in index.now) (names_in scope.now) (contract_of term.now)) }
+    ensures { result ≡ answer_of (in_book index.now typed.check_contract (names_in scope.now) (contract_of term.now)) }
 {
     let decls = &index.book.decls;
     match term {

@@ -1,7 +1,6 @@
 //! The names that statements declare.
-ghost use Rattle.std.specs.Prelude.{◌≡◌, ◌||◌, [], None, IfOk, IfErr};
+ghost use Rattle.std.specs.Prelude.{◌≡◌, [], None, IfOk, IfErr};
 ghost use Rattle.std.specs.BTreeSet.{contains};
-ghost use Rattle.poets_value.specs.declared.value.Name.{Name};
 ghost use Rattle.poets_value.specs.Names.{name_cmp};
 ghost use Rattle.poets_syntax.specs.Typed.{is_among, check_new};
 ghost use Rattle.poets_call.specs.Statements.{statement_of, statements_of};
@@ -9,6 +8,7 @@ ghost use Rattle.poets_call.specs.Declarations as declarations;
 ghost use Rattle.poets_call.specs.TypedStatements.{twice_from};
 ghost use Rattle.poets_types.specs.Faults.{IsFirstFault};
 ghost use Rattle.poets_types.specs.code.Answers.{IsAnswerOf};
+ghost use Rattle.poets_types.specs.code.Tables.{AreAdded};
 
 use crate::table::add;
 use crate::{TypeCause, TypeFault};
@@ -33,7 +33,7 @@ fn names_declared(statement: &Statement) -> &[Name]
 // Adds names, if each is new.
 fn add_names(seen: &mut BTreeSet<Name>, names: &[Name]) -> Result<(), TypeCause>
     ensures told { IsAnswerOf (check_new (contains name_cmp seen.old) [] names.now) result }
-    ensures seen { IfOk result (λ _. (x : Name) → contains name_cmp seen.new x ≡ (contains name_cmp seen.old x || is_among names.now x)) }
+    ensures seen { IfOk result (λ _. AreAdded (is_among names.now) seen.old seen.new) }
 {
     for name in names {
         if !add(seen, *name)? {

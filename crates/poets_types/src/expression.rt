@@ -1,12 +1,11 @@
 //! Types of expressions.
 ghost use Rattle.std.specs.Prelude.{◌≡◌};
-ghost use Rattle.poets_value.specs.declared.value.Ty.TheVariants as T;
 ghost use Rattle.poets_expr.specs.Env.{declared_of};
 ghost use Rattle.poets_expr.specs.Expression.{expression_of};
 ghost use Rattle.poets_syntax.specs.TypeOf as spec;
 ghost use Rattle.poets_syntax.specs.Typed as typed;
 ghost use Rattle.poets_types.specs.code.Answers.{answer_of};
-ghost use Rattle.poets_types.specs.code.Scopes.{names_in};
+ghost use Rattle.poets_types.specs.code.Checks.{under};
 
 use crate::TypeCause;
 use crate::scope::Scope;
@@ -140,7 +139,7 @@ fn resource_type(decls: &Decls, kind: Name) -> Result<Ty, TypeCause>
 
 // The type of an expression.
 pub(crate) fn type_of(decls: &Decls, scope: &Scope, e: &Expr) -> Result<Ty, TypeCause>
-    ensures { result ≡ answer_of (spec.type_of (declared_of decls.now.names) (names_in scope.now) (expression_of e.now)) }
+    ensures { result ≡ answer_of (under decls.now scope.now spec.type_of (expression_of e.now)) }
 {
     match e {
         Expr::Int(_) => Ok(Ty::Int),
@@ -172,7 +171,7 @@ pub(crate) fn check_type(
     wanted: Ty,
     e: &Expr,
 ) -> Result<(), TypeCause>
-    ensures { result ≡ answer_of (typed.check_type (declared_of decls.now.names) (names_in scope.now) wanted (expression_of e.now)) }
+    ensures { result ≡ answer_of (under decls.now scope.now typed.check_type wanted (expression_of e.now)) }
 {
     must_be(wanted, type_of(decls, scope, e)?)
 }

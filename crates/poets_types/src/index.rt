@@ -1,11 +1,6 @@
 //! The templates and the reports of a book by their names.
 ghost use Rattle.std.specs.Prelude.{◌≡◌, IfOk};
-ghost use Rattle.std.specs.List.{position_from, list_any};
-ghost use Rattle.std.specs.BTreeMap.{get};
-ghost use Rattle.std.specs.BTreeSet as tree_set;
-ghost use Rattle.poets_value.specs.declared.value.Name.{Name};
-ghost use Rattle.poets_value.specs.Names.{name_cmp};
-ghost use Rattle.poets_expr.specs.Env.{same_name};
+ghost use Rattle.poets_types.specs.code.Tables.{HasFirstPlaces, HasReportNames};
 
 use crate::table::{add, enter};
 use poets_report::Report;
@@ -21,13 +16,13 @@ pub(crate) struct Index<'a> {
     pub(crate) reports: &'a [Report],
     places: BTreeMap<Name, usize>,
     report_names: BTreeSet<Name>,
-    ghost first_places: { (x : Name) → get name_cmp places x ≡ position_from (λ t. same_name t.name x) 0 book.now.templates.items },
-    ghost all_reports: { (x : Name) → tree_set.contains name_cmp report_names x ≡ list_any (λ r. same_name x r.name) reports.now },
+    ghost first_places: { HasFirstPlaces book.now.templates.items places },
+    ghost all_reports: { HasReportNames reports.now report_names },
 }
 
 // The first place of each template's name.
 fn places(alloc: Global, templates: &[Template]) -> Result<BTreeMap<Name, usize>, Memory>
-    ensures { IfOk result (λ m. (x : Name) → get name_cmp m x ≡ position_from (λ t. same_name t.name x) 0 templates.now) }
+    ensures { IfOk result (HasFirstPlaces templates.now) }
 {
     let mut places = BTreeMap::new(alloc);
     for (place, template) in templates.iter().enumerate() {
@@ -39,7 +34,7 @@ fn places(alloc: Global, templates: &[Template]) -> Result<BTreeMap<Name, usize>
 // The reports' names.
 #[tactic(auto, using(std::proofs::lemmas::List::Folds::list_any_more))]
 fn report_names(alloc: Global, reports: &[Report]) -> Result<BTreeSet<Name>, Memory>
-    ensures { IfOk result (λ s. (x : Name) → tree_set.contains name_cmp s x ≡ list_any (λ r. same_name x r.name) reports.now) }
+    ensures { IfOk result (HasReportNames reports.now) }
 {
     let mut names = BTreeSet::new(alloc);
     for report in reports {
@@ -49,10 +44,10 @@ fn report_names(alloc: Global, reports: &[Report]) -> Result<BTreeSet<Name>, Mem
 }
 
 impl<'a> Index<'a> {
-    ghost use Rattle.std.specs.Prelude.{map, option_map, is_some};
+    ghost use Rattle.std.specs.Prelude.{option_map, is_some};
     ghost use Rattle.poets_syntax.specs.Book.{template_of, template_in};
-    ghost use Rattle.poets_syntax.specs.Typed.{in_use, is_among};
-    ghost use Rattle.poets_types.specs.code.Indices.{book_in, reports_in};
+    ghost use Rattle.poets_syntax.specs.Typed.{is_among};
+    ghost use Rattle.poets_types.specs.code.Indices.{book_in, reports_in, used_in};
 
     // The index of a book and its reports.
     pub(crate) fn new(
@@ -96,7 +91,7 @@ impl<'a> Index<'a> {
 
     // Whether the name is that of an agent, a kind, a template or a report.
     pub(crate) fn is_used(&self, name: Name) -> bool
-        ensures { result ≡ in_use (book_in self.now) (reports_in self.now) name }
+        ensures { result ≡ used_in self.now name }
     {
         self.book.decls.names.contains_key(&name) || self.is_template(name) || self.is_report(name)
     }

@@ -23,11 +23,10 @@ pub(crate) struct Params<'a> {
 }
 
 impl<'a> Params<'a> {
-    ghost use Rattle.std.specs.Prelude.{map, [], IfOk, IfErr};
+    ghost use Rattle.std.specs.Prelude.{IfOk, IfErr};
     ghost use Rattle.poets_syntax.specs.TypeOf.{Passes};
-    ghost use Rattle.poets_syntax.specs.Typed.{in_use, check_new};
     ghost use Rattle.poets_types.specs.Faults.{IsFaultOf};
-    ghost use Rattle.poets_types.specs.code.Indices.{book_in, reports_in};
+    ghost use Rattle.poets_types.specs.code.Checks.{params_verdict};
 
     // The parameters, if none of their names is in use, and none stands twice.
     pub(crate) fn new(
@@ -36,8 +35,8 @@ impl<'a> Params<'a> {
         list: &'a [Param],
     ) -> Result<Params<'a>, TypeCause>
         ensures list { IfOk result (λ params. params.list.now ≡ list.now) }
-        ensures passes { IfOk result (λ _. check_new (in_use (book_in index.now) (reports_in index.now)) [] (map (λ p. p.name) list.now) ≡ Passes tt) }
-        ensures fault { IfErr result (IsFaultOf (check_new (in_use (book_in index.now) (reports_in index.now)) [] (map (λ p. p.name) list.now))) }
+        ensures passes { IfOk result (λ _. params_verdict index.now list.now ≡ Passes tt) }
+        ensures fault { IfErr result (IsFaultOf (params_verdict index.now list.now)) }
     {
         let mut types = BTreeMap::new(alloc);
         for param in list {

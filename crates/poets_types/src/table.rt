@@ -1,11 +1,10 @@
 //! Tables and sets of names.
-ghost use Rattle.std.specs.Prelude.{◌≡◌, ◌||◌, not, is_some, IfOk, Some, None, if◌then◌else◌};
-ghost use Rattle.std.specs.Option.{option_or};
+ghost use Rattle.std.specs.Prelude.{◌≡◌, not, is_some, IfOk};
 ghost use Rattle.std.specs.BTreeMap.{get};
 ghost use Rattle.std.specs.BTreeSet.{contains};
-ghost use Rattle.poets_value.specs.declared.value.Name.{Name};
 ghost use Rattle.poets_value.specs.Names.{name_cmp};
 ghost use Rattle.poets_expr.specs.Env.{same_name};
+ghost use Rattle.poets_types.specs.code.Tables.{AreAdded, AreEntered, only};
 
 use poets_value::{Memory, Name};
 use std::collections::{BTreeMap, BTreeSet};
@@ -17,7 +16,7 @@ pub(crate) fn enter<V: Drop>(
     value: V,
 ) -> Result<bool, Memory>
     ensures new { IfOk result (λ new. new ≡ not (is_some (get name_cmp table.old name))) }
-    ensures names { IfOk result (λ _. (x : Name) → get name_cmp table.new x ≡ option_or (get name_cmp table.old x) (if same_name name x then Some value else None)) }
+    ensures names { IfOk result (λ _. AreEntered (only name value) table.old table.new) }
 {
     if table.contains_key(&name) {
         return Ok(false);
@@ -30,7 +29,7 @@ pub(crate) fn enter<V: Drop>(
 #[tactic(auto, using(crate::proofs::Tables::same_is_eq))]
 pub(crate) fn add(names: &mut BTreeSet<Name>, name: Name) -> Result<bool, Memory>
     ensures new { IfOk result (λ new. new ≡ not (contains name_cmp names.old name)) }
-    ensures names { IfOk result (λ _. (x : Name) → contains name_cmp names.new x ≡ (contains name_cmp names.old x || same_name x name)) }
+    ensures names { IfOk result (λ _. AreAdded (λ x. same_name x name) names.old names.new) }
 {
     Ok(names.insert(name)?)
 }

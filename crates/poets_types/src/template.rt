@@ -1,13 +1,11 @@
 //! Types of templates and reports.
-ghost use Rattle.std.specs.Prelude.{◌≡◌, ◌∷◌, ◌++◌, option_map};
-ghost use Rattle.poets_expr.specs.Env.{declared_of};
+ghost use Rattle.std.specs.Prelude.{◌≡◌, option_map};
 ghost use Rattle.poets_expr.specs.Expression.{expression_of};
 ghost use Rattle.poets_syntax.specs.Book.{template_of};
-ghost use Rattle.poets_syntax.specs.Typed as typed;
 ghost use Rattle.poets_report.specs.Reports.{report_of};
-ghost use Rattle.poets_call.specs.TypedStatements as typed_statements;
+ghost use Rattle.poets_call.specs.TypedStatements as spec;
 ghost use Rattle.poets_types.specs.code.Answers.{answer_of, IsAnswerOf};
-ghost use Rattle.poets_types.specs.code.Indices.{book_in, reports_in};
+ghost use Rattle.poets_types.specs.code.Checks.{in_book, step_verdict, under};
 ghost use Rattle.poets_types.specs.code.Scopes.{names_in};
 
 use crate::TypeCause;
@@ -28,7 +26,7 @@ pub(crate) fn check_template(
     index: &Index,
     template: &Template,
 ) -> Result<(), TypeCause>
-    ensures { IsAnswerOf (typed_statements.check_template (book_in index.now) (reports_in index.now) (template_of template.now)) result }
+    ensures { IsAnswerOf (in_book index.now spec.check_template (template_of template.now)) result }
 {
     let params = Params::new(alloc, index, template.params.as_slice())?;
     check_contract(index, &Scope::Params(&params), &template.body)
@@ -36,7 +34,7 @@ pub(crate) fn check_template(
 
 // The key has a type, if there is one.
 fn check_key(decls: &Decls, scope: &Scope, key: &Option<Expr>) -> Result<(), TypeCause>
-    ensures { result ≡ answer_of (typed_statements.check_key (declared_of decls.now.names) (names_in scope.now) (option_map expression_of key.now)) }
+    ensures { result ≡ answer_of (under decls.now scope.now spec.check_key (option_map expression_of key.now)) }
 {
     if let Some(key) = key {
         type_of(decls, scope, key)?;
@@ -46,7 +44,7 @@ fn check_key(decls: &Decls, scope: &Scope, key: &Option<Expr>) -> Result<(), Typ
 
 // The step is of the report's type, under the binders and the name of what is carried.
 fn check_step(decls: &Decls, scope: &Scope, report: &Report) -> Result<(), TypeCause>
-    ensures { result ≡ answer_of (typed.check_type (declared_of decls.now.names) (typed.types_bound report.now.binders ++ (report.now.carry, report.now.ty) ∷ names_in scope.now) report.now.ty (expression_of report.now.step)) }
+    ensures { result ≡ answer_of (under decls.now scope.now step_verdict (report_of report.now)) }
 {
     let carried = [Param {
         name: report.carry,
@@ -60,7 +58,7 @@ fn check_step(decls: &Decls, scope: &Scope, report: &Report) -> Result<(), TypeC
 
 // The start, the names, the step and the key pass, under the parameters.
 fn check_fold(index: &Index, scope: &Scope, report: &Report) -> Result<(), TypeCause>
-    ensures { result ≡ answer_of (typed_statements.check_fold (book_in index.now) (reports_in index.now) (names_in scope.now) (report_of report.now)) }
+    ensures { result ≡ answer_of (in_book index.now spec.check_fold (names_in scope.now) (report_of report.now)) }
 {
     let decls = &index.book.decls;
     check_type(decls, scope, report.ty, &report.start)?;
@@ -80,7 +78,7 @@ fn check_fold(index: &Index, scope: &Scope, report: &Report) -> Result<(), TypeC
 
 // The parameters are new, and the rest passes under them.
 pub(crate) fn check_report(alloc: Global, index: &Index, report: &Report) -> Result<(), TypeCause>
-    ensures { IsAnswerOf (typed_statements.check_report (book_in index.now) (reports_in index.now) (report_of report.now)) result }
+    ensures { IsAnswerOf (in_book index.now spec.check_report (report_of report.now)) result }
 {
     let params = Params::new(alloc, index, report.params.as_slice())?;
     check_fold(index, &Scope::Params(&params), report)

@@ -1,0 +1,43 @@
+-- What checks of books, contracts and commands promise.
+use Rattle.std.specs.Prelude.{◌≡◌, List, [], map}
+use Rattle.poets_syntax.specs.declared.term.Book.{Book}
+use Rattle.poets_syntax.specs.declared.term.Term.{Term}
+use Rattle.poets_syntax.specs.Book.{book_of}
+use Rattle.poets_syntax.specs.Checked.{IsCheckedBook}
+use Rattle.poets_syntax.specs.Contract.{contract_of}
+use Rattle.poets_syntax.specs.TypeOf.{Verdict}
+use Rattle.poets_syntax.specs.Typed.{check_contract}
+use Rattle.poets_syntax.specs.Typing.{IsTyped}
+use Rattle.poets_report.specs.declared.report.Report.{Report}
+use Rattle.poets_report.specs.Reports.{report_of}
+use Rattle.poets_call.specs.declared.call.Command.{Command}
+use Rattle.poets_call.specs.Calls.{command_of}
+use Rattle.poets_call.specs.Declarations.{reports_of}
+use Rattle.poets_call.specs.Said.{Statement}
+use Rattle.poets_call.specs.TypedStatements.{report_names, check_command}
+use Rattle.poets_call.specs.Typing.{IsTypedCommand}
+use Rattle.poets_types.specs.declared.book.Checked.{Checked}
+
+-- the reports are those that the statements declare
+abbrev pub HasReportsOf : List Statement → Checked → Type 0
+HasReportsOf statements checked = map report_of checked.reports.items ≡ reports_of statements
+
+-- the book is a checked one beside the names of its reports
+abbrev pub IsCheckedWithReports : Checked → Type 0
+IsCheckedWithReports checked = IsCheckedBook (book_of checked.book) (report_names (map report_of checked.reports.items))
+
+-- the contract is typed in the book beside the reports, with no names in scope
+abbrev pub TermIsTyped : Book → List Report → Term → Type 0
+TermIsTyped book reports term = IsTyped (book_of book) (report_names (map report_of reports)) [] (contract_of term)
+
+-- whether the contract is typed there, or its first fault
+abbrev pub term_verdict : Book → List Report → Term → Verdict (Unit {0})
+term_verdict book reports term = check_contract (book_of book) (report_names (map report_of reports)) [] (contract_of term)
+
+-- the command is typed in the book with the reports
+abbrev pub CommandIsTyped : Book → List Report → Command → Type 0
+CommandIsTyped book reports command = IsTypedCommand (book_of book) (map report_of reports) (command_of command)
+
+-- whether the command is typed there, or its first fault
+abbrev pub command_verdict : Book → List Report → Command → Verdict (Unit {0})
+command_verdict book reports command = check_command (book_of book) (map report_of reports) (command_of command)
