@@ -101,8 +101,8 @@ abbrev pub BeginsUnder : Decls → Report → Listed (Option Value) → Listed (
 BeginsUnder decls report args log old new = Begins (declared_of decls.names) report args.items log.items old.watches new.watches
 
 -- the answer is that of the watch with the number, if there is one
-abbrev pub IsAnswerOf : ℕ → List WatchView → CodeAnswer → Type 0
-IsAnswerOf n watches a = (w : WatchView) → slice_get watches (n - 1) ≡ Some w → answer_of a ≡ w.answer
+abbrev pub IsAnswerOfWatch : ℕ → List WatchView → CodeAnswer → Type 0
+IsAnswerOfWatch n watches a = (w : WatchView) → slice_get watches (n - 1) ≡ Some w → answer_of a ≡ w.answer
 
 -- where the watch with the number is of a report without a key, this holds
 abbrev pub WhereSingle : ℕ → List WatchView → Type 0 → Type 0

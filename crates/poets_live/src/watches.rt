@@ -1,6 +1,6 @@
 //! All watches.
 ghost use Rattle.std.specs.Prelude.{◌≡◌, ◌+◌, ◌*◌, ◌<◌, ◌≤◌, [], map, length, IfOk, IsOk, OnOk, OnErr};
-ghost use Rattle.poets_live.specs.Watching.{AllBroughtUnder, AllMoved, BeginsUnder, HaveRoom, IsAnswerOf, WhereSingle};
+ghost use Rattle.poets_live.specs.Watching.{AllBroughtUnder, AllMoved, BeginsUnder, HaveRoom, IsAnswerOfWatch, WhereSingle};
 ghost use Rattle.poets_live.specs.code.Watches.{AllHaveRoom, AllSeen, AllTook};
 
 use crate::watch::Watch;
@@ -72,7 +72,7 @@ impl Watches {
     /// The answer of the watch with the number. Without a key it takes no memory.
     pub fn read(&self, number: u64) -> Result<Answer, Memory>
         requires { (0 < number) × (number ≤ length self.now.watches) }
-        ensures answer { IfOk result (IsAnswerOf number self.now.watches) }
+        ensures answer { IfOk result (IsAnswerOfWatch number self.now.watches) }
         ensures single { WhereSingle number self.now.watches (IsOk result) }
     {
         self.watches[(number - 1) as usize].read()

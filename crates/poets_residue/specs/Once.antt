@@ -45,7 +45,7 @@ asked_of book _ = 0
 abbrev pub once : Book → Marks → Contract → ℕ
 once book marks c = sum_by (asked_of book) (unique_keys same_contract (ready book marks c))
 
--- the same in a studied book
+-- what a residual of the contract asks at most, in a studied book (`once`)
 abbrev pub once_in : StudiedBook → Contract → ℕ
 once_in s c = once (book_of s.book) (marks_of s) c
 

@@ -25,19 +25,19 @@ template_named s f = template_in (book_of s.book).templates f
 abbrev pub found_with : (Mark → Bool) → Option (Bor TermTemplate × Bor Mark) → Bool
 found_with is found = option_map_or (λ p. is p.1.now) found false
 
--- whether the empty trace performs the contract, by the marks
+-- whether the empty trace performs the contract, by the marks of a studied book (`nullable`)
 abbrev pub nullable_in : StudiedBook → Contract → Bool
 nullable_in s c = nullable (marks_of s) c
 
--- each application has as many arguments as its template has parameters
+-- in a studied book each application of a template has as many arguments as it has parameters (`CountsFit`)
 abbrev pub CountsFitIn : StudiedBook → Contract → Type 0
 CountsFitIn s c = CountsFit (book_of s.book) c
 
--- how wide the contract is
+-- how wide the contract is in a studied book (`width`)
 abbrev pub width_in : StudiedBook → Contract → ℕ
 width_in s c = width (book_of s.book) (marks_of s) c
 
--- how wide it is, cut at one more than the greatest width
+-- how wide the contract is in a studied book, cut at one more than the greatest width
 abbrev pub wide_in : StudiedBook → Contract → ℕ
 wide_in s c = cut (width_in s c)
 
@@ -45,14 +45,14 @@ wide_in s c = cut (width_in s c)
 abbrev pub width_by_bodies : StudiedBook → Contract → ℕ
 width_by_bodies s c = wide_by (λ f. body_in (template_named s f) (width (book_of s.book) (marks_of s))) (marks_of s) c
 
--- the normal form of an application
+-- the normal form of an application in a studied book (`app`)
 abbrev pub app_in : StudiedBook → Name → List Expression → Contract
 app_in s f args = app (book_of s.book) (marks_of s) f args
 
--- the normal form
+-- the normal form of the contract in a studied book (`normal`)
 abbrev pub normal_in : StudiedBook → Contract → Contract
 normal_in s c = normal (book_of s.book) (marks_of s) c
 
--- the residual
+-- the residual of the contract by the event, in a studied book (`after`)
 abbrev pub after_in : StudiedBook → Event → Contract → Contract
 after_in s e c = after (book_of s.book) (marks_of s) e c

@@ -32,7 +32,7 @@ abbrev pub applied : Name → Option (List Expression) → Contract
 applied f (Some args) = App f args
 applied f None = Failure
 
--- the same of the arguments that are kept
+-- the template applied to the arguments that are kept, or `Failure` where there are none
 abbrev pub applied_to : Name → Option (Listed Expr) → Contract
 applied_to f kept = applied f (option_map (λ r. map expression_of r.items) kept)
 

@@ -74,7 +74,7 @@ step_of step = (expression_of step.0, option_map expression_of step.1)
 abbrev pub Finds : Option (Bor (List Token)) → Option (List Tok) → Type 0
 Finds found read = option_map (λ r. toks r.now) found ≡ read
 
--- the same of an answer that has what is read, too
+-- the answer is what is read and the tokens after it, and nothing where it does not stand there
 abbrev pub FindsFront : {X : Type 0} → Option (X × Bor (List Token)) → Option (X × List Tok) → Type 0
 FindsFront found read = option_map (λ p. (p.0, toks p.1.now)) found ≡ read
 

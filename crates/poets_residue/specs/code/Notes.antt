@@ -18,7 +18,7 @@ abbrev pub AreNotes : Book → Marks → Event → List Node → (ℕ → Option
 AreNotes book marks e nodes notes =
     (k v : ℕ) → notes k ≡ Some v → (k < length nodes) × Stands nodes v (after book marks e (contract_at nodes k))
 
--- so it is with the notes of a memo, in a studied book
+-- each row that the memo notes has its residual, in a studied book, at the row with the number noted
 abbrev pub AreNotesIn : StudiedBook → Event → List Node → (memo : List (Option ℕ)) → Type 0
 AreNotesIn s e nodes memo = AreNotes (book_of s.book) (marks_of s) e nodes (noted memo)
 
@@ -35,6 +35,6 @@ Derives s e nodes memo result c = IfOk result (IsDerived (book_of s.book) (marks
 abbrev pub AsksInWidth : Book → Marks → Contract → ℕ → ℕ → Type 0
 AsksInWidth book marks c old new = new + size c ≤ old + questions c + width book marks c
 
--- so it is in a studied book
+-- a residual of the contract in a studied book asks at most what the contract itself may ask, and the widths of the bodies that it exposes
 abbrev pub AsksWithinWidth : StudiedBook → Contract → ℕ → ℕ → Type 0
 AsksWithinWidth s c old new = AsksInWidth (book_of s.book) (marks_of s) c old new

@@ -31,13 +31,13 @@ pub record IsSpent (book : Book) (marks : Marks) (c : Contract) (Before After : 
   pub kept : IfOk r (λ _. (d : Contract) → Before d → After d)
   pub asks : new ≤ old + sum_by (asked_of book) begun
 
--- so it is in a studied book, where a memo notes rows of a table before the call and after it
+-- what a call in a studied book asks is paid for by transmits and applications of the contract that the memo did not note before it, and notes after it
 abbrev pub Spends : {E : Type 0} → StudiedBook → Contract → (nodes : List Node) → (memo : List (Option ℕ)) →
     (new_nodes : List Node) → (new_memo : List (Option ℕ)) → (old new : ℕ) → Result ℕ E → Type 0
 Spends s c nodes memo new_nodes new_memo old new result =
     IsSpent (book_of s.book) (marks_of s) c (IsNoted nodes (noted memo)) (IsNoted new_nodes (noted new_memo)) old new result
 
--- so it is where the contract itself is yet to be noted
+-- what such a call asks is paid for as well where the contract itself is yet to be noted after it
 abbrev pub SpendsAnew : {E : Type 0} → StudiedBook → Contract → (nodes : List Node) → (memo : List (Option ℕ)) →
     (new_nodes : List Node) → (new_memo : List (Option ℕ)) → (old new : ℕ) → Result ℕ E → Type 0
 SpendsAnew s c nodes memo new_nodes new_memo old new result =
