@@ -1,5 +1,5 @@
 -- Residuals of rows, from those of their parts, and what they asked.
-use Rattle.std.proofs.Common.{◌≡◌, ℕ, ◌+◌, ◌<◌, ◌≤◌, true, false, nat_eq, cond, arith, List, length, Option, Some, refl, sym, ◌∙◌, ap, subst, Result, IfOk}
+use Rattle.std.proofs.Common.{◌≡◌, ℕ, ◌<◌, true, false, nat_eq, cond, arith, List, length, Option, Some, refl, sym, ◌∙◌, ap, subst, Result, IfOk}
 use Rattle.poets_value.specs.declared.event.Event.{Event}
 use Rattle.poets_syntax.specs.Contract.{Contract, Failure, Plus, Par, Seq}
 use Rattle.poets_syntax.specs.Plain.{Book}

@@ -4,3 +4,4 @@ pub mod Spent
 pub mod Bodies
 pub mod Taking
 pub mod Sides
+pub mod InTables

@@ -4,12 +4,13 @@ ghost use Rattle.poets_syntax.specs.Book.{book_of};
 ghost use Rattle.poets_syntax.specs.Contract.{Plus, Par, Seq};
 ghost use Rattle.poets_syntax.specs.InStudied.{after_in, width_in, CountsFitIn};
 ghost use Rattle.poets_syntax.specs.Studied.{marks_of};
-ghost use Rattle.poets_norm.specs.Rows.{joined_at, GivesRows};
+ghost use Rattle.poets_norm.specs.Rows.{GivesRows};
 ghost use Rattle.poets_cons.specs.Notes.{noted};
-ghost use Rattle.poets_cons.specs.Table.{contract_at, contract_of_rows, Extends};
+ghost use Rattle.poets_cons.specs.Table.{contract_of_rows, Extends};
 ghost use Rattle.poets_residue.specs.Once.{once_in};
 ghost use Rattle.poets_residue.specs.Unfolding.{IsStudied};
-ghost use Rattle.poets_residue.specs.code.Notes.{AreNotesIn, AsksWithinWidth, Derives};
+ghost use Rattle.poets_residue.specs.code.InTables.{both, row};
+ghost use Rattle.poets_residue.specs.code.Notes.{AreNotesIn, AsksWithinWidth, Leaves};
 ghost use Rattle.poets_residue.specs.code.Spent.{Spends, SpendsAnew};
 
 use crate::bodies::unfold;
@@ -36,13 +37,13 @@ fn derive<L>(
 ) -> Result<usize, Memory>
     requires studied { IsStudied (book_of studied.now.book) (marks_of studied.now) }
     requires within { place < length arena.old }
-    requires fits { CountsFitIn studied.now (contract_at arena.old place) }
+    requires fits { CountsFitIn studied.now (row place arena.old) }
     requires notes { AreNotesIn studied.now event.now arena.old memo.old }
     ensures grows { Extends arena.old arena.new }
-    ensures derived { Derives studied.now event.now arena.new memo.new result (contract_at arena.old place) }
+    ensures derived { Leaves studied.now event.now (row place) arena.old arena.new memo.new result }
     ensures rises { asks.old ≤ asks.new }
-    ensures asks { AsksWithinWidth studied.now (contract_at arena.old place) asks.old asks.new }
-    ensures once { Spends studied.now (contract_at arena.old place) arena.old memo.old arena.new memo.new asks.old asks.new result }
+    ensures asks { AsksWithinWidth studied.now (row place arena.old) asks.old asks.new }
+    ensures once { Spends studied.now (row place) arena.old memo.old arena.new memo.new asks.old asks.new result }
 {
     if let Some(known) = memo.get(place) {
         return Ok(known);
@@ -64,14 +65,14 @@ fn derive_anew<L>(
 ) -> Result<usize, Memory>
     requires studied { IsStudied (book_of studied.now.book) (marks_of studied.now) }
     requires within { place < length arena.old }
-    requires fits { CountsFitIn studied.now (contract_at arena.old place) }
+    requires fits { CountsFitIn studied.now (row place arena.old) }
     requires notes { AreNotesIn studied.now event.now arena.old memo.old }
     requires new { noted memo.old place ≡ None }
     ensures grows { Extends arena.old arena.new }
-    ensures derived { Derives studied.now event.now arena.new memo.new result (contract_at arena.old place) }
+    ensures derived { Leaves studied.now event.now (row place) arena.old arena.new memo.new result }
     ensures rises { asks.old ≤ asks.new }
-    ensures asks { AsksWithinWidth studied.now (contract_at arena.old place) asks.old asks.new }
-    ensures once { SpendsAnew studied.now (contract_at arena.old place) arena.old memo.old arena.new memo.new asks.old asks.new result }
+    ensures asks { AsksWithinWidth studied.now (row place arena.old) asks.old asks.new }
+    ensures once { SpendsAnew studied.now (row place) arena.old memo.old arena.new memo.new asks.old asks.new result }
 {
     match arena.node(place) {
         Node::Success => failure(arena),
@@ -127,13 +128,13 @@ fn derive_plus<L>(
     requires studied { IsStudied (book_of studied.now.book) (marks_of studied.now) }
     requires first { a < length arena.old }
     requires second { b < length arena.old }
-    requires fits { CountsFitIn studied.now (joined_at Plus arena.old a b) }
+    requires fits { CountsFitIn studied.now (both Plus a b arena.old) }
     requires notes { AreNotesIn studied.now event.now arena.old memo.old }
     ensures grows { Extends arena.old arena.new }
-    ensures derived { Derives studied.now event.now arena.new memo.new result (joined_at Plus arena.old a b) }
+    ensures derived { Leaves studied.now event.now (both Plus a b) arena.old arena.new memo.new result }
     ensures rises { asks.old ≤ asks.new }
-    ensures asks { AsksWithinWidth studied.now (joined_at Plus arena.old a b) asks.old asks.new }
-    ensures once { Spends studied.now (joined_at Plus arena.old a b) arena.old memo.old arena.new memo.new asks.old asks.new result }
+    ensures asks { AsksWithinWidth studied.now (both Plus a b arena.old) asks.old asks.new }
+    ensures once { Spends studied.now (both Plus a b) arena.old memo.old arena.new memo.new asks.old asks.new result }
 {
     let after_a = derive(alloc, studied, event, arena, memo, a, asks)?;
     let after_b = derive(alloc, studied, event, arena, memo, b, asks)?;
@@ -157,13 +158,13 @@ fn derive_par<L>(
     requires studied { IsStudied (book_of studied.now.book) (marks_of studied.now) }
     requires first { a < length arena.old }
     requires second { b < length arena.old }
-    requires fits { CountsFitIn studied.now (joined_at Par arena.old a b) }
+    requires fits { CountsFitIn studied.now (both Par a b arena.old) }
     requires notes { AreNotesIn studied.now event.now arena.old memo.old }
     ensures grows { Extends arena.old arena.new }
-    ensures derived { Derives studied.now event.now arena.new memo.new result (joined_at Par arena.old a b) }
+    ensures derived { Leaves studied.now event.now (both Par a b) arena.old arena.new memo.new result }
     ensures rises { asks.old ≤ asks.new }
-    ensures asks { AsksWithinWidth studied.now (joined_at Par arena.old a b) asks.old asks.new }
-    ensures once { Spends studied.now (joined_at Par arena.old a b) arena.old memo.old arena.new memo.new asks.old asks.new result }
+    ensures asks { AsksWithinWidth studied.now (both Par a b arena.old) asks.old asks.new }
+    ensures once { Spends studied.now (both Par a b) arena.old memo.old arena.new memo.new asks.old asks.new result }
 {
     let after_a = derive(alloc, studied, event, arena, memo, a, asks)?;
     let after_b = derive(alloc, studied, event, arena, memo, b, asks)?;
@@ -185,13 +186,13 @@ fn derive_seq<L>(
     requires studied { IsStudied (book_of studied.now.book) (marks_of studied.now) }
     requires first { a < length arena.old }
     requires second { b < length arena.old }
-    requires fits { CountsFitIn studied.now (joined_at Seq arena.old a b) }
+    requires fits { CountsFitIn studied.now (both Seq a b arena.old) }
     requires notes { AreNotesIn studied.now event.now arena.old memo.old }
     ensures grows { Extends arena.old arena.new }
-    ensures derived { Derives studied.now event.now arena.new memo.new result (joined_at Seq arena.old a b) }
+    ensures derived { Leaves studied.now event.now (both Seq a b) arena.old arena.new memo.new result }
     ensures rises { asks.old ≤ asks.new }
-    ensures asks { AsksWithinWidth studied.now (joined_at Seq arena.old a b) asks.old asks.new }
-    ensures once { Spends studied.now (joined_at Seq arena.old a b) arena.old memo.old arena.new memo.new asks.old asks.new result }
+    ensures asks { AsksWithinWidth studied.now (both Seq a b arena.old) asks.old asks.new }
+    ensures once { Spends studied.now (both Seq a b) arena.old memo.old arena.new memo.new asks.old asks.new result }
 {
     let after_a = derive(alloc, studied, event, arena, memo, a, asks)?;
     let first = seq(arena, after_a, b)?;

@@ -27,9 +27,11 @@ pub record IsDerived (book : Book) (marks : Marks) (e : Event) (nodes : List Nod
   pub notes : AreNotes book marks e nodes memo
   pub stands : Stands nodes place (after book marks e c)
 
--- where there is a result, it is the number of a row that is the residual of the contract, and the notes of the memo are right
-abbrev pub Derives : {E : Type 0} → StudiedBook → Event → List Node → (memo : List (Option ℕ)) → Result ℕ E → Contract → Type 0
-Derives s e nodes memo result c = IfOk result (IsDerived (book_of s.book) (marks_of s) e nodes (noted memo) c)
+-- where there is a result, it is the number of a row in the new table, the residual of a contract in the old one, and the notes
+-- of the memo are right
+abbrev pub Leaves : {E : Type 0} → StudiedBook → Event → (of : List Node → Contract) → (old new : List Node) →
+    (memo : List (Option ℕ)) → Result ℕ E → Type 0
+Leaves s e of old new memo result = IfOk result (IsDerived (book_of s.book) (marks_of s) e new (noted memo) (of old))
 
 -- a residual of the contract asks at most what the contract itself may ask, and the widths of the bodies that it exposes
 abbrev pub AsksInWidth : Book → Marks → Contract → ℕ → ℕ → Type 0

@@ -1,6 +1,6 @@
 -- What a call that derives a contract asks, by the transmits and applications that it begins.
-use Rattle.std.specs.Prelude.{◌≡◌, ◌+◌, ◌≤◌, ◌⊎◌, ℕ, true, List, sum_by, Option, Some, Result, IfOk}
-use Rattle.std.specs.List.{IsDistinct, list_any}
+use Rattle.std.specs.Prelude.{◌≡◌, ◌+◌, ◌≤◌, ◌⊎◌, ℕ, List, sum_by, Option, Some, Result, IfOk}
+use Rattle.std.specs.List.{IsDistinct}
 use Rattle.poets_syntax.specs.Book.{book_of}
 use Rattle.poets_syntax.specs.Contract.{Contract}
 use Rattle.poets_syntax.specs.Same.{same_contract}
@@ -31,14 +31,15 @@ pub record IsSpent (book : Book) (marks : Marks) (c : Contract) (Before After : 
   pub kept : IfOk r (λ _. (d : Contract) → Before d → After d)
   pub asks : new ≤ old + sum_by (asked_of book) begun
 
--- what a call in a studied book asks is paid for by transmits and applications of the contract that the memo did not note before it, and notes after it
-abbrev pub Spends : {E : Type 0} → StudiedBook → Contract → (nodes : List Node) → (memo : List (Option ℕ)) →
-    (new_nodes : List Node) → (new_memo : List (Option ℕ)) → (old new : ℕ) → Result ℕ E → Type 0
-Spends s c nodes memo new_nodes new_memo old new result =
-    IsSpent (book_of s.book) (marks_of s) c (IsNoted nodes (noted memo)) (IsNoted new_nodes (noted new_memo)) old new result
+-- what a call in a studied book asks for a contract of the old table is paid for by transmits and applications of it that the
+-- old memo does not note, and the new one does
+abbrev pub Spends : {E : Type 0} → StudiedBook → (of : List Node → Contract) → (old : List Node) → (memo : List (Option ℕ)) →
+    (new : List Node) → (new_memo : List (Option ℕ)) → (asks new_asks : ℕ) → Result ℕ E → Type 0
+Spends s of old memo new new_memo asks new_asks result =
+    IsSpent (book_of s.book) (marks_of s) (of old) (IsNoted old (noted memo)) (IsNoted new (noted new_memo)) asks new_asks result
 
--- what such a call asks is paid for as well where the contract itself is yet to be noted after it
-abbrev pub SpendsAnew : {E : Type 0} → StudiedBook → Contract → (nodes : List Node) → (memo : List (Option ℕ)) →
-    (new_nodes : List Node) → (new_memo : List (Option ℕ)) → (old new : ℕ) → Result ℕ E → Type 0
-SpendsAnew s c nodes memo new_nodes new_memo old new result =
-    IsSpent (book_of s.book) (marks_of s) c (IsNoted nodes (noted memo)) (IsNotedBut c new_nodes (noted new_memo)) old new result
+-- what such a call asks is paid for so where the contract itself is yet to be noted
+abbrev pub SpendsAnew : {E : Type 0} → StudiedBook → (of : List Node → Contract) → (old : List Node) → (memo : List (Option ℕ)) →
+    (new : List Node) → (new_memo : List (Option ℕ)) → (asks new_asks : ℕ) → Result ℕ E → Type 0
+SpendsAnew s of old memo new new_memo asks new_asks result =
+    IsSpent (book_of s.book) (marks_of s) (of old) (IsNoted old (noted memo)) (IsNotedBut (of old) new (noted new_memo)) asks new_asks result
