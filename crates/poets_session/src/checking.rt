@@ -6,7 +6,8 @@ ghost use Rattle.poets_syntax.specs.Guarded.{IsGuarded};
 ghost use Rattle.poets_call.specs.Statements.{statement_of, statements_of};
 ghost use Rattle.poets_call.specs.Declarations.{book_from};
 ghost use Rattle.poets_call.specs.TypedStatements.{first_fault};
-ghost use Rattle.poets_session.specs.code.Checking.{NoneDeclares, HasReports, TellsTypes, IsGuardRefusal};
+ghost use Rattle.poets_types.specs.Verdicts.{HasReportsOf};
+ghost use Rattle.poets_session.specs.code.Checking.{NoneDeclares, TellsTypes, IsGuardRefusal};
 ghost use Rattle.poets_session.specs.code.Checking as checking;
 ghost use Rattle.poets_session.specs.Refusals.{IsTemplateAt};
 ghost use Rattle.poets_session.specs.Causes.{IsCauseOf, type_cause};
@@ -33,7 +34,7 @@ fn cause_of(fault: TypeFault) -> SessionCause
 pub(crate) fn check_types(alloc: Global, statements: &[Statement]) -> Result<Checked, SessionCause>
     ensures passes { IfOk result (λ _. first_fault (statements_of statements.now) ≡ None) }
     ensures book { IfOk result (λ c. book_of c.book ≡ book_from (statements_of statements.now)) }
-    ensures reports { IfOk result (HasReports (statements_of statements.now)) }
+    ensures reports { IfOk result (HasReportsOf (statements_of statements.now)) }
     ensures checked { IfOk result (λ c. IsChecked (book_of c.book)) }
     ensures fault { IfErr result (TellsTypes (statements_of statements.now)) }
 {

@@ -30,7 +30,7 @@ IsCheckedWithReports checked = IsCheckedBook (book_of checked.book) (report_name
 abbrev pub TermIsTyped : Book → List Report → Term → Type 0
 TermIsTyped book reports term = IsTyped (book_of book) (report_names (map report_of reports)) [] (contract_of term)
 
--- whether the contract is typed there, or its first fault
+-- whether the contract is typed in the book beside the reports, or its first fault
 abbrev pub term_verdict : Book → List Report → Term → Verdict (Unit {0})
 term_verdict book reports term = check_contract (book_of book) (report_names (map report_of reports)) [] (contract_of term)
 
@@ -38,6 +38,6 @@ term_verdict book reports term = check_contract (book_of book) (report_names (ma
 abbrev pub CommandIsTyped : Book → List Report → Command → Type 0
 CommandIsTyped book reports command = IsTypedCommand (book_of book) (map report_of reports) (command_of command)
 
--- whether the command is typed there, or its first fault
+-- whether the command is typed in the book with the reports, or its first fault
 abbrev pub command_verdict : Book → List Report → Command → Verdict (Unit {0})
 command_verdict book reports command = check_command (book_of book) (map report_of reports) (command_of command)

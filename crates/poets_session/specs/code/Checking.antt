@@ -1,14 +1,12 @@
 -- Faults of types and cycles as refusals.
-use Rattle.std.specs.Prelude.{◌≡◌, ℕ, Bool, false, List, All, Some, map, option_map}
+use Rattle.std.specs.Prelude.{◌≡◌, ℕ, Bool, false, List, All, Some, option_map}
 use Rattle.poets_value.specs.declared.value.Name.{Name}
 use Rattle.poets_expr.specs.Env.{same_name}
 use Rattle.poets_guard.specs.FirstCycle.{IsFirstCycle}
-use Rattle.poets_report.specs.Reports.{report_of}
-use Rattle.poets_types.specs.declared.book.Checked.{Checked}
 use Rattle.poets_call.specs.declared.statement.Statement.{Statement as CodeStatement}
 use Rattle.poets_call.specs.Statements.{statement_of}
 use Rattle.poets_call.specs.Said.{Statement, Template}
-use Rattle.poets_call.specs.Declarations.{book_from, reports_of}
+use Rattle.poets_call.specs.Declarations.{book_from}
 use Rattle.poets_call.specs.TypedStatements.{first_fault}
 use Rattle.poets_call.specs.Plain.{TypeFault}
 use Rattle.poets_session.specs.Refusals.{Refusal, Mistyped, Unguarded, IsTemplateAt}
@@ -23,10 +21,6 @@ declares name s = false
 -- none of the statements declares the template
 abbrev pub NoneDeclares : Name → List CodeStatement → Type 0
 NoneDeclares name statements = All (λ s. declares name (statement_of s) ≡ false) statements
-
--- beside the book stand the reports of the statements
-abbrev pub HasReports : List Statement → Checked → Type 0
-HasReports statements checked = map report_of checked.reports.items ≡ reports_of statements
 
 -- the refusal of the first fault of types
 abbrev pub IsTypeRefusal : TypeFault → Refusal → Type 0
