@@ -1,5 +1,8 @@
 -- How many evaluations a command takes.
 use Rattle.std.specs.Prelude.{ℕ, ◌+◌, ◌*◌, ◌-◌, slice_get, length, min, Option, Some, None, List}
+use Rattle.std.specs.declared.alloc.Global.{Global}
+use Rattle.std.specs.declared.sync.Arc.{Arc}
+use Rattle.std.specs.Arc.{arc_value}
 use Rattle.poets_value.specs.declared.value.Name.{Name}
 use Rattle.poets_syntax.specs.declared.term.Term.{Term}
 use Rattle.poets_syntax.specs.Book.{book_of}
@@ -10,8 +13,11 @@ use Rattle.poets_cons.specs.declared.node.Node.{Node}
 use Rattle.poets_cons.specs.Table.{contract_of_rows}
 use Rattle.poets_residue.specs.Once.{once}
 use Rattle.poets_table.specs.TableView.{RowView, number_named}
+use Rattle.poets_call.specs.declared.call.Command.{Command as CodeCommand}
 use Rattle.poets_call.specs.declared.rules.Rules.{Rules}
+use Rattle.poets_call.specs.Calls.{command_of}
 use Rattle.poets_call.specs.Plain.{Command}
+use Rattle.poets_engine.specs.State.{State}
 use Rattle.poets_engine.specs.Store.{StoreView}
 
 -- how wide the contract is
@@ -44,3 +50,7 @@ most_evaluations rules store (Command.Tally x args) = length args + 1 + 2 * leng
 most_evaluations rules store (Command.Portfolio x args over) = length args
 most_evaluations rules store (Command.Watch x args) = length args
 most_evaluations rules store _ = 0
+
+-- the most evaluations that the command takes in the engine
+abbrev pub most_evaluations_in : State → Arc CodeCommand Global → ℕ
+most_evaluations_in e command = most_evaluations e.rules e.store (command_of (arc_value command))

@@ -1,4 +1,5 @@
 pub mod Store
+pub mod Takes
 pub mod Copies
 pub mod Works
 pub mod State

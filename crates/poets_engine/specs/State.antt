@@ -1,5 +1,5 @@
 -- An engine as plain data, and what it owes.
-use Rattle.std.specs.Prelude.{◌≡◌, ℕ, List, map, length}
+use Rattle.std.specs.Prelude.{◌≡◌, ℕ, false, List, [], ◌∷◌, ◌++◌, map, length}
 use Rattle.std.specs.declared.alloc.Global.{Global}
 use Rattle.std.specs.declared.sync.Arc.{Arc}
 use Rattle.std.specs.Arc.{arc_value}
@@ -12,8 +12,10 @@ use Rattle.poets_call.specs.Calls.{Call, command_of}
 use Rattle.poets_call.specs.Plain.{Reply}
 use Rattle.poets_call.specs.Histories.{AnswersIn}
 use Rattle.poets_call.specs.Plain as plain
+use Rattle.poets_engine.specs.Accepted.{has_changed}
 use Rattle.poets_engine.specs.Works.{OwesReply}
 use Rattle.poets_engine.specs.Store.{StoreView}
+use Rattle.poets_engine.specs.declared.kept.Body.{Body}
 use Rattle.poets_engine.specs.declared.kept.Kept.{Kept}
 
 -- the studied book with its reports, the calls made, and what is kept of them
@@ -29,6 +31,14 @@ commands_of history = map (λ p. (p.0, arc_value p.1)) history
 -- the clerks and commands of a list of calls as plain data
 abbrev pub plain_calls : List (ℕ × Command) → List Call
 plain_calls calls = map (λ p. (p.0, command_of p.1)) calls
+
+-- the engine has one call more, which is the clerk's, with the command
+abbrev pub AddsCall : ℕ → Arc Command Global → (old new : State) → Type 0
+AddsCall clerk command old new = new.calls ≡ old.calls ++ (clerk, arc_value command) ∷ []
+
+-- after a body by which nothing changed the engine keeps what it kept
+abbrev pub IsKeptUnlessChanged : Body → (old new : State) → Type 0
+IsKeptUnlessChanged body old new = has_changed body ≡ false → new.store ≡ old.store
 
 -- the kept value has the place of the call after those calls, and owes the right reply to the command there
 pub record Owes (book : Book) (reports : List Report) (calls : List Call) (request : plain.Command) (kept : Kept) : Type 0 where

@@ -1,14 +1,10 @@
 -- What an engine keeps, as plain data, and its changes.
-use Rattle.std.specs.Prelude.{◌≡◌, ℕ, ◌-◌, List, [], ◌∷◌, ◌++◌, Option}
+use Rattle.std.specs.Prelude.{ℕ, List}
 use Rattle.poets_value.specs.declared.event.Event.{Event}
-use Rattle.poets_value.specs.declared.value.Value.{Value}
-use Rattle.poets_expr.specs.Env.{Declared}
 use Rattle.poets_syntax.specs.declared.term.Term.{Term}
 use Rattle.poets_cons.specs.declared.node.Node.{Node}
-use Rattle.poets_report.specs.declared.report.Report.{Report}
-use Rattle.poets_report.specs.declared.folds.Change.{Change}
-use Rattle.poets_table.specs.TableView.{RowView, changed_at, with_event}
-use Rattle.poets_live.specs.Watching.{WatchView, AllBrought, AllMoved, Begins}
+use Rattle.poets_table.specs.TableView.{RowView}
+use Rattle.poets_live.specs.Watching.{WatchView}
 
 -- the contracts' rows, the log, and the watches
 pub record StoreView : Type 0 where

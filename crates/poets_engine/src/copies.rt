@@ -1,11 +1,10 @@
 //! Copies of what portfolios need of the rules.
-ghost use Rattle.std.specs.Prelude.{◌≡◌, Some, IfOk, IfSome, OnOk};
-ghost use Rattle.std.specs.Arc.{arc_value};
-ghost use Rattle.poets_expr.specs.Env.{declared_of};
+ghost use Rattle.std.specs.Prelude.{◌≡◌, Some, IfOk};
 ghost use Rattle.poets_report.specs.Reports.{report_of};
 ghost use Rattle.poets_call.specs.Replies.{report_in};
-ghost use Rattle.poets_call.specs.Rules.{book_of_rules, reports_of_rules};
-ghost use Rattle.poets_engine.specs.Copies.{AreCopies, AreReports, IsReport};
+ghost use Rattle.poets_call.specs.Rules.{reports_of_rules};
+ghost use Rattle.poets_engine.specs.Copies.{AreCopies, IsReport};
+ghost use Rattle.poets_engine.specs.code.Found.{AreNamesOf, IsFoundAmong};
 
 use poets_call::Rules;
 use poets_expr::Decls;
@@ -37,7 +36,7 @@ impl Copies {
     pub(crate) fn decls(&mut self, alloc: Global, rules: &Rules) -> Result<Arc<Decls>, Memory>
         requires { AreCopies rules.now self.old }
         ensures copies { AreCopies rules.now self.new }
-        ensures ok { IfOk result (λ d. declared_of (arc_value d).names ≡ (book_of_rules rules.now).declared) }
+        ensures ok { IfOk result (AreNamesOf rules.now) }
     {
         if let Some(decls) = &self.decls {
             return Ok(Arc::try_clone(decls)?);
@@ -71,7 +70,7 @@ impl Copies {
 
 // The report with that name among copies, if it is there.
 fn report_among(copies: &[Arc<Report>], name: Name) -> Result<Option<Arc<Report>>, Memory>
-    ensures { (reports : _) → AreReports reports copies.now → IfOk result (λ o. IfSome o (IsReport reports name)) }
+    ensures { IsFoundAmong copies.now name result }
 {
     for copy in copies {
         if copy.name == name {

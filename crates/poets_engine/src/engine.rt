@@ -1,14 +1,13 @@
 //! The engine's type.
-ghost use Rattle.std.specs.Prelude.{◌≡◌, ◌+◌, ◌++◌, ◌∷◌, ◌≤◌, [], false, IfOk, OnErr};
+ghost use Rattle.std.specs.Prelude.{◌≡◌, ◌+◌, ◌≤◌, [], IfOk, OnErr};
 ghost use Rattle.std.specs.Arc.{arc_value};
 ghost use Rattle.poets_syntax.specs.Whole.{IsWholeBook};
 ghost use Rattle.poets_call.specs.Calls.{command_of, reply_of};
 ghost use Rattle.poets_call.specs.Histories.{IsLegal};
 ghost use Rattle.poets_call.specs.Rules.{book_of_rules, reports_of_rules};
-ghost use Rattle.poets_call.specs.Taken.{IsTaken};
-ghost use Rattle.poets_engine.specs.Evaluations.{most_evaluations};
-ghost use Rattle.poets_engine.specs.Accepted.{has_changed};
-ghost use Rattle.poets_engine.specs.State.{commands_of, Fulfils, OwesNext};
+ghost use Rattle.poets_engine.specs.Evaluations.{most_evaluations_in};
+ghost use Rattle.poets_engine.specs.State.{AddsCall, Fulfils, IsKeptUnlessChanged, OwesNext, commands_of};
+ghost use Rattle.poets_engine.specs.Takes.{IsTakenBy};
 
 use crate::copies::Copies;
 use crate::kept::{Body, Kept};
@@ -96,11 +95,11 @@ impl Engine {
         command: &Arc<Command>,
         asks: &mut Asks<T>,
     ) -> Result<Kept, Memory>
-        requires { IsTaken (book_of_rules self.old.rules) (reports_of_rules self.old.rules) (command_of (arc_value command.now)) }
-        ensures calls { IfOk result (λ k. self.new.calls ≡ self.old.calls ++ (clerk, arc_value command.now) ∷ []) }
+        requires { IsTakenBy self.old.rules (command_of (arc_value command.now)) }
+        ensures calls { IfOk result (λ k. AddsCall clerk command.now self.old self.new) }
         ensures owes { IfOk result (λ k. OwesNext self.old (arc_value command.now) k) }
-        ensures refused { IfOk result (λ k. has_changed k.body ≡ false → self.new.store ≡ self.old.store) }
-        ensures asks { asks.new ≤ asks.old + most_evaluations self.old.rules self.old.store (command_of (arc_value command.now)) }
+        ensures refused { IfOk result (λ k. IsKeptUnlessChanged k.body self.old self.new) }
+        ensures asks { asks.new ≤ asks.old + most_evaluations_in self.old command.now }
         ensures rises { asks.old ≤ asks.new }
         ensures memory { OnErr result (self.new ≡ self.old) }
         ensures frame { self.new.rules ≡ self.old.rules }

@@ -3,10 +3,9 @@ ghost use Rattle.std.specs.Prelude.{◌≡◌, nat_lt};
 ghost use Rattle.poets_syntax.specs.Applied.{CountsFit};
 ghost use Rattle.poets_syntax.specs.Book.{book_of};
 ghost use Rattle.poets_syntax.specs.Width.{widest};
-ghost use Rattle.poets_call.specs.Calls.{reply_of};
 ghost use Rattle.poets_cons.specs.Row.{contract_by, row_of};
 ghost use Rattle.poets_cons.specs.Table.{contract_at, contract_of_rows};
-ghost use Rattle.poets_engine.specs.code.Judgements.{KeptFits, judgement_of};
+ghost use Rattle.poets_engine.specs.code.Judgements.{KeptFits, judge_rows, judgement_of};
 ghost use Rattle.poets_engine.specs.Evaluations.{width_in};
 ghost use Rattle.poets_engine.specs.code.Judgements as judgements;
 
@@ -51,7 +50,7 @@ fn is_large(studied: &Studied, rows: &Rows) -> bool
 /// Refuses a contract that no number of granted steps performs by the given reply, and one that is too large.
 pub(crate) fn judge(studied: &Studied, refusal: Reply, rows: Rows) -> Decision
     requires { CountsFit (book_of studied.now.book) (contract_of_rows rows) }
-    ensures choice { judgement_of result ≡ judgements.judge studied.now (reply_of refusal) (contract_of_rows rows) }
+    ensures choice { judgement_of result ≡ judge_rows studied.now refusal rows }
     ensures fits { KeptFits (book_of studied.now.book) (judgement_of result) }
 {
     if is_failure(&rows) {

@@ -1,12 +1,8 @@
 //! What a call keeps until its reply is asked for.
-ghost use Rattle.std.specs.Prelude.{◌≡◌, length, map, IfOk};
+ghost use Rattle.std.specs.Prelude.{◌≡◌, length, IfOk};
 ghost use Rattle.std.specs.Arc.{arc_value};
-ghost use Rattle.std.specs.List.{AllZip};
-ghost use Rattle.poets_expr.specs.Env.{declared_of};
-ghost use Rattle.poets_report.specs.Reports.{report_of};
-ghost use Rattle.poets_folio.specs.Rows.{IsRow};
-ghost use Rattle.poets_call.specs.Calls.{folio_row_of};
-ghost use Rattle.poets_call.specs.Replies.{total_of};
+ghost use Rattle.poets_folio.specs.Rows.{HasTotalOf};
+ghost use Rattle.poets_engine.specs.code.Folios.{HasRowsOfShared};
 
 use poets_call::{Folio, Reply};
 use poets_expr::Decls;
@@ -32,9 +28,8 @@ pub struct FolioWork {
 impl FolioWork {
     /// The portfolio, its rows made in parallel.
     pub(crate) fn finish<R: Threads + Sync>(self, rt: &R, alloc: Global) -> Result<Folio, Memory>
-        ensures rows { IfOk result (λ f. AllZip
-            (IsRow (declared_of (arc_value self.decls).names) (report_of (arc_value self.report)) self.args.items) self.parts.items f.rows.items) }
-        ensures total { IfOk result (λ f. f.total ≡ total_of (report_of (arc_value self.report)) (map folio_row_of f.rows.items)) }
+        ensures rows { IfOk result (HasRowsOfShared self.decls self.report self.args self.parts) }
+        ensures total { IfOk result (HasTotalOf (arc_value self.report)) }
     {
         portfolio(
             rt,

@@ -1,9 +1,8 @@
 //! Looks at contracts.
 ghost use Rattle.std.specs.Prelude.{IfOk};
-ghost use Rattle.poets_call.specs.Calls.{reply_of};
 ghost use Rattle.poets_call.specs.Plain.{Command};
 ghost use Rattle.poets_engine.specs.code.Judgements.{AreKept};
-ghost use Rattle.poets_engine.specs.code.Makes.{Makes};
+ghost use Rattle.poets_engine.specs.code.Makes.{MakesReply};
 
 use crate::store::Store;
 use poets_call::{Reply, Rules};
@@ -17,7 +16,7 @@ use std::alloc::Global;
 #[tactic(auto, using(crate::proofs::Showing::show_absent))]
 pub(crate) fn show(alloc: Global, rules: &Rules, store: &Store, name: Name) -> Result<Reply, Memory>
     requires { AreKept rules.now.studied store.now.rows }
-    ensures { IfOk result (λ r. Makes rules.now (Command.Show name) store.now store.now (reply_of r)) }
+    ensures { IfOk result (MakesReply rules.now (Command.Show name) store.now store.now) }
 {
     let Some(number) = store.find(name) else {
         return Ok(Reply::NoContract(name));

@@ -1,12 +1,10 @@
 //! Portfolios: a report over the events of each of several contracts.
-ghost use Rattle.std.specs.Prelude.{◌≡◌, ◌≢◌, ◌+◌, ◌≤◌, All, length, map, None, IfOk};
+ghost use Rattle.std.specs.Prelude.{◌≡◌, ◌≢◌, ◌+◌, ◌≤◌, length, None, IfOk};
 ghost use Rattle.std.specs.List.{AllZip};
-ghost use Rattle.poets_expr.specs.Expression.{expression_of};
 ghost use Rattle.poets_table.specs.TableView.{number_named};
-ghost use Rattle.poets_call.specs.Plain.{Command};
-ghost use Rattle.poets_call.specs.Rules.{book_of_rules, reports_of_rules};
-ghost use Rattle.poets_call.specs.Taken.{IsTaken};
 ghost use Rattle.poets_engine.specs.Copies.{AreCopies};
+ghost use Rattle.poets_engine.specs.Takes.{IsTakenBy};
+ghost use Rattle.poets_engine.specs.code.Commands.{portfolio_of};
 ghost use Rattle.poets_engine.specs.code.Makes.{MakesBody};
 ghost use Rattle.poets_engine.specs.code.Parts.{absent_from, IsPart};
 
@@ -71,9 +69,9 @@ pub(crate) fn portfolio<T>(
     over: &[Name],
     asks: &mut Asks<T>,
 ) -> Result<Body, Memory>
-    requires taken { IsTaken (book_of_rules rules.now) (reports_of_rules rules.now) (Command.Portfolio name (map expression_of args.now) over.now) }
+    requires taken { IsTakenBy rules.now (portfolio_of name args.now over.now) }
     requires copies { AreCopies rules.now copies.old }
-    ensures ok { IfOk result (λ b. MakesBody rules.now (Command.Portfolio name (map expression_of args.now) over.now) store.now store.now b) }
+    ensures ok { IfOk result (MakesBody rules.now (portfolio_of name args.now over.now) store.now store.now) }
     ensures copies { AreCopies rules.now copies.new }
     ensures asks { asks.new ≤ asks.old + length args.now }
     ensures rises { asks.old ≤ asks.new }

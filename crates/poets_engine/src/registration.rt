@@ -3,11 +3,9 @@ ghost use Rattle.std.specs.Prelude.{◌≡◌, ◌+◌, ◌≤◌, IfOk, OnErr};
 ghost use Rattle.std.specs.Arc.{arc_value};
 ghost use Rattle.poets_syntax.specs.Contract.{contract_of};
 ghost use Rattle.poets_syntax.specs.Width.{size};
-ghost use Rattle.poets_call.specs.Calls.{reply_of};
-ghost use Rattle.poets_call.specs.Plain.{Command};
-ghost use Rattle.poets_call.specs.Rules.{book_of_rules, reports_of_rules};
-ghost use Rattle.poets_call.specs.Taken.{IsTaken};
-ghost use Rattle.poets_engine.specs.code.Makes.{Makes};
+ghost use Rattle.poets_engine.specs.Takes.{IsTakenBy};
+ghost use Rattle.poets_engine.specs.code.Commands.{registration_of};
+ghost use Rattle.poets_engine.specs.code.Makes.{MakesReply};
 
 use crate::judging::{Decision, judge};
 use crate::store::Store;
@@ -29,8 +27,8 @@ pub(crate) fn register<T>(
     term: &Arc<Term>,
     asks: &mut Asks<T>,
 ) -> Result<Reply, Memory>
-    requires { IsTaken (book_of_rules rules.now) (reports_of_rules rules.now) (Command.Register name (contract_of (arc_value term.now))) }
-    ensures ok { IfOk result (λ r. Makes rules.now (Command.Register name (contract_of (arc_value term.now))) store.old store.new (reply_of r)) }
+    requires { IsTakenBy rules.now (registration_of name term.now) }
+    ensures ok { IfOk result (MakesReply rules.now (registration_of name term.now) store.old store.new) }
     ensures err { OnErr result (store.new ≡ store.old) }
     ensures asks { asks.new ≤ asks.old + size (contract_of (arc_value term.now)) }
     ensures rises { asks.old ≤ asks.new }

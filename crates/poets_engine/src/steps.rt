@@ -1,11 +1,10 @@
 //! What each command does with what an engine keeps.
 ghost use Rattle.std.specs.Prelude.{◌≡◌, ◌+◌, ◌≤◌, IfOk, OnErr};
 ghost use Rattle.poets_call.specs.Calls.{command_of};
-ghost use Rattle.poets_call.specs.Rules.{book_of_rules, reports_of_rules};
-ghost use Rattle.poets_call.specs.Taken.{IsTaken};
 ghost use Rattle.poets_engine.specs.code.Judgements.{AreKept};
 ghost use Rattle.poets_engine.specs.Evaluations.{most_evaluations};
 ghost use Rattle.poets_engine.specs.Copies.{AreCopies};
+ghost use Rattle.poets_engine.specs.Takes.{IsTakenBy};
 ghost use Rattle.poets_engine.specs.code.Makes.{MakesBody};
 
 use crate::copies::Copies;
@@ -32,10 +31,10 @@ pub(crate) fn step<T>(
     command: &Command,
     asks: &mut Asks<T>,
 ) -> Result<Body, Memory>
-    requires taken { IsTaken (book_of_rules rules.now) (reports_of_rules rules.now) (command_of command.now) }
+    requires taken { IsTakenBy rules.now (command_of command.now) }
     requires rows { AreKept rules.now.studied store.old.rows }
     requires copies { AreCopies rules.now copies.old }
-    ensures ok { IfOk result (λ b. MakesBody rules.now (command_of command.now) store.old store.new b) }
+    ensures ok { IfOk result (MakesBody rules.now (command_of command.now) store.old store.new) }
     ensures copies { AreCopies rules.now copies.new }
     ensures err { OnErr result (store.new ≡ store.old) }
     ensures asks { asks.new ≤ asks.old + most_evaluations rules.now store.old (command_of command.now) }

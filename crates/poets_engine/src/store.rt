@@ -1,10 +1,8 @@
 //! What an engine keeps.
-ghost use Rattle.std.specs.Prelude.{◌≡◌, ◌+◌, ◌*◌, ◌-◌, ◌<◌, ◌≤◌, ◌++◌, ◌∷◌, [], length, IfOk, IsOk, OnOk, OnErr, Some, None, slice_get};
-ghost use Rattle.std.specs.Arc.{arc_value};
-ghost use Rattle.poets_expr.specs.Env.{declared_of};
-ghost use Rattle.poets_report.specs.Answers.{answer_of};
-ghost use Rattle.poets_table.specs.TableView.{IsLive, changed_at, finished, new_row, number_named, row_view};
-ghost use Rattle.poets_engine.specs.code.Changes.{AddsRow, AddsWatch, RecordsEvent};
+ghost use Rattle.std.specs.Prelude.{◌≡◌, ◌+◌, ◌*◌, ◌-◌, ◌<◌, ◌≤◌, [], length, IfOk, OnOk, OnErr, Some, None, slice_get};
+ghost use Rattle.poets_table.specs.TableView.{AreEventsOf, IsLive, changed_at, finished, number_named, row_view};
+ghost use Rattle.poets_live.specs.Watching.{IsAnswerOf};
+ghost use Rattle.poets_engine.specs.code.Changes.{AddsContract, AddsWatchUnder, RecordsUnder};
 
 use poets_cons::Rows;
 use poets_expr::{Asks, Decls};
@@ -70,7 +68,7 @@ impl Store {
     /// The events of the contract with a number, as they are now.
     pub(crate) fn events(&self, number: u64) -> Result<Events, Memory>
         requires { IsLive number self.now.rows }
-        ensures { IfOk result (λ e. (r : _) → slice_get self.now.rows (number - 1) ≡ Some r → e.items ≡ r.events) }
+        ensures { IfOk result (λ e. AreEventsOf number self.now.rows e.items) }
     {
         self.table.events(number)
     }
@@ -92,7 +90,7 @@ impl Store {
     /// The answer of the watch with a number.
     pub(crate) fn read(&self, number: u64) -> Result<Answer, Memory>
         requires { (0 < number) × (number ≤ length self.now.watches) }
-        ensures { IfOk result (λ a. (w : _) → slice_get self.now.watches (number - 1) ≡ Some w → answer_of a ≡ w.answer) }
+        ensures { IfOk result (IsAnswerOf number self.now.watches) }
     {
         self.watches.read(number)
     }
@@ -105,7 +103,7 @@ impl Store {
         current: Rows,
     ) -> Result<u64, Memory>
         requires { number_named name self.old.rows ≡ None }
-        ensures ok { OnOk result (AddsRow (new_row name (arc_value original) current) self.old self.new) }
+        ensures ok { OnOk result (AddsContract name original current self.old self.new) }
         ensures number { IfOk result (λ n. n ≡ length self.old.rows + 1) }
         ensures err { OnErr result (self.new ≡ self.old) }
     {
@@ -132,7 +130,7 @@ impl Store {
         asks: &mut Asks<T>,
     ) -> Result<(), Memory>
         requires { IsLive number self.old.rows }
-        ensures ok { OnOk result (RecordsEvent (declared_of decls.now.names) number event.now current self.old self.new) }
+        ensures ok { OnOk result (RecordsUnder decls.now number event.now current self.old self.new) }
         ensures err { OnErr result (self.new ≡ self.old) }
         ensures asks { asks.new ≤ asks.old + 2 * length self.old.watches }
         ensures rises { asks.old ≤ asks.new }
@@ -152,7 +150,7 @@ impl Store {
         args: List<Option<Value>>,
     ) -> Result<u64, Memory>
         requires { length args.items ≡ length report.params.items }
-        ensures ok { OnOk result (AddsWatch (declared_of decls.now.names) report args.items self.old self.new) }
+        ensures ok { OnOk result (AddsWatchUnder decls.now report args self.old self.new) }
         ensures number { IfOk result (λ n. n ≡ length self.old.watches + 1) }
         ensures err { OnErr result (self.new ≡ self.old) }
     {

@@ -2,13 +2,12 @@
 ghost use Rattle.std.specs.Prelude.{◌≡◌, ◌+◌, ◌*◌, ◌≤◌, length, map, Some, IfOk};
 ghost use Rattle.poets_expr.specs.Expression.{expression_of};
 ghost use Rattle.poets_report.specs.Reports.{report_of};
-ghost use Rattle.poets_call.specs.Calls.{reply_of};
-ghost use Rattle.poets_call.specs.Plain.{Command};
 ghost use Rattle.poets_call.specs.Laws.{IsReportOf};
 ghost use Rattle.poets_call.specs.Replies.{report_in};
-ghost use Rattle.poets_call.specs.Rules.{book_of_rules, reports_of_rules};
-ghost use Rattle.poets_call.specs.Taken.{IsTaken};
-ghost use Rattle.poets_engine.specs.code.Makes.{Makes};
+ghost use Rattle.poets_call.specs.Rules.{reports_of_rules};
+ghost use Rattle.poets_engine.specs.Takes.{IsTakenBy};
+ghost use Rattle.poets_engine.specs.code.Commands.{tally_of};
+ghost use Rattle.poets_engine.specs.code.Makes.{MakesReply};
 
 use crate::store::Store;
 use poets_call::{Reply, Rules};
@@ -38,8 +37,8 @@ pub(crate) fn tally<T>(
     args: &[Expr],
     asks: &mut Asks<T>,
 ) -> Result<Reply, Memory>
-    requires { IsTaken (book_of_rules rules.now) (reports_of_rules rules.now) (Command.Tally name (map expression_of args.now)) }
-    ensures ok { IfOk result (λ r. Makes rules.now (Command.Tally name (map expression_of args.now)) store.now store.now (reply_of r)) }
+    requires { IsTakenBy rules.now (tally_of name args.now) }
+    ensures ok { IfOk result (MakesReply rules.now (tally_of name args.now) store.now store.now) }
     ensures asks { asks.new ≤ asks.old + (length args.now + 1 + 2 * length store.now.log) }
     ensures rises { asks.old ≤ asks.new }
 {

@@ -1,17 +1,15 @@
 //! Transmissions.
-ghost use Rattle.std.specs.Prelude.{◌≡◌, ◌+◌, ◌*◌, ◌≤◌, length, IfOk, OnErr};
+ghost use Rattle.std.specs.Prelude.{◌≡◌, ◌+◌, ◌≤◌, IfOk, OnErr};
 ghost use Rattle.poets_cons.specs.Table.{contract_of_rows};
 ghost use Rattle.poets_syntax.specs.Applied.{CountsFit};
 ghost use Rattle.poets_syntax.specs.Book.{book_of};
-ghost use Rattle.poets_table.specs.TableView.{row_view};
-ghost use Rattle.poets_call.specs.Calls.{reply_of};
 ghost use Rattle.poets_call.specs.Plain.{Command};
 ghost use Rattle.poets_call.specs.Ledger.{last_day, late_day};
-ghost use Rattle.poets_call.specs.Rules.{book_of_rules, reports_of_rules};
-ghost use Rattle.poets_call.specs.Taken.{IsTaken};
-ghost use Rattle.poets_engine.specs.code.Judgements.{AreKept, KeptFits, judgement_of, judgement_by};
-ghost use Rattle.poets_engine.specs.Evaluations.{asked_in, asked_owed};
-ghost use Rattle.poets_engine.specs.code.Makes.{Makes};
+ghost use Rattle.poets_engine.specs.code.Judgements.{AreKept, IsJudgementBy, KeptFits, judgement_of};
+ghost use Rattle.poets_engine.specs.Evaluations.{asked_in};
+ghost use Rattle.poets_engine.specs.Takes.{IsTakenBy};
+ghost use Rattle.poets_engine.specs.code.Asking.{asked_to_transmit};
+ghost use Rattle.poets_engine.specs.code.Makes.{MakesReply};
 
 use crate::judging::{Decision, judge};
 use crate::store::Store;
@@ -55,7 +53,7 @@ fn decide<T>(
     asks: &mut Asks<T>,
 ) -> Result<Decision, Memory>
     requires { CountsFit (book_of studied.now.book) (contract_of_rows row.now.current) }
-    ensures choice { IfOk result (λ d. judgement_of d ≡ judgement_by studied.now (row_view row.now) event.now) }
+    ensures choice { IfOk result (IsJudgementBy studied.now row.now event.now) }
     ensures fits { IfOk result (λ d. KeptFits (book_of studied.now.book) (judgement_of d)) }
     ensures asks { asks.new ≤ asks.old + asked_in studied.now (contract_of_rows row.now.current) }
     ensures rises { asks.old ≤ asks.new }
@@ -82,11 +80,11 @@ pub(crate) fn transmit<T>(
     event: &Event,
     asks: &mut Asks<T>,
 ) -> Result<Reply, Memory>
-    requires taken { IsTaken (book_of_rules rules.now) (reports_of_rules rules.now) (Command.Transmit name event.now) }
+    requires taken { IsTakenBy rules.now (Command.Transmit name event.now) }
     requires rows { AreKept rules.now.studied store.old.rows }
-    ensures ok { IfOk result (λ r. Makes rules.now (Command.Transmit name event.now) store.old store.new (reply_of r)) }
+    ensures ok { IfOk result (MakesReply rules.now (Command.Transmit name event.now) store.old store.new) }
     ensures err { OnErr result (store.new ≡ store.old) }
-    ensures asks { asks.new ≤ asks.old + asked_owed rules.now.studied store.old.rows name + 2 * length store.old.watches }
+    ensures asks { asks.new ≤ asks.old + asked_to_transmit rules.now store.old name }
     ensures rises { asks.old ≤ asks.new }
 {
     let Some(number) = store.find(name) else {

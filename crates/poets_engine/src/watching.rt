@@ -1,11 +1,9 @@
 //! Watches: reports that are kept live.
-ghost use Rattle.std.specs.Prelude.{◌≡◌, ◌+◌, ◌≤◌, length, map, IfOk, OnErr};
-ghost use Rattle.poets_expr.specs.Expression.{expression_of};
-ghost use Rattle.poets_call.specs.Calls.{reply_of};
+ghost use Rattle.std.specs.Prelude.{◌≡◌, ◌+◌, ◌≤◌, length, IfOk, OnErr};
 ghost use Rattle.poets_call.specs.Plain.{Command};
-ghost use Rattle.poets_call.specs.Rules.{book_of_rules, reports_of_rules};
-ghost use Rattle.poets_call.specs.Taken.{IsTaken};
-ghost use Rattle.poets_engine.specs.code.Makes.{Makes};
+ghost use Rattle.poets_engine.specs.Takes.{IsTakenBy};
+ghost use Rattle.poets_engine.specs.code.Commands.{watch_of};
+ghost use Rattle.poets_engine.specs.code.Makes.{MakesReply, MakesUnderAll};
 
 use crate::store::Store;
 use crate::tallies::report_called;
@@ -24,8 +22,8 @@ pub(crate) fn watch<T>(
     args: &[Expr],
     asks: &mut Asks<T>,
 ) -> Result<Reply, Memory>
-    requires { IsTaken (book_of_rules rules.now) (reports_of_rules rules.now) (Command.Watch name (map expression_of args.now)) }
-    ensures ok { IfOk result (λ r. Makes rules.now (Command.Watch name (map expression_of args.now)) store.old store.new (reply_of r)) }
+    requires { IsTakenBy rules.now (watch_of name args.now) }
+    ensures ok { IfOk result (MakesReply rules.now (watch_of name args.now) store.old store.new) }
     ensures err { OnErr result (store.new ≡ store.old) }
     ensures asks { asks.new ≤ asks.old + length args.now }
     ensures rises { asks.old ≤ asks.new }
@@ -40,7 +38,7 @@ pub(crate) fn watch<T>(
 
 /// Reads the watch with a number.
 pub(crate) fn read(store: &Store, number: u64) -> Result<Reply, Memory>
-    ensures { IfOk result (λ r. (rules : _) → Makes rules (Command.Read number) store.now store.now (reply_of r)) }
+    ensures { IfOk result (MakesUnderAll (Command.Read number) store.now store.now) }
 {
     if number == 0 || store.watch_count() < number {
         return Ok(Reply::NoWatch(number));

@@ -1,14 +1,20 @@
 -- The changes of what an engine keeps.
 use Rattle.std.specs.Prelude.{◌≡◌, ℕ, ◌-◌, List, [], ◌∷◌, ◌++◌, Option}
+use Rattle.std.specs.declared.alloc.Global.{Global}
+use Rattle.std.specs.declared.sync.Arc.{Arc}
+use Rattle.std.specs.Arc.{arc_value}
+use Rattle.poets_value.specs.Listed.{Listed}
 use Rattle.poets_value.specs.declared.event.Event.{Event}
+use Rattle.poets_value.specs.declared.value.Name.{Name}
 use Rattle.poets_value.specs.declared.value.Value.{Value}
-use Rattle.poets_expr.specs.Env.{Declared}
+use Rattle.poets_expr.specs.declared.env.Decls.{Decls}
+use Rattle.poets_expr.specs.Env.{Declared, declared_of}
 use Rattle.poets_syntax.specs.declared.term.Term.{Term}
 use Rattle.poets_cons.specs.declared.node.Node.{Node}
 use Rattle.poets_report.specs.declared.report.Report.{Report}
 use Rattle.poets_report.specs.declared.folds.Change.{Change}
-use Rattle.poets_table.specs.TableView.{RowView, changed_at, with_event}
-use Rattle.poets_live.specs.Watching.{WatchView, AllBrought, AllMoved, Begins}
+use Rattle.poets_table.specs.TableView.{RowView, changed_at, new_row, with_event}
+use Rattle.poets_live.specs.Watching.{AllBrought, AllMoved, Begins}
 use Rattle.poets_engine.specs.Store.{StoreView}
 
 -- one contract more
@@ -16,6 +22,10 @@ pub record AddsRow (row : RowView Term (List Node)) (old new : StoreView) : Type
   pub rows : new.rows ≡ old.rows ++ row ∷ []
   pub log : new.log ≡ old.log
   pub watches : new.watches ≡ old.watches
+
+-- one contract more under the name, without events, of which the current contract is owed
+abbrev pub AddsContract : Name → Arc Term Global → List Node → (old new : StoreView) → Type 0
+AddsContract x original current old new = AddsRow (new_row x (arc_value original) current) old new
 
 -- the event is in the row with the number, of which the current contract is then owed, in the log, and in each watch
 pub record RecordsEvent (declared : Declared) (number : ℕ) (e : Event) (current : List Node) (old new : StoreView) : Type 0 where
@@ -25,8 +35,16 @@ pub record RecordsEvent (declared : Declared) (number : ℕ) (e : Event) (curren
   pub brought : AllBrought declared e old.watches changes
   pub moved : AllMoved old.watches changes new.watches
 
+-- under the declared names the event is recorded in the row with the number, in the log, and in each watch
+abbrev pub RecordsUnder : Decls → ℕ → Event → List Node → (old new : StoreView) → Type 0
+RecordsUnder decls number e current old new = RecordsEvent (declared_of decls.names) number e current old new
+
 -- one watch more, which begins with the log
 pub record AddsWatch (declared : Declared) (report : Report) (args : List (Option Value)) (old new : StoreView) : Type 0 where
   pub begins : Begins declared report args old.log old.watches new.watches
   pub rows : new.rows ≡ old.rows
   pub log : new.log ≡ old.log
+
+-- one watch more under the declared names, which begins with the log
+abbrev pub AddsWatchUnder : Decls → Report → Listed (Option Value) → (old new : StoreView) → Type 0
+AddsWatchUnder decls report args old new = AddsWatch (declared_of decls.names) report args.items old new

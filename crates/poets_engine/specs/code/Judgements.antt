@@ -1,5 +1,5 @@
 -- Which contracts are owed after a registration or a transmission.
-use Rattle.std.specs.Prelude.{ℕ, ◌≤◌, Bool, true, false, nat_lt, ℤ, Option, Some, None, List, All}
+use Rattle.std.specs.Prelude.{◌≡◌, ◌≤◌, Bool, true, false, nat_lt, ℤ, Option, Some, None, List, All}
 use Rattle.poets_value.specs.declared.event.Event.{Event}
 use Rattle.poets_syntax.specs.Contract.{Contract, Failure}
 use Rattle.poets_syntax.specs.declared.term.Term.{Term}
@@ -11,13 +11,15 @@ use Rattle.poets_syntax.specs.Residual.{after}
 use Rattle.poets_syntax.specs.Width.{widest}
 use Rattle.poets_cons.specs.declared.node.Node.{Node}
 use Rattle.poets_cons.specs.Table.{contract_of_rows}
-use Rattle.poets_table.specs.TableView.{RowView}
+use Rattle.poets_table.specs.TableView.{RowView, row_view}
+use Rattle.poets_table.specs.declared.table.Row.{Row}
 use Rattle.poets_call.specs.Plain.{Reply}
+use Rattle.poets_call.specs.declared.call.Reply.{Reply as CodeReply}
 use Rattle.poets_call.specs.Calls.{reply_of}
 use Rattle.poets_call.specs.Ledger.{late_day}
+use Rattle.poets_engine.specs.Evaluations.{width_in}
 use Rattle.poets_engine.specs.declared.judging.Decision.{Decision}
 use Rattle.poets_engine.specs.declared.judging.Decision.TheVariants as D
-use Rattle.poets_engine.specs.Evaluations.{width_in}
 
 -- a refusal, or the contract that is owed from then on
 pub data Judgement : Type 0 where
@@ -40,6 +42,10 @@ judged refusal false false c = Owed c
 -- a contract that no number of granted steps performs is refused, and one that is too large
 abbrev pub judge : StudiedBook → Reply → Contract → Judgement
 judge s refusal c = judged refusal (is_failure c) (nat_lt widest (width_in s c)) c
+
+-- a contract that the rows hold is refused where no number of granted steps performs it, and where it is too large
+abbrev pub judge_rows : StudiedBook → CodeReply → List Node → Judgement
+judge_rows s refusal rows = judge s (reply_of refusal) (contract_of_rows rows)
 
 -- a contract that is kept: the numbers of arguments fit in it, and it is not too large
 abbrev pub IsKept : StudiedBook → Contract → Type 0
@@ -64,3 +70,7 @@ abbrev pub judgement_by : StudiedBook → RowView Term (List Node) → Event →
 judgement_by s r e =
     unless_over r.ended (late_day r.events e.day)
     (judge s Reply.Unmatched (after (book_of s.book) (marks_of s) e (contract_of_rows r.current)))
+
+-- the decision is what becomes of the contract's row by the event
+abbrev pub IsJudgementBy : StudiedBook → Row Term (List Node) → Event → Decision → Type 0
+IsJudgementBy s row e decision = judgement_of decision ≡ judgement_by s (row_view row) e

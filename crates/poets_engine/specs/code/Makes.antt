@@ -1,10 +1,11 @@
 -- What it is to make a command.
-use Rattle.std.specs.Prelude.{◌≡◌, Bool, true, false, List}
+use Rattle.std.specs.Prelude.{◌≡◌, false, List}
 use Rattle.poets_call.specs.declared.rules.Rules.{Rules}
 use Rattle.poets_call.specs.Rules.{book_of_rules, reports_of_rules}
 use Rattle.poets_value.specs.declared.value.Name.{Name}
 use Rattle.poets_expr.specs.Expression.{Expression}
 use Rattle.poets_call.specs.Plain.{Command, Reply}
+use Rattle.poets_call.specs.declared.call.Reply.{Reply as CodeReply}
 use Rattle.poets_call.specs.Calls.{reply_of}
 use Rattle.poets_call.specs.Ledger.{Ledger, with_entry}
 use Rattle.poets_call.specs.Histories.{RepliesIn}
@@ -22,6 +23,14 @@ pub record Makes (rules : Rules) (command : Command) (old new : StoreView) (resp
   pub reply : (l : Ledger) → IsLedger rules l old → RepliesIn (book_of_rules rules) (reports_of_rules rules) l command response
   pub store : (l : Ledger) → IsLedger rules l old → IsLedger rules (with_entry l command response) new
   pub refused : is_accepted response ≡ false → new ≡ old
+
+-- the command was made, with this reply
+abbrev pub MakesReply : Rules → Command → (old new : StoreView) → CodeReply → Type 0
+MakesReply rules command old new reply = Makes rules command old new (reply_of reply)
+
+-- the command was made, with this reply, whatever the rules are
+abbrev pub MakesUnderAll : Command → (old new : StoreView) → CodeReply → Type 0
+MakesUnderAll command old new reply = (rules : Rules) → Makes rules command old new (reply_of reply)
 
 -- the command is a portfolio, and the work is the one after the ledger of what is kept
 pub record Prepares (rules : Rules) (command : Command) (store : StoreView) (work : FolioWork) : Type 0 where
