@@ -151,7 +151,7 @@ folio_fulfils place work rows total r totalled = λ book reports calls command o
 
 -- what was prepared has a reply
 prepared_makes : (rules : Rules) (command : Command) (store : StoreView) (work : FolioWork) → Prepares rules command store work →
-    (response : Reply) × Makes rules command store store response
+    (given_reply : Reply) × Makes rules command store store given_reply
 prepared_makes rules command store work p =
     let q = report_of (arc_value work.report) in
     let found = rows_exist (declared_of (arc_value work.decls).names) q work.args.items work.parts.items in
@@ -163,7 +163,7 @@ prepared_makes rules command store work p =
 
 module _ (rules : Rules) (command : Command) (old new : StoreView) where
   -- a command that was made has a reply, also where it is still owed
-  pub body_makes : (body : Body) → MakesBody rules command old new body → (response : Reply) × Makes rules command old new response
+  pub body_makes : (body : Body) → MakesBody rules command old new body → (given_reply : Reply) × Makes rules command old new given_reply
   body_makes (Done reply) m = (reply_of reply, m)
   body_makes (Folio work) m =
       let made = prepared_makes rules command old work m.1 in

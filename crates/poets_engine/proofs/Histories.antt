@@ -55,9 +55,9 @@ empty_stands rules calls store studied whole c r l w = record {
   };
 }
 
-module _ (rules : Rules) (calls : List Call) (request : plain.Command) (response : Reply) (old new : StoreView)
-    (h : Stands rules calls old) (makes : Makes rules request old new response) where
-  reply : RepliesIn (book_of_rules rules) (reports_of_rules rules) (ledger_of h.history) request response
+module _ (rules : Rules) (calls : List Call) (command : plain.Command) (given_reply : Reply) (old new : StoreView)
+    (h : Stands rules calls old) (makes : Makes rules command old new given_reply) where
+  reply : RepliesIn (book_of_rules rules) (reports_of_rules rules) (ledger_of h.history) command given_reply
   reply = makes.reply (ledger_of h.history) h.ledger
 
   -- the history is legal in the frame of the reply
@@ -65,17 +65,17 @@ module _ (rules : Rules) (calls : List Call) (request : plain.Command) (response
   legal = one_frame h.legal.frame reply.frame h.history (h.legal.book ∙ sym reply.book) (h.legal.reports ∙ sym reply.reports) h.legal.holds
 
   -- with one more entry what is kept is the ledger of a legal history again
-  pub stands_more : (clerk : ℕ) → Stands rules (calls ++ (clerk, request) ∷ []) new
+  pub stands_more : (clerk : ℕ) → Stands rules (calls ++ (clerk, command) ∷ []) new
   stands_more clerk =
-      let e : Entry = record { clerk = clerk; command = request; reply = response } in
+      let e : Entry = record { clerk = clerk; command = command; reply = given_reply } in
       record {
         history = h.history ++ e ∷ [];
         legal = record { frame = reply.frame; book = reply.book; reports = reply.reports; holds = Legal.More e legal reply.holds };
-        same = calls_last h.history e ∙ ap (λ cs. cs ++ (clerk, request) ∷ []) h.same;
+        same = calls_last h.history e ∙ ap (λ cs. cs ++ (clerk, command) ∷ []) h.same;
         ledger = subst (λ l. IsLedger rules l new) (sym (ledger_last h.history e)) (makes.store (ledger_of h.history) h.ledger);
       }
 
-  pub answered : AnswersIn (book_of_rules rules) (reports_of_rules rules) calls request response
+  pub answered : AnswersIn (book_of_rules rules) (reports_of_rules rules) calls command given_reply
   answered = record {
     frame = reply.frame;
     book = reply.book;

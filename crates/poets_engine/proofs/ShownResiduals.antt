@@ -42,7 +42,7 @@ module _ (book : Book) (reports : List Report) where
     pub contracts : All (λ p. Fits p.1) l.contracts
     pub log : All (λ p. IsDeclaredEvent book.declared p.1) l.log
 
-  sound_more : (l : Ledger) (command : Command) (response : Reply) → IsSound l → IsTypedCommand book reports command → IsSound (with_entry l command response)
+  sound_more : (l : Ledger) (command : Command) (given_reply : Reply) → IsSound l → IsTypedCommand book reports command → IsSound (with_entry l command given_reply)
   sound_more l (Command.Register x c) (Reply.Registered n) h t = record {
     contracts = All-append (λ p. Fits p.1) l.contracts ((x, c) ∷ []) h.contracts (All-cons (λ p. Fits p.1) (x, c) [] (typed_registration book reports x c t) (All-nil (λ p. Fits p.1)));
     log = h.log;
@@ -54,7 +54,7 @@ module _ (book : Book) (reports : List Report) where
   }
   sound_more l (Command.End x) Reply.EndedNow h t = record { contracts = h.contracts; log = h.log }
   sound_more l (Command.Watch x args) (Reply.Watching n) h t = record { contracts = h.contracts; log = h.log }
-  sound_more l command response h t = h
+  sound_more l command given_reply h t = h
 
   abbrev AreTyped : List Entry → Type 0
   AreTyped h = All (λ e. IsTypedCommand book reports e.command) h

@@ -40,18 +40,18 @@ frame_by rules right = record { book = book_of_rules rules; reports = reports_of
 pub study : (rules : Rules) (l : Ledger) (store : StoreView) → IsLedger rules l store → IsStudied (book_of_rules rules) (marks_of rules.studied)
 study rules l store h = IsStudied-book (book_of_rules rules) rules.studied.marks h.studied
 
-module _ (rules : Rules) (command : Command) (response : Reply) where
+module _ (rules : Rules) (command : Command) (given_reply : Reply) where
   -- the reply is right after the ledger of what is kept
   abbrev pub RepliesAfter : StoreView → Type 0
-  RepliesAfter store = (l : Ledger) → IsLedger rules l store → (right : marks_by rules) → Replies (frame_by rules right) l command response
+  RepliesAfter store = (l : Ledger) → IsLedger rules l store → (right : marks_by rules) → Replies (frame_by rules right) l command given_reply
 
-  in_frame : (store : StoreView) → RepliesAfter store → (l : Ledger) → IsLedger rules l store → RepliesIn (book_of_rules rules) (reports_of_rules rules) l command response
+  in_frame : (store : StoreView) → RepliesAfter store → (l : Ledger) → IsLedger rules l store → RepliesIn (book_of_rules rules) (reports_of_rules rules) l command given_reply
   in_frame store reply l h =
       let right = AreRight-studied (book_of_rules rules) rules.studied.marks h.studied in
       record { frame = frame_by rules right; book = refl; reports = refl; holds = reply l h right }
 
   -- a command that leaves what is kept and the ledger
-  pub leaves : (store : StoreView) → ((l : Ledger) → with_entry l command response ≡ l) → RepliesAfter store → Makes rules command store store response
+  pub leaves : (store : StoreView) → ((l : Ledger) → with_entry l command given_reply ≡ l) → RepliesAfter store → Makes rules command store store given_reply
   leaves store same reply = record {
     reply = in_frame store reply;
     store = λ l h. subst (λ m. IsLedger rules m store) (sym (same l)) h;
@@ -59,8 +59,8 @@ module _ (rules : Rules) (command : Command) (response : Reply) where
   }
 
   -- a command that changes it
-  pub changes : (old new : StoreView) → is_accepted response ≡ true → RepliesAfter old →
-      ((l : Ledger) → IsLedger rules l old → IsLedger rules (with_entry l command response) new) → Makes rules command old new response
+  pub changes : (old new : StoreView) → is_accepted given_reply ≡ true → RepliesAfter old →
+      ((l : Ledger) → IsLedger rules l old → IsLedger rules (with_entry l command given_reply) new) → Makes rules command old new given_reply
   changes old new accepted reply store = record { reply = in_frame old reply; store = store; refused = λ e. absurd cc }
 
 -- the contract with the name, and its row

@@ -90,10 +90,10 @@ module _ (rules : Rules) (x : Name) (e : Event) (old : StoreView) where
       past = sym c.is.events
 
       -- an open contract gets the reply by its last day
-      open_reply : (right : marks_by rules) (response : Reply) (late : Option ℤ) → r.ended ≡ false → late_day r.events e.day ≡ late →
-          Records (frame_by rules right) original r.events e late response →
-          Transmits (frame_by rules right) l x e (contract_named l x) response
-      open_reply right response late running d reply =
+      open_reply : (right : marks_by rules) (given_reply : Reply) (late : Option ℤ) → r.ended ≡ false → late_day r.events e.day ≡ late →
+          Records (frame_by rules right) original r.events e late given_reply →
+          Transmits (frame_by rules right) l x e (contract_named l x) given_reply
+      open_reply right given_reply late running d reply =
           rw c.named (inr ((λ y. absurd (let z : true ≡ false = sym y ∙ over ∙ running in cc)), rw (past, d) reply))
 
       hope : is_failure next ≡ false → (n : ℕ) × May (book_of_rules rules) [] original longer_trace n

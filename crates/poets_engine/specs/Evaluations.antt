@@ -5,13 +5,13 @@ use Rattle.std.specs.declared.sync.Arc.{Arc}
 use Rattle.std.specs.Arc.{arc_value}
 use Rattle.poets_value.specs.declared.value.Name.{Name}
 use Rattle.poets_syntax.specs.declared.term.Term.{Term}
-use Rattle.poets_syntax.specs.Book.{book_of}
 use Rattle.poets_syntax.specs.Contract.{Contract}
-use Rattle.poets_syntax.specs.Studied.{StudiedBook, marks_of}
-use Rattle.poets_syntax.specs.Width.{size, width}
+use Rattle.poets_syntax.specs.InStudied.{width_in}
+use Rattle.poets_syntax.specs.Studied.{StudiedBook}
+use Rattle.poets_syntax.specs.Width.{size}
 use Rattle.poets_cons.specs.declared.node.Node.{Node}
 use Rattle.poets_cons.specs.Table.{contract_of_rows}
-use Rattle.poets_residue.specs.Once.{once}
+use Rattle.poets_residue.specs.Once.{once_in}
 use Rattle.poets_table.specs.TableView.{RowView, number_named}
 use Rattle.poets_call.specs.declared.call.Command.{Command as CodeCommand}
 use Rattle.poets_call.specs.declared.rules.Rules.{Rules}
@@ -20,14 +20,10 @@ use Rattle.poets_call.specs.Plain.{Command}
 use Rattle.poets_engine.specs.State.{State}
 use Rattle.poets_engine.specs.Store.{StoreView}
 
--- how wide the contract is
-abbrev pub width_in : StudiedBook → Contract → ℕ
-width_in s c = width (book_of s.book) (marks_of s) c
-
 -- the most evaluations that the residual of a contract takes: no more than it is wide, and no more than where each different
 -- part is derived once
 abbrev pub asked_in : StudiedBook → Contract → ℕ
-asked_in s c = min (width_in s c) (once (book_of s.book) (marks_of s) c)
+asked_in s c = min (width_in s c) (once_in s c)
 
 abbrev pub asked_of_row : StudiedBook → Option (RowView Term (List Node)) → ℕ
 asked_of_row s None = 0
@@ -37,7 +33,7 @@ abbrev pub asked_of_number : StudiedBook → List (RowView Term (List Node)) →
 asked_of_number s rows None = 0
 asked_of_number s rows (Some n) = asked_of_row s (slice_get rows (n - 1))
 
--- the same of what is owed on the contract with a name; 0 where there is none
+-- the most evaluations that the residual of what is owed on the contract with a name takes; 0 where there is none
 abbrev pub asked_owed : StudiedBook → List (RowView Term (List Node)) → Name → ℕ
 asked_owed s rows x = asked_of_number s rows (number_named x rows)
 

@@ -6,7 +6,7 @@ ghost use Rattle.poets_syntax.specs.Width.{widest};
 ghost use Rattle.poets_cons.specs.Row.{contract_by, row_of};
 ghost use Rattle.poets_cons.specs.Table.{contract_at, contract_of_rows};
 ghost use Rattle.poets_engine.specs.code.Judgements.{KeptFits, judge_rows, judgement_of};
-ghost use Rattle.poets_engine.specs.Evaluations.{width_in};
+ghost use Rattle.poets_syntax.specs.InStudied.{width_in};
 ghost use Rattle.poets_engine.specs.code.Judgements as judgements;
 
 use poets_call::Reply;

@@ -1,7 +1,7 @@
 //! What an engine keeps.
 ghost use Rattle.std.specs.Prelude.{◌≡◌, ◌+◌, ◌*◌, ◌-◌, ◌<◌, ◌≤◌, [], length, IfOk, OnOk, OnErr, Some, None, slice_get};
 ghost use Rattle.poets_table.specs.TableView.{AreEventsOf, IsLive, changed_at, finished, number_named, row_view};
-ghost use Rattle.poets_live.specs.Watching.{IsAnswerOf};
+ghost use Rattle.poets_live.specs.Watching.{IsAnswerOfWatch};
 ghost use Rattle.poets_engine.specs.code.Changes.{AddsContract, AddsWatchUnder, RecordsUnder};
 
 use poets_cons::Rows;
@@ -90,7 +90,7 @@ impl Store {
     /// The answer of the watch with a number.
     pub(crate) fn read(&self, number: u64) -> Result<Answer, Memory>
         requires { (0 < number) × (number ≤ length self.now.watches) }
-        ensures { IfOk result (IsAnswerOf number self.now.watches) }
+        ensures { IfOk result (IsAnswerOfWatch number self.now.watches) }
     {
         self.watches.read(number)
     }

@@ -21,7 +21,7 @@ use Rattle.poets_session.specs.Places.{PlaceFault, is_misplaced, is_too_many, pl
 use Rattle.poets_session.specs.code.Scripts.{HasShortNumber}
 use Rattle.poets_session.specs.Sessions.{commands_ahead, scripts_of, commands_in, numbered_call}
 
--- the lists, with a request at the end of the last
+-- the lists, with a command at the end of the last
 abbrev pub onto_last : plain.Command → List (List plain.Command) → List (List plain.Command)
 onto_last r [] = []
 onto_last r (script ∷ []) = (script ++ r ∷ []) ∷ []

@@ -17,7 +17,7 @@ use Rattle.poets_call.specs.Plain.{Reply}
 use Rattle.poets_call.specs.declared.call.Reply.{Reply as CodeReply}
 use Rattle.poets_call.specs.Calls.{reply_of}
 use Rattle.poets_call.specs.Ledger.{late_day}
-use Rattle.poets_engine.specs.Evaluations.{width_in}
+use Rattle.poets_syntax.specs.InStudied.{width_in}
 use Rattle.poets_engine.specs.declared.judging.Decision.{Decision}
 use Rattle.poets_engine.specs.declared.judging.Decision.TheVariants as D
 

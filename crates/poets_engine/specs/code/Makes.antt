@@ -19,10 +19,10 @@ use Rattle.poets_engine.specs.Accepted.{is_accepted}
 
 -- the command was made: its reply is the one after the ledger of what was kept, what is kept then is that of the ledger
 -- with the entry, and a refusal or a look leaves it
-pub record Makes (rules : Rules) (command : Command) (old new : StoreView) (response : Reply) : Type 0 where
-  pub reply : (l : Ledger) → IsLedger rules l old → RepliesIn (book_of_rules rules) (reports_of_rules rules) l command response
-  pub store : (l : Ledger) → IsLedger rules l old → IsLedger rules (with_entry l command response) new
-  pub refused : is_accepted response ≡ false → new ≡ old
+pub record Makes (rules : Rules) (command : Command) (old new : StoreView) (r : Reply) : Type 0 where
+  pub reply : (l : Ledger) → IsLedger rules l old → RepliesIn (book_of_rules rules) (reports_of_rules rules) l command r
+  pub store : (l : Ledger) → IsLedger rules l old → IsLedger rules (with_entry l command r) new
+  pub refused : is_accepted r ≡ false → new ≡ old
 
 -- the command was made, with this reply
 abbrev pub MakesReply : Rules → Command → (old new : StoreView) → CodeReply → Type 0
