@@ -5,6 +5,7 @@ pub mod Replaying
 pub mod Demonstrating
 pub mod Writing
 pub mod Runs
+pub mod Promises
 pub mod Scripts
 pub mod Laws
 pub mod code

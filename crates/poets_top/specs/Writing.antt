@@ -17,6 +17,15 @@ pub record Stream : Type 0 where
 abbrev pub stream : Option (List ℕ) → ℕ → Stream
 stream bytes faults = record { bytes = bytes; faults = faults }
 
+-- a source or a sink before a run and after it
+pub record Change : Type 0 where
+  pub before : Stream
+  pub after : Stream
+
+-- the change of a source or a sink, of which these tell its bytes and its count of faults
+abbrev pub change : {A : Type 0} → (bytes : A → Option (List ℕ)) → (faults : A → ℕ) → (old new : A) → Change
+change bytes faults old new = record { before = stream (bytes old) (faults old); after = stream (bytes new) (faults new) }
+
 -- the count of faults rose, and did not fall
 pub record HasFailed (old new : Stream) : Type 0 where
   pub rose : Rose old.faults new.faults

@@ -1,14 +1,9 @@
 //! The word `check`: what a book declares is counted.
 ghost use Rattle.std.specs.Prelude.{◌≡◌, IfOk, string_bytes};
-ghost use Rattle.std.specs.Prelude as prelude;
-ghost use Rattle.poets_call.specs.Calls.{history_of};
-ghost use Rattle.poets_call.specs.Said.{Statement};
-ghost use Rattle.poets_session.specs.declared.form.Form.TheVariants as F;
-ghost use Rattle.poets_session.specs.Sessions.{Represents, Text};
 ghost use Rattle.poets_top.specs.Checking as checking;
-ghost use Rattle.poets_top.specs.Runs.{IsAnswerTo};
-ghost use Rattle.poets_top.specs.code.Sessions.{IsSessionOf};
-ghost use Rattle.poets_top.specs.Writing.{IsWritten, stream};
+ghost use Rattle.poets_top.specs.Writing.{change};
+ghost use Rattle.poets_top.specs.code.Answering.{AnswersSession};
+ghost use Rattle.poets_top.specs.code.Sessions.{TellsItsBook};
 ghost use Rattle.poets_words.specs.declared.mode.Task.TheVariants as T;
 
 use crate::outcome::{DONE, NO_MEMORY, Outcome, without_history};
@@ -27,7 +22,7 @@ fn book_line(alloc: Global, templates: usize, reports: usize) -> Result<String, 
 
 // The line of a book that was checked.
 fn book_text(alloc: Global, session: &Session) -> Result<String, Memory>
-    ensures { (statements : prelude.List Statement) → Represents statements session.now → IfOk result (λ line. string_bytes line ≡ checking.book_text statements) }
+    ensures { TellsItsBook session.now result }
 {
     let templates = session.rules.studied.book().templates.len();
     let reports = session.rules.reports.len();
@@ -36,9 +31,7 @@ fn book_text(alloc: Global, session: &Session) -> Result<String, Memory>
 
 /// Writes how many templates and reports a book has.
 pub(crate) fn check<K: Sink>(alloc: Global, sink: &mut K, session: &Session) -> Outcome
-    ensures { (text : Text) (statements : prelude.List Statement) → IsSessionOf F.Book text statements session.now →
-        IsWritten (IsAnswerTo text T.Check) (stream (K.held sink.old) (K.faults sink.old)) (stream (K.held sink.new) (K.faults sink.new))
-        result.status (history_of result.history.items) }
+    ensures { AnswersSession T.Check session.now (change K.held K.faults sink.old sink.new) result }
 {
     match book_text(alloc, session) {
         Ok(line) => write_line(alloc, sink, DONE, line.as_str()),

@@ -1,9 +1,10 @@
 //! The word `demo`: eight clerks make the scripts of a text that is made for them.
-ghost use Rattle.std.specs.Prelude.{◌≡◌, ◌≤◌, IfOk, string_bytes};
+ghost use Rattle.std.specs.Prelude.{◌≤◌, IfOk, string_bytes};
 ghost use Rattle.poets_value.specs.Limits.{most_sales};
 ghost use Rattle.poets_call.specs.Calls.{history_of};
 ghost use Rattle.poets_top.specs.Demonstrating.{IsDemonstrated, IsDemonstration};
-ghost use Rattle.poets_top.specs.Writing.{IsWritten, stream};
+ghost use Rattle.poets_top.specs.Writing.{change};
+ghost use Rattle.poets_top.specs.code.Answering.{Writes};
 
 use crate::outcome::{DONE, NO_MEMORY, Outcome, without_history};
 use crate::sharing::make_scripts;
@@ -27,8 +28,7 @@ pub(crate) fn demonstrate<K: Sink, G: Gate + Sync, R: Threads + Wait + Sync>(
     gate: &G,
 ) -> Outcome
     requires { (1 ≤ sales) × (sales ≤ most_sales) }
-    ensures { IsWritten (IsDemonstration sales) (stream (K.held sink.old) (K.faults sink.old)) (stream (K.held sink.new) (K.faults sink.new))
-        result.status (history_of result.history.items) }
+    ensures { Writes (IsDemonstration sales) (change K.held K.faults sink.old sink.new) result }
 {
     match demonstration(rt, alloc, sales, gate) {
         Ok((history, line)) => {

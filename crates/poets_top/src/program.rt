@@ -1,21 +1,11 @@
 //! The program's one call.
-ghost use Rattle.std.specs.Prelude.{◌≡◌, ◌≢◌, ◌≤◌, ◌↔◌, ℕ, [], length, map, Some, string_bytes};
-ghost use Rattle.poets_io.specs.Causes.{Rose};
-ghost use Rattle.poets_io.specs.Streams.{LosesFront};
-ghost use Rattle.poets_call.specs.Calls.{history_of};
-ghost use Rattle.poets_session.specs.Causes.{IsFirstFault};
-ghost use Rattle.poets_session.specs.Sessions.{Text};
-ghost use Rattle.poets_top.specs.Demonstrating.{HasDemonstrated};
+ghost use Rattle.std.specs.Prelude.{◌≡◌, ◌≢◌, ◌≤◌, ℕ, [], length};
+ghost use Rattle.poets_top.specs.Promises.{AreNoForm, AskTo, AskToShow, Demonstrates, EndsAsAsked, EndsAsDeserved, IfDone};
 ghost use Rattle.poets_top.specs.Replaying.{HasReplayed};
 ghost use Rattle.poets_top.specs.Running.{HasRun};
-ghost use Rattle.poets_top.specs.Runs.{DeservesRun, Ends, IsAnswerTo, IsEnding, IsStatusOrMemory, NoFaultRose, longest};
-ghost use Rattle.poets_top.specs.Tasks as spec;
-ghost use Rattle.poets_words.specs.Words.{AskFor, IsCommandForm};
-ghost use Rattle.poets_top.specs.Writing.{IsWritten, stream};
-ghost use Rattle.poets_top.specs.declared.outcome.TheConstants.{DONE};
-ghost use Rattle.poets_words.specs.declared.mode.Mode.{Mode as SMode};
-ghost use Rattle.poets_words.specs.declared.mode.Mode.TheVariants as M;
-ghost use Rattle.poets_words.specs.declared.mode.Task.{Task as STask};
+ghost use Rattle.poets_top.specs.Runs.{IsAnswerTo, IsStatusOrMemory, longest};
+ghost use Rattle.poets_top.specs.Writing.{change};
+ghost use Rattle.poets_top.specs.code.Answering.{AnswersEach, EndsTask, HasFault, Writes};
 ghost use Rattle.poets_words.specs.declared.mode.Task.TheVariants as T;
 
 use crate::checking::check;
@@ -52,20 +42,19 @@ pub fn run<S: Source, K: Sink, G: Gate + Sync, R: Threads + Wait + Sync>(
     sink: &mut K,
     gate: &G,
 ) -> Outcome
-    ensures usage { result.status ≡ USAGE → ¬ (IsCommandForm (map string_bytes words.now)) }
-    ensures no_form { ¬ (IsCommandForm (map string_bytes words.now)) → IsStatusOrMemory USAGE result.status
-        × (source.new ≡ source.old) × (sink.new ≡ sink.old) × (result.history.items ≡ []) }
-    ensures ends { (mode : SMode) → AskFor (map string_bytes words.now) mode →
-        Ends (stream (S.left source.old) (S.faults source.old)) (stream (S.left source.new) (S.faults source.new))
-        (stream (K.held sink.old) (K.faults sink.old)) (stream (K.held sink.new) (K.faults sink.new)) result.status (history_of result.history.items) mode }
-    ensures has_run { AskFor (map string_bytes words.now) (M.Read T.Run) → result.status ≡ DONE →
-        HasRun (S.left source.old) (S.left source.new) (K.held sink.old) (K.held sink.new) (history_of result.history.items) }
-    ensures has_replayed { AskFor (map string_bytes words.now) (M.Read T.Replay) → result.status ≡ DONE →
-        HasReplayed (S.left source.old) (S.left source.new) (K.held sink.old) (K.held sink.new) (history_of result.history.items) }
-    ensures has_demonstrated { (sales : ℕ) → AskFor (map string_bytes words.now) (M.Demo sales) →
-        (source.new ≡ source.old) × (result.status ≡ DONE → HasDemonstrated sales (K.held sink.old) (K.held sink.new) (history_of result.history.items)) }
-    ensures status { (mode : SMode) (wanted : ℕ) → AskFor (map string_bytes words.now) mode → DeservesRun (S.left source.old) mode wanted →
-        NoFaultRose (S.faults source.old) (S.faults source.new) (K.faults sink.old) (K.faults sink.new) → IsStatusOrMemory wanted result.status }
+    ensures usage { result.status ≡ USAGE → AreNoForm words.now }
+    ensures no_form { AreNoForm words.now → IsStatusOrMemory USAGE result.status
+        × source.new ≡ source.old × sink.new ≡ sink.old × result.history.items ≡ [] }
+    ensures ends { EndsAsAsked words.now (change S.left S.faults source.old source.new)
+        (change K.held K.faults sink.old sink.new) result }
+    ensures has_run { AskTo words.now T.Run →
+        IfDone result (HasRun (S.left source.old) (S.left source.new) (K.held sink.old) (K.held sink.new)) }
+    ensures has_replayed { AskTo words.now T.Replay →
+        IfDone result (HasReplayed (S.left source.old) (S.left source.new) (K.held sink.old) (K.held sink.new)) }
+    ensures has_demonstrated { (sales : ℕ) → AskToShow words.now sales →
+        Demonstrates sales source.old source.new (K.held sink.old) (K.held sink.new) result }
+    ensures status { EndsAsDeserved words.now (change S.left S.faults source.old source.new)
+        (change K.held K.faults sink.old sink.new) result }
     ensures later { (S.faults source.old ≤ S.faults source.new) × (K.faults sink.old ≤ K.faults sink.new) }
 {
     let Ok(found) = mode_of(alloc, words) else {
@@ -90,8 +79,8 @@ fn read_and_answer<S: Source, K: Sink, G: Gate + Sync, R: Threads + Wait + Sync>
     gate: &G,
 ) -> Outcome
     ensures status { result.status ≢ USAGE }
-    ensures ends { IsEnding task (stream (S.left source.old) (S.faults source.old)) (stream (S.left source.new) (S.faults source.new))
-        (stream (K.held sink.old) (K.faults sink.old)) (stream (K.held sink.new) (K.faults sink.new)) result.status (history_of result.history.items) }
+    ensures ends { EndsTask task (change S.left S.faults source.old source.new)
+        (change K.held K.faults sink.old sink.new) result }
 {
     match read_up_to(alloc, source, LONGEST_TEXT) {
         Ok(text) => answer(rt, alloc, task, text.as_slice(), sink, gate),
@@ -116,8 +105,7 @@ fn answer<K: Sink, G: Gate + Sync, R: Threads + Wait + Sync>(
     gate: &G,
 ) -> Outcome
     requires { length text.now ≤ longest }
-    ensures { IsWritten (IsAnswerTo text.now task) (stream (K.held sink.old) (K.faults sink.old)) (stream (K.held sink.new) (K.faults sink.new))
-        result.status (history_of result.history.items) }
+    ensures { Writes (IsAnswerTo text.now task) (change K.held K.faults sink.old sink.new) result }
 {
     let session = match read(alloc, text, form_of(task)) {
         Ok(session) => session,
@@ -132,9 +120,7 @@ fn answer<K: Sink, G: Gate + Sync, R: Threads + Wait + Sync>(
 
 // Writes the line of a text's first fault.
 fn refuse<K: Sink>(alloc: Global, sink: &mut K, fault: &SessionFault) -> Outcome
-    ensures { (text : Text) (task : STask) → IsFirstFault text (spec.form_of task) fault.now →
-        IsWritten (IsAnswerTo text task) (stream (K.held sink.old) (K.faults sink.old)) (stream (K.held sink.new) (K.faults sink.new))
-        result.status (history_of result.history.items) }
+    ensures { AnswersEach (HasFault fault.now) (change K.held K.faults sink.old sink.new) result }
 {
     match fault_text(alloc, fault) {
         Ok(line) => write_line(alloc, sink, NO_SESSION, line.as_str()),

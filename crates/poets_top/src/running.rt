@@ -1,13 +1,9 @@
 //! The word `run`: the clerks' scripts are made.
-ghost use Rattle.std.specs.Prelude as prelude;
-ghost use Rattle.poets_call.specs.Calls.{history_of};
-ghost use Rattle.poets_call.specs.Said.{Statement};
-ghost use Rattle.poets_session.specs.Sessions.{Text};
-ghost use Rattle.poets_top.specs.Runs.{IsAnswerTo};
-ghost use Rattle.poets_top.specs.code.Sessions.{IsSessionOf};
-ghost use Rattle.poets_top.specs.Writing.{IsWritten, stream};
-ghost use Rattle.poets_words.specs.declared.mode.Task.TheVariants as T;
 ghost use Rattle.poets_session.specs.declared.form.Form.TheVariants as F;
+ghost use Rattle.poets_top.specs.Writing.{change};
+ghost use Rattle.poets_top.specs.code.Answering.{AnswersSession};
+ghost use Rattle.poets_top.specs.code.Sessions.{WasRead};
+ghost use Rattle.poets_words.specs.declared.mode.Task.TheVariants as T;
 
 use crate::outcome::{NO_MEMORY, Outcome, without_history};
 use crate::sharing::make_scripts;
@@ -27,10 +23,8 @@ pub(crate) fn run_scripts<K: Sink, G: Gate + Sync, R: Threads + Wait + Sync>(
     session: Session,
     gate: &G,
 ) -> Outcome
-    requires { (text : Text) × ((statements : prelude.List Statement) × IsSessionOf F.Clerks text statements session) }
-    ensures { (text : Text) (statements : prelude.List Statement) → IsSessionOf F.Clerks text statements session →
-        IsWritten (IsAnswerTo text T.Run) (stream (K.held sink.old) (K.faults sink.old)) (stream (K.held sink.new) (K.faults sink.new))
-        result.status (history_of result.history.items) }
+    requires { WasRead F.Clerks session }
+    ensures { AnswersSession T.Run session (change K.held K.faults sink.old sink.new) result }
 {
     let Session {
         names,

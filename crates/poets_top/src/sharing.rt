@@ -1,16 +1,9 @@
 //! The clerks' scripts, made all at once on one engine.
-ghost use Rattle.std.specs.Prelude.{◌≡◌, ◌≤◌, length, All, IfOk};
-ghost use Rattle.std.specs.Arc.{arc_value};
+ghost use Rattle.std.specs.Prelude.{◌≤◌, length, IfOk};
 ghost use Rattle.poets_value.specs.Limits.{most_clerks};
-ghost use Rattle.poets_clerks.specs.Histories.{HasScripts};
-ghost use Rattle.poets_call.specs.Calls.{calls_of, history_of, reply_of};
-ghost use Rattle.poets_call.specs.Histories.{IsRightHistory};
-ghost use Rattle.poets_call.specs.Rules.{book_of_rules, reports_of_rules};
-ghost use Rattle.poets_engine.specs.State.{commands_of};
-ghost use Rattle.poets_session.specs.Sessions.{commands_in};
+ghost use Rattle.poets_call.specs.Rules.{book_of_rules};
 ghost use Rattle.poets_syntax.specs.Whole.{IsWholeBook};
-ghost use Rattle.poets_top.specs.code.Noted.{AreScriptsTaken};
-ghost use Rattle.poets_top.specs.code.Noted as spec;
+ghost use Rattle.poets_top.specs.code.Noted.{AreEntriesOf, AreRight, AreScriptsTaken, HaveScripts};
 
 use poets_call::{Command, Entry, Reply, Rules};
 use poets_clerks::{Gate, make_history};
@@ -31,8 +24,8 @@ pub(crate) fn make_scripts<G: Gate + Sync, R: Threads + Wait + Sync>(
     requires whole { IsWholeBook (book_of_rules rules) }
     requires taken { AreScriptsTaken rules scripts.now.items }
     requires few { length scripts.now.items ≤ most_clerks }
-    ensures right { IfOk result (λ entries. IsRightHistory (book_of_rules rules) (reports_of_rules rules) (history_of entries.items)) }
-    ensures scripts { IfOk result (λ entries. HasScripts (commands_in scripts.now.items) (calls_of (history_of entries.items))) }
+    ensures right { IfOk result (AreRight rules) }
+    ensures scripts { IfOk result (HaveScripts scripts.now.items) }
 {
     // The book is checked and guarded, and the marks are right.
     let _book = rules.studied.book();
@@ -50,7 +43,7 @@ fn entries_of(
     calls: &[(u32, Arc<Command>)],
     replies: List<Reply>,
 ) -> Result<List<Entry>, Memory>
-    ensures { IfOk result (λ entries. history_of entries.items ≡ spec.entries_of (commands_of calls.now) replies.items) }
+    ensures { IfOk result (AreEntriesOf calls.now replies.items) }
 {
     let mut entries = List::new(alloc);
     for ((clerk, command), reply) in calls.iter().zip(replies.into_vec()) {

@@ -1,13 +1,10 @@
 //! Calls, made one after the other on the calling thread.
-ghost use Rattle.std.specs.Prelude.{◌≡◌, ◌++◌, ◌∷◌, [], IfOk};
-ghost use Rattle.std.specs.Arc.{arc_value};
+ghost use Rattle.std.specs.Prelude.{◌≡◌, IfOk};
 ghost use Rattle.poets_syntax.specs.Whole.{IsWholeBook};
-ghost use Rattle.poets_call.specs.Calls.{calls_of, history_of, command_of};
-ghost use Rattle.poets_call.specs.Histories.{IsRightHistory};
-ghost use Rattle.poets_call.specs.Rules.{book_of_rules, reports_of_rules};
-ghost use Rattle.poets_call.specs.Taken.{IsTaken};
+ghost use Rattle.poets_call.specs.Calls.{history_of};
+ghost use Rattle.poets_call.specs.Rules.{book_of_rules};
 ghost use Rattle.poets_session.specs.Sessions.{calls_in};
-ghost use Rattle.poets_top.specs.code.Noted.{AreNoted, AreTaken};
+ghost use Rattle.poets_top.specs.code.Noted.{AddsCall, AreNoted, AreRight, AreTaken, HaveCalls, IsTakenBy};
 
 use poets_call::{Command, Entry, Rules};
 use poets_engine::Engine;
@@ -26,10 +23,10 @@ fn call<R: Threads + Sync>(
     clerk: u32,
     command: &Arc<Command>,
 ) -> Result<(), Memory>
-    requires taken { IsTaken (book_of_rules engine.old.rules) (reports_of_rules engine.old.rules) (command_of (arc_value command.now)) }
+    requires taken { IsTakenBy engine.old.rules command.now }
     requires noted { AreNoted engine.old (history_of entries.old.items) }
     ensures noted { IfOk result (λ _. AreNoted engine.new (history_of entries.new.items)) }
-    ensures calls { IfOk result (λ _. calls_of (history_of entries.new.items) ≡ calls_of (history_of entries.old.items) ++ (clerk, command_of (arc_value command.now)) ∷ []) }
+    ensures calls { IfOk result (λ _. AddsCall clerk command.now entries.old entries.new) }
     ensures frame { engine.new.rules ≡ engine.old.rules }
 {
     let kept = engine.apply(rt, alloc, clerk, command, &mut Asks::new(()))?;
@@ -52,8 +49,8 @@ pub(crate) fn make_calls<R: Threads + Sync>(
 ) -> Result<List<Entry>, Memory>
     requires whole { IsWholeBook (book_of_rules rules) }
     requires taken { AreTaken rules calls.now }
-    ensures right { IfOk result (λ entries. IsRightHistory (book_of_rules rules) (reports_of_rules rules) (history_of entries.items)) }
-    ensures calls { IfOk result (λ entries. calls_of (history_of entries.items) ≡ calls_in calls.now) }
+    ensures right { IfOk result (AreRight rules) }
+    ensures calls { IfOk result (HaveCalls (calls_in calls.now)) }
 {
     // The book is checked and guarded, and the marks are right.
     let _book = rules.studied.book();

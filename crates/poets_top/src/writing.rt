@@ -1,14 +1,10 @@
 //! What is written: the history's lines, each by one call where the sink takes whole pieces, and the lines of refusals.
-ghost use Rattle.std.specs.Prelude.{◌≡◌, ◌≤◌, ◌⊎◌, [], OnOk, OnErr, IsErrOf};
+ghost use Rattle.std.specs.Prelude.{◌≡◌, ◌≤◌, [], OnOk, OnErr, IsErrOf};
 ghost use Rattle.std.specs.Io.KnownBytes.{Appends};
 ghost use Rattle.poets_io.specs.Causes.{Rose};
 ghost use Rattle.poets_io.specs.Streams.{AppendsPart};
-ghost use Rattle.poets_call.specs.Calls.{history_of};
-ghost use Rattle.poets_print.specs.Lines.{history_text};
-ghost use Rattle.poets_session.specs.Sessions.{Text};
-ghost use Rattle.poets_top.specs.Runs.{IsAnswerTo};
-ghost use Rattle.poets_top.specs.Writing.{HasFailed, IsWritten, stream};
-ghost use Rattle.poets_words.specs.declared.mode.Task.{Task};
+ghost use Rattle.poets_top.specs.Writing.{change};
+ghost use Rattle.poets_top.specs.code.Answering.{AnswersEach, AsksForLines, WritesLine, lines_of};
 
 use crate::outcome::{DONE, NO_MEMORY, Outcome, WRITE_FAULT, without_history};
 use poets_call::Entry;
@@ -54,8 +50,8 @@ pub(crate) fn write_history<K: Sink>(
     names: &Names,
     entries: &[Entry],
 ) -> Result<(), WriteFault>
-    ensures ok { OnOk result (Appends (K.held sink.old) (K.held sink.new) (history_text names.now (history_of entries.now))) }
-    ensures stopped { OnErr result (AppendsPart (K.held sink.old) (K.held sink.new) (history_text names.now (history_of entries.now))) }
+    ensures ok { OnOk result (Appends (K.held sink.old) (K.held sink.new) (lines_of names.now entries.now)) }
+    ensures stopped { OnErr result (AppendsPart (K.held sink.old) (K.held sink.new) (lines_of names.now entries.now)) }
     ensures later { K.faults sink.old ≤ K.faults sink.new }
     ensures kept { ¬ (IsErrOf result WriteFault.Failed) → K.faults sink.new ≡ K.faults sink.old }
     ensures failed { IsErrOf result WriteFault.Failed → Rose (K.faults sink.old) (K.faults sink.new) }
@@ -74,8 +70,7 @@ pub(crate) fn write<K: Sink>(
     names: &Names,
     history: List<Entry>,
 ) -> Outcome
-    ensures { (text : Text) (task : Task) → IsAnswerTo text task DONE (history_of history.items) (history_text names.now (history_of history.items)) →
-        IsWritten (IsAnswerTo text task) (stream (K.held sink.old) (K.faults sink.old)) (stream (K.held sink.new) (K.faults sink.new)) result.status (history_of result.history.items) }
+    ensures { AnswersEach (AsksForLines names.now history.items) (change K.held K.faults sink.old sink.new) result }
 {
     match write_history(alloc, sink, names, history.as_slice()) {
         Ok(()) => Outcome {
@@ -96,9 +91,7 @@ pub(crate) fn write<K: Sink>(
 /// Writes a line that is none of a history, and answers the status.
 pub(crate) fn write_line<K: Sink>(alloc: Global, sink: &mut K, status: u8, line: &str) -> Outcome
     ensures history { result.history.items ≡ [] }
-    ensures line { ((result.status ≡ status) × Appends (K.held sink.old) (K.held sink.new) line.now × (K.faults sink.new ≡ K.faults sink.old))
-        ⊎ ((result.status ≡ WRITE_FAULT) × AppendsPart (K.held sink.old) (K.held sink.new) line.now
-        × HasFailed (stream (K.held sink.old) (K.faults sink.old)) (stream (K.held sink.new) (K.faults sink.new))) }
+    ensures line { WritesLine line.now (change K.held K.faults sink.old sink.new) status result }
 {
     write_outcome(sink, without_history(alloc, status), line)
 }
@@ -106,9 +99,7 @@ pub(crate) fn write_line<K: Sink>(alloc: Global, sink: &mut K, status: u8, line:
 /// Writes the line of an outcome, and hands the outcome out.
 pub(crate) fn write_outcome<K: Sink>(sink: &mut K, outcome: Outcome, line: &str) -> Outcome
     ensures history { result.history ≡ outcome.history }
-    ensures line { ((result.status ≡ outcome.status) × Appends (K.held sink.old) (K.held sink.new) line.now × (K.faults sink.new ≡ K.faults sink.old))
-        ⊎ ((result.status ≡ WRITE_FAULT) × AppendsPart (K.held sink.old) (K.held sink.new) line.now
-        × HasFailed (stream (K.held sink.old) (K.faults sink.old)) (stream (K.held sink.new) (K.faults sink.new))) }
+    ensures line { WritesLine line.now (change K.held K.faults sink.old sink.new) outcome.status result }
 {
     match write_all(sink, line.as_bytes()) {
         Ok(()) => outcome,

@@ -6,15 +6,21 @@ use Rattle.std.specs.Arc.{arc_value}
 use Rattle.std.specs.List.{zip}
 use Rattle.poets_value.specs.Listed.{Listed}
 use Rattle.poets_call.specs.declared.call.Command.{Command}
+use Rattle.poets_call.specs.declared.call.Entry as code
 use Rattle.poets_call.specs.declared.call.Reply.{Reply}
 use Rattle.poets_call.specs.declared.rules.Rules.{Rules}
-use Rattle.poets_call.specs.Calls.{Call, calls_of, command_of, reply_of}
+use Rattle.poets_call.specs.Calls.{Call, calls_of, command_of, history_of, reply_of}
 use Rattle.poets_call.specs.Plain.{Entry}
-use Rattle.poets_call.specs.Histories.{IsLegal}
+use Rattle.poets_call.specs.Histories.{IsLegal, IsRightHistory}
 use Rattle.poets_call.specs.Rules.{book_of_rules, reports_of_rules}
 use Rattle.poets_call.specs.Taken.{IsTaken}
-use Rattle.poets_call.specs.Plain as plain
-use Rattle.poets_engine.specs.State.{State, plain_calls}
+use Rattle.poets_clerks.specs.Histories.{HasScripts}
+use Rattle.poets_engine.specs.State.{State, commands_of, plain_calls}
+use Rattle.poets_session.specs.Sessions.{commands_in}
+
+-- an engine with these rules takes the command
+abbrev pub IsTakenBy : Rules → Arc Command Global → Type 0
+IsTakenBy rules command = IsTaken (book_of_rules rules) (reports_of_rules rules) (command_of (arc_value command))
 
 -- an engine with these rules takes each of the calls
 abbrev pub AreTaken : Rules → List (ℕ × Arc Command Global) → Type 0
@@ -36,3 +42,24 @@ entry_with p = record { clerk = p.0.0; command = command_of p.0.1; reply = reply
 -- calls with their replies, as entries
 abbrev pub entries_of : List (ℕ × Command) → List Reply → List Entry
 entries_of calls replies = map entry_with (zip calls replies)
+
+-- the entries are those of the calls with their replies
+abbrev pub AreEntriesOf : List (ℕ × Arc Command Global) → List Reply → Listed code.Entry → Type 0
+AreEntriesOf calls replies entries = history_of entries.items ≡ entries_of (commands_of calls) replies
+
+-- the entries are a right history under the rules
+abbrev pub AreRight : Rules → Listed code.Entry → Type 0
+AreRight rules entries = IsRightHistory (book_of_rules rules) (reports_of_rules rules) (history_of entries.items)
+
+-- the entries have the calls of the scripts, each script in its order
+abbrev pub HaveScripts : List (Listed (Arc Command Global)) → Listed code.Entry → Type 0
+HaveScripts scripts entries = HasScripts (commands_in scripts) (calls_of (history_of entries.items))
+
+-- the entries have these calls
+abbrev pub HaveCalls : List Call → Listed code.Entry → Type 0
+HaveCalls calls entries = calls_of (history_of entries.items) ≡ calls
+
+-- the calls of the entries got this one as their last
+abbrev pub AddsCall : (clerk : ℕ) → Arc Command Global → (old new : Listed code.Entry) → Type 0
+AddsCall clerk command old new =
+    calls_of (history_of new.items) ≡ calls_of (history_of old.items) ++ (clerk, command_of (arc_value command)) ∷ []
