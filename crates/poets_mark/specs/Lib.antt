@@ -3,3 +3,4 @@ pub mod Lines
 pub mod Marking
 pub mod Places
 pub mod Spots
+pub mod code

@@ -1,5 +1,7 @@
 -- Where the first fault of a text stands.
-use Rattle.std.specs.Prelude.{◌≡◌, ℕ, List}
+use Rattle.std.specs.Prelude.{◌≡◌, ℕ, ◌≤◌, List, length, String, string_bytes}
+use Rattle.std.specs.declared.alloc.Global.{Global}
+use Rattle.poets_value.specs.Limits.{longest_text}
 use Rattle.poets_call.specs.Said.{Statement}
 use Rattle.poets_lex.specs.Table.{Table}
 use Rattle.poets_session.specs.Causes.{IsFirstFault}
@@ -15,6 +17,10 @@ use Rattle.poets_mark.specs.declared.spots.Spot.{Spot}
 abbrev pub IsSomeSession : Text → Form → Type 0
 IsSomeSession text form = (names : Table) × (statements : List Statement) × IsSession text form names statements
 
+-- the text is a session of the form, unless it is longer than one may be
+abbrev pub NeedsNoMark : Text → Form → Type 0
+NeedsNoMark text form = length text ≤ longest_text → IsSomeSession text form
+
 -- the spot where the first fault of the text stands
 abbrev pub IsFaultSpot : Text → Form → Spot → Type 0
 IsFaultSpot text form spot = (fault : SessionFault) × IsFirstFault text form fault × IsPlaceOf text fault.what spot.place × IsSpot text spot
@@ -22,3 +28,7 @@ IsFaultSpot text form spot = (fault : SessionFault) × IsFirstFault text form fa
 -- the lines that show where the first fault of the text stands
 abbrev pub IsMarkOf : Text → Form → List ℕ → Type 0
 IsMarkOf text form lines = (spot : Spot) × IsFaultSpot text form spot × (lines ≡ mark_text text spot)
+
+-- the string is the lines that show where the first fault of the text stands
+abbrev pub ShowsMark : Text → Form → String Global → Type 0
+ShowsMark text form lines = IsMarkOf text form (string_bytes lines)

@@ -1,9 +1,9 @@
 //! Sources whose bytes are kept.
-ghost use Rattle.std.specs.Prelude.{◌≡◌, [], Some, IfOk, OnErr, option_map, take};
+ghost use Rattle.std.specs.Prelude.{◌≡◌, [], Some, IfOk, OnErr, option_map};
 ghost use Rattle.std.specs.Io.{ReadsAtMost};
 ghost use Rattle.std.specs.Io.KnownBytes.{ReadConsumes};
 ghost use Rattle.poets_io.specs.Causes.{HasCause};
-ghost use Rattle.poets_mark.specs.Keeping.{IsKept};
+ghost use Rattle.poets_mark.specs.Keeping.{IsKept, IsKeptOf};
 
 use poets_io::{Failed, Source};
 use std::alloc::Global;
@@ -76,7 +76,7 @@ impl<S: Source> Source for KeptSource<S> {
         ensures bound { ReadsAtMost result buf.new }
         ensures bytes { ReadConsumes self.old.left self.new.left result buf.new }
         ensures cause { HasCause self.old.faults self.new.faults result }
-        ensures given { IfOk result (λ count. IsKept self.old.given (take count buf.new) self.new.given) }
+        ensures given { IfOk result (IsKeptOf self.old.given buf.new self.new.given) }
         ensures same { OnErr result (self.new.given ≡ self.old.given) }
     {
         let count = self.source.read(buf)?;

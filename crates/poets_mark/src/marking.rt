@@ -1,9 +1,10 @@
 //! A fault's line with a mark below it.
 ghost use Rattle.std.specs.Prelude.{◌≡◌, ◌≤◌, ◌++◌, length, map, replicate, IfOk, IfSome, IfNone, OnOk, string_bytes};
 ghost use Rattle.poets_value.specs.Limits.{longest_text};
-ghost use Rattle.poets_mark.specs.Marking.{IsFaultSpot, IsMarkOf, IsSomeSession};
+ghost use Rattle.poets_mark.specs.Marking.{IsFaultSpot, IsSomeSession, NeedsNoMark, ShowsMark};
 ghost use Rattle.poets_mark.specs.Lines.{text_line, mark_line};
 ghost use Rattle.poets_mark.specs.Lines as spec;
+ghost use Rattle.poets_mark.specs.code.Adding.{Adds, LiesIn};
 
 use crate::places::place_of;
 use crate::spots::{Spot, spot_at};
@@ -44,7 +45,7 @@ fn shown(byte: u8) -> char
 
 // Adds the bytes as they are shown.
 fn add_shown(lines: &mut String, bytes: &[u8]) -> Result<(), Memory>
-    ensures { OnOk result (string_bytes lines.new ≡ string_bytes lines.old ++ map spec.shown bytes.now) }
+    ensures { OnOk result (Adds lines.old lines.new (map spec.shown bytes.now)) }
 {
     for byte in bytes {
         lines.push(shown(*byte))?;
@@ -54,7 +55,7 @@ fn add_shown(lines: &mut String, bytes: &[u8]) -> Result<(), Memory>
 
 // Adds so many spaces.
 fn add_spaces(lines: &mut String, count: usize) -> Result<(), Memory>
-    ensures { OnOk result (string_bytes lines.new ≡ string_bytes lines.old ++ replicate count 32) }
+    ensures { OnOk result (Adds lines.old lines.new (replicate count 32)) }
 {
     for _ in 0..count {
         lines.push(' ')?;
@@ -64,8 +65,8 @@ fn add_spaces(lines: &mut String, count: usize) -> Result<(), Memory>
 
 // Adds the part of the line around the place, and a mark below the place.
 fn add_line(lines: &mut String, text: &[u8], spot: &Spot) -> Result<(), Memory>
-    requires { (spot.now.begin ≤ spot.now.place) × (spot.now.place ≤ spot.now.end) × (spot.now.end ≤ length text.now) }
-    ensures { OnOk result (string_bytes lines.new ≡ string_bytes lines.old ++ (text_line text.now spot.now ++ mark_line spot.now)) }
+    requires { LiesIn text.now spot.now }
+    ensures { OnOk result (Adds lines.old lines.new (text_line text.now spot.now ++ mark_line spot.now)) }
 {
     let from = spot.begin.max(spot.place.saturating_sub(BEFORE));
     let to = spot.end.min(spot.place.saturating_add(AFTER));
@@ -86,8 +87,8 @@ fn place_line(alloc: Global, spot: &Spot) -> Result<String, Memory>
 /// Where the first fault of the text stands, as a session of the form: its line and its column, counted from 1, the part of
 /// the line around it, and a mark below its first byte. None where the text is a session, or is longer than one may be.
 pub fn mark_of(alloc: Global, text: &[u8], form: Form) -> Result<Option<String>, Memory>
-    ensures none { IfOk result (λ found. IfNone found (length text.now ≤ longest_text → IsSomeSession text.now form)) }
-    ensures some { IfOk result (λ found. IfSome found (λ lines. IsMarkOf text.now form (string_bytes lines))) }
+    ensures none { IfOk result (λ found. IfNone found (NeedsNoMark text.now form)) }
+    ensures some { IfOk result (λ found. IfSome found (ShowsMark text.now form)) }
 {
     if text.len() > LONGEST_TEXT {
         return Ok(None);

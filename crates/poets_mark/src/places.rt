@@ -1,9 +1,10 @@
 //! The places of faults.
-ghost use Rattle.std.specs.Prelude.{◌≡◌, [], ◌<◌, ◌≤◌, ◌+◌, ◌-◌, length, take, drop, unwrap_or, IfOk, IfSome, IfNone};
+ghost use Rattle.std.specs.Prelude.{◌≡◌, ◌≤◌, ◌+◌, ◌-◌, length, drop, unwrap_or, IfOk, IfSome, IfNone};
 ghost use Rattle.poets_value.specs.Limits.{longest_text};
 ghost use Rattle.poets_session.specs.Pieces as pieces;
 ghost use Rattle.poets_mark.specs.Places.{first_place, statement_tokens, IsBeginOf, IsWithin, IsPlaceOf};
 ghost use Rattle.poets_mark.specs.Places as places;
+ghost use Rattle.poets_mark.specs.code.Ends.{StandAheadOfEnd, HaveNoEnd};
 
 use poets_lex::{LexFault, Names, Sign, Tok, Token, tokens};
 use poets_parse::{SyntaxFault, begun};
@@ -23,9 +24,9 @@ fn is_end(token: &Token) -> bool
 
 // The number of tokens ahead of the first `;;`, if there is one.
 fn end_of(tokens: &[Token]) -> Option<usize>
-    ensures ahead { IfSome result (λ n. (n < length tokens.now) × (places.ahead_of_end tokens.now ≡ take n tokens.now)) }
+    ensures ahead { IfSome result (StandAheadOfEnd tokens.now) }
     ensures after { IfSome result (λ n. places.after_end tokens.now ≡ drop (n + 1) tokens.now) }
-    ensures none { IfNone result ((places.ahead_of_end tokens.now ≡ tokens.now) × (places.after_end tokens.now ≡ [])) }
+    ensures none { IfNone result (HaveNoEnd tokens.now) }
 {
     for (place, token) in tokens.iter().enumerate() {
         if is_end(token) {
