@@ -3,7 +3,8 @@ ghost use Rattle.std.specs.Prelude.{◌≡◌, ◌≤◌, IfOk, OnOk, Some, leng
 ghost use Rattle.poets_value.specs.Limits.{longest_text, most_sales};
 ghost use Rattle.poets_demo.specs.Text.{portfolio, sale_lines, sale_name, section};
 ghost use Rattle.poets_demo.specs.Text as spec;
-ghost use Rattle.poets_demo.specs.code.Putting.{IsPut, lines_of_sales, more_names, next_name};
+ghost use Rattle.poets_value.specs.code.Texts.{Puts};
+ghost use Rattle.poets_demo.specs.code.Putting.{lines_of_sales, more_names, next_name};
 
 use poets_value::Memory;
 use std::alloc::Global;
@@ -59,7 +60,7 @@ pub fn demo_text(alloc: Global, sales: u32) -> Result<String, Memory>
 // Puts what a clerk does.
 fn put_section(text: &mut String, clerk: u32, sales: u32) -> Result<(), Memory>
     requires { (1 ≤ sales) × (sales ≤ most_sales) }
-    ensures { OnOk result (IsPut (section clerk sales) text.old text.new) }
+    ensures { OnOk result (Puts text.old text.new (section clerk sales)) }
 {
     writeln!(text, "clerk;;")?;
     put_sales(text, clerk, sales)?;
@@ -69,7 +70,7 @@ fn put_section(text: &mut String, clerk: u32, sales: u32) -> Result<(), Memory>
 // Puts the lines of a clerk's sales.
 fn put_sales(text: &mut String, clerk: u32, sales: u32) -> Result<(), Memory>
     requires { (1 ≤ sales) × (sales ≤ most_sales) }
-    ensures { OnOk result (IsPut (lines_of_sales clerk sales) text.old text.new) }
+    ensures { OnOk result (Puts text.old text.new (lines_of_sales clerk sales)) }
 {
     for sale in 1..=sales {
         put_sale(text, clerk, sale)?;
@@ -80,7 +81,7 @@ fn put_sales(text: &mut String, clerk: u32, sales: u32) -> Result<(), Memory>
 // Puts the lines of a sale.
 fn put_sale(text: &mut String, clerk: u32, sale: u32) -> Result<(), Memory>
     requires { sale ≤ most_sales }
-    ensures { OnOk result (IsPut (sale_lines clerk sale) text.old text.new) }
+    ensures { OnOk result (Puts text.old text.new (sale_lines clerk sale)) }
 {
     let name = SaleName { clerk, sale };
     let price = 3 * sale;
@@ -95,7 +96,7 @@ fn put_sale(text: &mut String, clerk: u32, sale: u32) -> Result<(), Memory>
 // Puts the portfolio of a clerk's sales.
 fn put_portfolio(text: &mut String, clerk: u32, sales: u32) -> Result<(), Memory>
     requires { 1 ≤ sales }
-    ensures { OnOk result (IsPut (portfolio clerk sales) text.old text.new) }
+    ensures { OnOk result (Puts text.old text.new (portfolio clerk sales)) }
 {
     let first = SaleName { clerk, sale: 1 };
     write!(text, "portfolio paid() over {first}")?;
@@ -107,7 +108,7 @@ fn put_portfolio(text: &mut String, clerk: u32, sales: u32) -> Result<(), Memory
 // Puts the names of a clerk's sales but the first, each behind a comma.
 fn put_more_names(text: &mut String, clerk: u32, sales: u32) -> Result<(), Memory>
     requires { 1 ≤ sales }
-    ensures { OnOk result (IsPut (more_names clerk sales) text.old text.new) }
+    ensures { OnOk result (Puts text.old text.new (more_names clerk sales)) }
 {
     for sale in 2..=sales {
         put_next_name(text, clerk, sale)?;
@@ -117,7 +118,7 @@ fn put_more_names(text: &mut String, clerk: u32, sales: u32) -> Result<(), Memor
 
 // Puts a sale's name behind a comma.
 fn put_next_name(text: &mut String, clerk: u32, sale: u32) -> Result<(), Memory>
-    ensures { OnOk result (IsPut (next_name clerk sale) text.old text.new) }
+    ensures { OnOk result (Puts text.old text.new (next_name clerk sale)) }
 {
     let name = SaleName { clerk, sale };
     write!(text, ", {name}")?;

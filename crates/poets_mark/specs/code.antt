@@ -1,3 +1,3 @@
 -- What ties the code to the definitions: what private functions promise.
-pub mod Adding
+pub mod InLines
 pub mod Ends

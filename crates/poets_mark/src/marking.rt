@@ -4,7 +4,8 @@ ghost use Rattle.poets_value.specs.Limits.{longest_text};
 ghost use Rattle.poets_mark.specs.Marking.{IsFaultSpot, IsSomeSession, NeedsNoMark, ShowsMark};
 ghost use Rattle.poets_mark.specs.Lines.{text_line, mark_line};
 ghost use Rattle.poets_mark.specs.Lines as spec;
-ghost use Rattle.poets_mark.specs.code.Adding.{Adds, LiesIn};
+ghost use Rattle.poets_value.specs.code.Texts.{Puts};
+ghost use Rattle.poets_mark.specs.code.InLines.{LiesIn};
 
 use crate::places::place_of;
 use crate::spots::{Spot, spot_at};
@@ -43,9 +44,9 @@ fn shown(byte: u8) -> char
     }
 }
 
-// Adds the bytes as they are shown.
+// Puts the bytes as they are shown.
 fn add_shown(lines: &mut String, bytes: &[u8]) -> Result<(), Memory>
-    ensures { OnOk result (Adds lines.old lines.new (map spec.shown bytes.now)) }
+    ensures { OnOk result (Puts lines.old lines.new (map spec.shown bytes.now)) }
 {
     for byte in bytes {
         lines.push(shown(*byte))?;
@@ -53,9 +54,9 @@ fn add_shown(lines: &mut String, bytes: &[u8]) -> Result<(), Memory>
     Ok(())
 }
 
-// Adds so many spaces.
+// Puts so many spaces.
 fn add_spaces(lines: &mut String, count: usize) -> Result<(), Memory>
-    ensures { OnOk result (Adds lines.old lines.new (replicate count 32)) }
+    ensures { OnOk result (Puts lines.old lines.new (replicate count 32)) }
 {
     for _ in 0..count {
         lines.push(' ')?;
@@ -63,10 +64,10 @@ fn add_spaces(lines: &mut String, count: usize) -> Result<(), Memory>
     Ok(())
 }
 
-// Adds the part of the line around the place, and a mark below the place.
+// Puts the part of the line around the place, and a mark below the place.
 fn add_line(lines: &mut String, text: &[u8], spot: &Spot) -> Result<(), Memory>
     requires { LiesIn text.now spot.now }
-    ensures { OnOk result (Adds lines.old lines.new (text_line text.now spot.now ++ mark_line spot.now)) }
+    ensures { OnOk result (Puts lines.old lines.new (text_line text.now spot.now ++ mark_line spot.now)) }
 {
     let from = spot.begin.max(spot.place.saturating_sub(BEFORE));
     let to = spot.end.min(spot.place.saturating_add(AFTER));

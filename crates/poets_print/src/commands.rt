@@ -4,7 +4,8 @@ ghost use Rattle.poets_call.specs.Calls.{command_of};
 ghost use Rattle.poets_print.specs.Texts.{IsText, behind_commas, name_text};
 ghost use Rattle.poets_print.specs.Lines.{amount_text, event_text};
 ghost use Rattle.poets_print.specs.Lines as lines;
-ghost use Rattle.poets_print.specs.code.Putting.{Puts, names_text};
+ghost use Rattle.poets_value.specs.code.Texts.{Puts};
+ghost use Rattle.poets_print.specs.code.Putting.{names_text};
 
 use crate::contracts::{put_call, put_contract};
 use crate::pieces::{put, put_counted, put_day, put_name, put_named, put_number};

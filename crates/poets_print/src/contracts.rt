@@ -3,7 +3,8 @@ ghost use Rattle.std.specs.Prelude.{OnOk, IfOk, map};
 ghost use Rattle.poets_expr.specs.Expression.{expression_of};
 ghost use Rattle.poets_syntax.specs.Contract.{contract_of};
 ghost use Rattle.poets_print.specs.Texts.{IsText, contract_text, call_text, binders_text};
-ghost use Rattle.poets_print.specs.code.Putting.{Puts, more_arguments, contract_part};
+ghost use Rattle.poets_value.specs.code.Texts.{Puts};
+ghost use Rattle.poets_print.specs.code.Putting.{more_arguments, contract_part};
 
 use crate::expressions::put_expression;
 use crate::levels::contract_level;

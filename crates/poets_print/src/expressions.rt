@@ -2,7 +2,8 @@
 ghost use Rattle.std.specs.Prelude.{◌≡◌, ◌++◌, OnOk, codes};
 ghost use Rattle.poets_expr.specs.Expression.{expression_of};
 ghost use Rattle.poets_print.specs.Texts.{expression_text, op_text};
-ghost use Rattle.poets_print.specs.code.Putting.{Puts, expression_part};
+ghost use Rattle.poets_value.specs.code.Texts.{Puts};
+ghost use Rattle.poets_print.specs.code.Putting.{expression_part};
 
 use crate::levels::{denied_in_brackets, left_in_brackets, negated_in_brackets, right_in_brackets};
 use crate::pieces::{

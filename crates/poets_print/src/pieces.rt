@@ -5,7 +5,7 @@ ghost use Rattle.poets_value.specs.Civil.{day_text};
 ghost use Rattle.poets_print.specs.Texts.{truth_text, resource_text, value_text};
 ghost use Rattle.poets_print.specs.Texts as texts;
 ghost use Rattle.poets_print.specs.Lines.{optional_text};
-ghost use Rattle.poets_print.specs.code.Putting.{Puts};
+ghost use Rattle.poets_value.specs.code.Texts.{Puts};
 
 use crate::words::{name_text, type_text};
 use poets_lex::Names;

@@ -6,7 +6,8 @@ ghost use Rattle.poets_call.specs.Calls.{reply_of, folio_row_of};
 ghost use Rattle.poets_print.specs.Texts.{IsText, behind_commas};
 ghost use Rattle.poets_print.specs.Lines.{yes_text, row_text, rows_text, answer_text, answered_text, part_text, parts_text, total_text};
 ghost use Rattle.poets_print.specs.Lines as lines;
-ghost use Rattle.poets_print.specs.code.Putting.{Puts, more_parts, folio_text, shown_text};
+ghost use Rattle.poets_value.specs.code.Texts.{Puts};
+ghost use Rattle.poets_print.specs.code.Putting.{more_parts, folio_text, shown_text};
 
 use crate::contracts::put_contract;
 use crate::pieces::{put, put_counted, put_day, put_name, put_named, put_optional};

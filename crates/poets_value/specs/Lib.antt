@@ -4,3 +4,4 @@ pub mod Limits
 pub mod Names
 pub mod Order
 pub mod Whole
+pub mod code

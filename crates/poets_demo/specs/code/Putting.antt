@@ -1,12 +1,7 @@
 -- What is put to a text.
-use Rattle.std.specs.Prelude.{◌≡◌, ℕ, ◌-◌, List, ◌++◌, String, codes, string_bytes}
-use Rattle.std.specs.declared.alloc.Global.{Global}
+use Rattle.std.specs.Prelude.{ℕ, ◌-◌, List, ◌++◌, codes}
 use Rattle.std.specs.List.{flat_map, range_with_len}
 use Rattle.poets_demo.specs.Text.{numbers_to, sale_lines, sale_name}
-
--- the piece was put behind what the text had
-abbrev pub IsPut : (piece : List ℕ) → (old new : String Global) → Type 0
-IsPut piece old new = string_bytes new ≡ string_bytes old ++ piece
 
 -- the lines of a clerk's sales
 abbrev pub lines_of_sales : (clerk sales : ℕ) → List ℕ

@@ -1,6 +1,5 @@
--- Texts that are put at the end of a text, of values as the code has them.
-use Rattle.std.specs.Prelude.{◌≡◌, ℕ, Bool, List, ◌++◌, map, String, string_bytes}
-use Rattle.std.specs.declared.alloc.Global.{Global}
+-- Texts of values as the code has them.
+use Rattle.std.specs.Prelude.{ℕ, Bool, List, map}
 use Rattle.poets_value.specs.declared.value.Name.{Name}
 use Rattle.poets_expr.specs.declared.expr.Expr.{Expr}
 use Rattle.poets_expr.specs.Expression.{expression_of}
@@ -13,10 +12,6 @@ use Rattle.poets_call.specs.Plain.{Reply}
 use Rattle.poets_lex.specs.Table.{Table}
 use Rattle.poets_print.specs.Texts.{name_text, bracketed, behind_commas, listed, expression_text, contract_text}
 use Rattle.poets_print.specs.Lines.{part_text, reply_text}
-
--- the text is put at the end of what stands
-abbrev pub Puts : (before after : String Global) → List ℕ → Type 0
-Puts before after text = string_bytes after ≡ string_bytes before ++ text
 
 -- names, with `, ` between them
 abbrev pub names_text : Table → List Name → List ℕ

@@ -1,7 +1,7 @@
 use Rattle.std.proofs.Common.{replicate}
-use Rattle.poets_mark.specs.code.Adding.{Adds}
+use Rattle.poets_value.specs.code.Texts.{Puts}
 use Rattle.poets_mark.proofs.marking.add_spaces.Given as goal
 
 -- so many spaces were added
 abbrev pub invariant-loop : goal.invariant-loop
-invariant-loop l = Adds l.fn.lines l.lines (replicate l.counter 32)
+invariant-loop l = Puts l.fn.lines l.lines (replicate l.counter 32)

@@ -1,6 +1,6 @@
 use Rattle.std.proofs.Common.{take}
 use Rattle.poets_print.specs.Texts.{behind_commas, name_text}
-use Rattle.poets_print.specs.code.Putting.{Puts}
+use Rattle.poets_value.specs.code.Texts.{Puts}
 use Rattle.poets_print.proofs.commands.put_rest.Given as goal
 
 abbrev pub invariant-loop-name : goal.invariant-loop-name

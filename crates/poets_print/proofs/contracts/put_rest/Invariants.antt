@@ -1,5 +1,6 @@
 use Rattle.std.proofs.Common.{take}
-use Rattle.poets_print.specs.code.Putting.{Puts, more_arguments}
+use Rattle.poets_value.specs.code.Texts.{Puts}
+use Rattle.poets_print.specs.code.Putting.{more_arguments}
 use Rattle.poets_print.proofs.contracts.put_rest.Given as goal
 
 abbrev pub invariant-loop-arg : goal.invariant-loop-arg

@@ -1,5 +1,6 @@
 use Rattle.std.proofs.Common.{take}
-use Rattle.poets_print.specs.code.Putting.{Puts, more_parts}
+use Rattle.poets_value.specs.code.Texts.{Puts}
+use Rattle.poets_print.specs.code.Putting.{more_parts}
 use Rattle.poets_print.proofs.replies.put_more_parts.Given as goal
 
 abbrev pub invariant-loop-part : goal.invariant-loop-part

@@ -1,0 +1,7 @@
+-- Texts that are written piece by piece.
+use Rattle.std.specs.Prelude.{◌≡◌, ℕ, List, ◌++◌, String, string_bytes}
+use Rattle.std.specs.declared.alloc.Global.{Global}
+
+-- the piece was put at the end of what stood in the text
+abbrev pub Puts : (old new : String Global) → (piece : List ℕ) → Type 0
+Puts old new piece = string_bytes new ≡ string_bytes old ++ piece
