@@ -4,7 +4,7 @@ ghost use Rattle.poets_syntax.specs.Whole.{IsWholeBook};
 ghost use Rattle.poets_call.specs.Calls.{history_of};
 ghost use Rattle.poets_call.specs.Rules.{book_of_rules};
 ghost use Rattle.poets_session.specs.Sessions.{calls_in};
-ghost use Rattle.poets_top.specs.code.Noted.{AddsCall, AreNoted, AreRight, AreTaken, HaveCalls, IsTakenBy};
+ghost use Rattle.poets_top.specs.code.Noted.{AreNoted, AreRight, AreTaken, HaveCalls, IsTakenBy, NotesCall};
 
 use poets_call::{Command, Entry, Rules};
 use poets_engine::Engine;
@@ -26,7 +26,7 @@ fn call<R: Threads + Sync>(
     requires taken { IsTakenBy engine.old.rules command.now }
     requires noted { AreNoted engine.old (history_of entries.old.items) }
     ensures noted { IfOk result (λ _. AreNoted engine.new (history_of entries.new.items)) }
-    ensures calls { IfOk result (λ _. AddsCall clerk command.now entries.old entries.new) }
+    ensures calls { IfOk result (λ _. NotesCall clerk command.now entries.old entries.new) }
     ensures frame { engine.new.rules ≡ engine.old.rules }
 {
     let kept = engine.apply(rt, alloc, clerk, command, &mut Asks::new(()))?;

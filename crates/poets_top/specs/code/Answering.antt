@@ -20,20 +20,20 @@ use Rattle.poets_top.specs.code.Sessions.{IsSessionOf}
 use Rattle.poets_top.specs.declared.outcome.Outcome.{Outcome}
 use Rattle.poets_top.specs.declared.outcome.TheConstants.{DONE, WRITE_FAULT}
 
--- what is asked for is written
+-- what is asked for was written to the sink, or as much of it as the sink or memory allowed, as the outcome tells
 abbrev pub Writes : (Is : (status : ℕ) → List Entry → (text : List ℕ) → Type 0) → (sink : Change) → Outcome → Type 0
 Writes Is sink outcome = IsWritten Is sink.before sink.after outcome.status (history_of outcome.history.items)
 
--- of each text and task that are such, the answer is written
+-- whatever such text was read for whatever such task, its answer was written to the sink, as the outcome tells
 abbrev pub AnswersEach : (Such : Text → Task → Type 0) → (sink : Change) → Outcome → Type 0
 AnswersEach Such sink outcome = (text : Text) (task : Task) → Such text task → Writes (IsAnswerTo text task) sink outcome
 
--- of each text from which the session was read for the task, the answer is written
+-- from whatever text the session was read for the task, the answer was written to the sink, as the outcome tells
 abbrev pub AnswersSession : Task → Session → (sink : Change) → Outcome → Type 0
 AnswersSession task session sink outcome =
     (text : Text) (statements : List Statement) → IsSessionOf (form_of task) text statements session → Writes (IsAnswerTo text task) sink outcome
 
--- a run ends that was asked for the task
+-- a run that was asked for the task ended with the outcome, by the changes of its source and its sink
 abbrev pub EndsTask : Task → (source sink : Change) → Outcome → Type 0
 EndsTask task source sink outcome =
     IsEnding task source.before source.after sink.before sink.after outcome.status (history_of outcome.history.items)
