@@ -4,7 +4,8 @@ ghost use Rattle.std.specs.Io.KnownBytes.{Appends};
 ghost use Rattle.poets_io.specs.Causes.{Rose};
 ghost use Rattle.poets_io.specs.Streams.{AppendsPart};
 ghost use Rattle.poets_top.specs.Writing.{change};
-ghost use Rattle.poets_top.specs.code.Answering.{AnswersEach, AsksForLines, WritesLine, lines_of};
+ghost use Rattle.poets_top.specs.code.Answering.{WritesHistory, WritesLine, lines_of};
+ghost use Rattle.poets_top.specs.declared.writing.WriteFault.TheVariants as F;
 
 use crate::outcome::{DONE, NO_MEMORY, Outcome, WRITE_FAULT, without_history};
 use poets_call::Entry;
@@ -53,8 +54,8 @@ pub(crate) fn write_history<K: Sink>(
     ensures ok { OnOk result (Appends (K.held sink.old) (K.held sink.new) (lines_of names.now entries.now)) }
     ensures stopped { OnErr result (AppendsPart (K.held sink.old) (K.held sink.new) (lines_of names.now entries.now)) }
     ensures later { K.faults sink.old ≤ K.faults sink.new }
-    ensures kept { ¬ (IsErrOf result WriteFault.Failed) → K.faults sink.new ≡ K.faults sink.old }
-    ensures failed { IsErrOf result WriteFault.Failed → Rose (K.faults sink.old) (K.faults sink.new) }
+    ensures kept { ¬ (IsErrOf result F.Failed) → K.faults sink.new ≡ K.faults sink.old }
+    ensures failed { IsErrOf result F.Failed → Rose (K.faults sink.old) (K.faults sink.new) }
 {
     for (place, entry) in entries.iter().enumerate() {
         let line = line_text(alloc, names, place as u64 + 1, entry)?;
@@ -70,7 +71,7 @@ pub(crate) fn write<K: Sink>(
     names: &Names,
     history: List<Entry>,
 ) -> Outcome
-    ensures { AnswersEach (AsksForLines names.now history.items) (change K.held K.faults sink.old sink.new) result }
+    ensures { WritesHistory names.now history (change K.held K.faults sink.old sink.new) result }
 {
     match write_history(alloc, sink, names, history.as_slice()) {
         Ok(()) => Outcome {

@@ -2,6 +2,7 @@
 use Rattle.std.specs.Prelude.{◌≡◌, ◌⊎◌, ℕ, List}
 use Rattle.std.specs.Io.KnownBytes.{Appends}
 use Rattle.poets_io.specs.Streams.{AppendsPart}
+use Rattle.poets_value.specs.Listed.{Listed}
 use Rattle.poets_lex.specs.Table.{Table}
 use Rattle.poets_call.specs.declared.call.Entry as code
 use Rattle.poets_call.specs.Calls.{history_of}
@@ -46,9 +47,10 @@ HasFault fault text task = IsFirstFault text (form_of task) fault
 abbrev pub lines_of : Table → List code.Entry → List ℕ
 lines_of names entries = history_text names (history_of entries)
 
--- the text asks for the history of the entries, and for its lines
-abbrev pub AsksForLines : Table → List code.Entry → Text → Task → Type 0
-AsksForLines names entries text task = IsAnswerTo text task DONE (history_of entries) (lines_of names entries)
+-- whatever text asks for this history and for its lines, they were written to the sink, as the outcome tells
+abbrev pub WritesHistory : Table → Listed code.Entry → (sink : Change) → Outcome → Type 0
+WritesHistory names history sink outcome =
+    AnswersEach (λ text task. IsAnswerTo text task DONE (history_of history.items) (lines_of names history.items)) sink outcome
 
 -- the line was written and the outcome has the wanted status; or the sink failed, and a front of the line was written
 abbrev pub WritesLine : (line : List ℕ) → (sink : Change) → (wanted : ℕ) → Outcome → Type 0
