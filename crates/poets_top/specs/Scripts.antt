@@ -4,4 +4,4 @@ use Rattle.poets_call.specs.Calls.{Call}
 use Rattle.poets_call.specs.Plain as plain
 
 abbrev pub under_clerk : ℕ → List plain.Command → List Call
-under_clerk clerk requests = map (λ request. (clerk, request)) requests
+under_clerk clerk commands = map (λ command. (clerk, command)) commands

@@ -1,10 +1,12 @@
 //! Calls, made one after the other on the calling thread.
 ghost use Rattle.std.specs.Prelude.{◌≡◌, IfOk};
 ghost use Rattle.poets_syntax.specs.Whole.{IsWholeBook};
-ghost use Rattle.poets_call.specs.Calls.{history_of};
+ghost use Rattle.std.specs.Arc.{arc_value};
+ghost use Rattle.poets_call.specs.Calls.{command_of, history_of};
 ghost use Rattle.poets_call.specs.Rules.{book_of_rules};
+ghost use Rattle.poets_engine.specs.Takes.{IsTakenBy};
 ghost use Rattle.poets_session.specs.Sessions.{calls_in};
-ghost use Rattle.poets_top.specs.code.Noted.{AreNoted, AreRight, AreTaken, HaveCalls, IsTakenBy, NotesCall};
+ghost use Rattle.poets_top.specs.code.Noted.{AreNoted, AreRight, AreTaken, HaveCalls, NotesCall};
 
 use poets_call::{Command, Entry, Rules};
 use poets_engine::Engine;
@@ -23,7 +25,7 @@ fn call<R: Threads + Sync>(
     clerk: u32,
     command: &Arc<Command>,
 ) -> Result<(), Memory>
-    requires taken { IsTakenBy engine.old.rules command.now }
+    requires taken { IsTakenBy engine.old.rules (command_of (arc_value command.now)) }
     requires noted { AreNoted engine.old (history_of entries.old.items) }
     ensures noted { IfOk result (λ _. AreNoted engine.new (history_of entries.new.items)) }
     ensures calls { IfOk result (λ _. NotesCall clerk command.now entries.old entries.new) }

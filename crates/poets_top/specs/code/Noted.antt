@@ -13,18 +13,14 @@ use Rattle.poets_call.specs.Calls.{Call, calls_of, command_of, history_of, reply
 use Rattle.poets_call.specs.Plain.{Entry}
 use Rattle.poets_call.specs.Histories.{IsLegal, IsRightHistory}
 use Rattle.poets_call.specs.Rules.{book_of_rules, reports_of_rules}
-use Rattle.poets_call.specs.Taken.{IsTaken}
 use Rattle.poets_clerks.specs.Histories.{HasScripts}
 use Rattle.poets_engine.specs.State.{State, commands_of, plain_calls}
+use Rattle.poets_engine.specs.Takes.{IsTakenBy}
 use Rattle.poets_session.specs.Sessions.{commands_in}
-
--- an engine with these rules takes the command
-abbrev pub IsTakenBy : Rules → Arc Command Global → Type 0
-IsTakenBy rules command = IsTaken (book_of_rules rules) (reports_of_rules rules) (command_of (arc_value command))
 
 -- an engine with these rules takes each of the calls
 abbrev pub AreTaken : Rules → List (ℕ × Arc Command Global) → Type 0
-AreTaken rules calls = All (λ call. IsTaken (book_of_rules rules) (reports_of_rules rules) (command_of (arc_value call.1))) calls
+AreTaken rules calls = All (λ call. IsTakenBy rules (command_of (arc_value call.1))) calls
 
 -- the entries are a legal history of the engine's calls
 pub record AreNoted (engine : State) (h : List Entry) : Type 0 where
@@ -33,7 +29,7 @@ pub record AreNoted (engine : State) (h : List Entry) : Type 0 where
 
 -- an engine with these rules takes each of the calls of the scripts
 abbrev pub AreScriptsTaken : Rules → List (Listed (Arc Command Global)) → Type 0
-AreScriptsTaken rules scripts = All (λ script. All (λ command. IsTaken (book_of_rules rules) (reports_of_rules rules) (command_of (arc_value command))) script.items) scripts
+AreScriptsTaken rules scripts = All (λ script. All (λ command. IsTakenBy rules (command_of (arc_value command))) script.items) scripts
 
 -- a call with its reply, as an entry
 abbrev pub entry_with : (ℕ × Command) × Reply → Entry
