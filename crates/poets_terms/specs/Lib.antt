@@ -1,3 +1,2 @@
-pub mod GuardBooks
 pub mod NormBook
 pub mod ResidueBook

@@ -14,4 +14,6 @@ mod norm_book;
 #[cfg(test)]
 mod residue;
 #[cfg(test)]
+mod sentences;
+#[cfg(test)]
 mod syntax;

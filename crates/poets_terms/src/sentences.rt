@@ -1,0 +1,86 @@
+//! Sentences of the language, which are read, and not checked.
+
+use poets_call::{Command, Statement};
+use poets_expr::Expr;
+use poets_lex::{Names, tokens};
+use poets_parse::statement;
+use poets_syntax::{Template, Term};
+use poets_value::{List, Memory, Name};
+use std::alloc::Global;
+
+// The names that are numbered first, each by its place.
+const ORDER: &[u8] = b"ann bob Oil USD a b r t n x y f g h";
+
+pub(crate) const ANN: Name = Name { id: 0 };
+
+pub(crate) const BOB: Name = Name { id: 1 };
+
+pub(crate) const OIL: Name = Name { id: 2 };
+
+pub(crate) const USD: Name = Name { id: 3 };
+
+pub(crate) const A: Name = Name { id: 4 };
+
+pub(crate) const B: Name = Name { id: 5 };
+
+pub(crate) const R: Name = Name { id: 6 };
+
+pub(crate) const T: Name = Name { id: 7 };
+
+pub(crate) const N: Name = Name { id: 8 };
+
+pub(crate) const X: Name = Name { id: 9 };
+
+pub(crate) const Y: Name = Name { id: 10 };
+
+pub(crate) const F: Name = Name { id: 11 };
+
+pub(crate) const G: Name = Name { id: 12 };
+
+pub(crate) const H: Name = Name { id: 13 };
+
+/// What the sentence says, in which these names have these numbers.
+#[tactic(auto, using(poets_grammar::proofs::Lexed::read_natural))]
+pub(crate) fn sentence(alloc: Global, text: &str) -> Result<Statement, Memory> {
+    let mut names = Names::new(alloc);
+    let ordered = tokens(alloc, ORDER, &mut names);
+    if ordered.is_err() || text.len() > 1 << 16 {
+        return Err(Memory);
+    }
+    let Ok(tokens) = tokens(alloc, text.as_bytes(), &mut names) else {
+        return Err(Memory);
+    };
+    statement(alloc, tokens.as_slice()).or(Err(Memory))
+}
+
+/// The arguments of the sentence `watch f(x, y, ..)`.
+pub(crate) fn expressions(alloc: Global, text: &str) -> Result<List<Expr>, Memory> {
+    match sentence(alloc, text)? {
+        Statement::Command(Command::Watch { args, .. }) => Ok(args),
+        _ => Err(Memory),
+    }
+}
+
+/// The body of the template that the sentence declares.
+pub(crate) fn contract(alloc: Global, text: &str) -> Result<Term, Memory> {
+    match sentence(alloc, text)? {
+        Statement::Template(Template { body, .. }) => Ok(body),
+        _ => Err(Memory),
+    }
+}
+
+/// The text with a piece between its two parts, which is repeated.
+pub(crate) fn repeated(
+    alloc: Global,
+    head: &str,
+    piece: &str,
+    times: u32,
+    tail: &str,
+) -> Result<String, Memory> {
+    let mut text = String::from_str(alloc, head)?;
+    for _ in 0..times {
+        text.push_str(piece)?;
+    }
+    text.push_str(tail)?;
+    Ok(text)
+}
