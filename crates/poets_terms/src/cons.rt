@@ -1,83 +1,42 @@
 //! Rows of contracts worked out by hand.
 
-use poets_cons::{Arena, Node, Notes, Rows, enter, of_term, rows_at, to_term};
-use poets_expr::{Expr, Op, build as make};
-use poets_syntax::{Binders, Term, build, copy, same};
-use poets_value::{List, Memory, Name, push};
+use crate::contracts::{Made, contract, is_made};
+use poets_cons::{Arena, Node, Notes, enter, of_term, rows_at, to_term};
+use poets_value::Memory;
 use std::alloc::Global;
 
-const OIL: Name = Name { id: 0 };
-
-const USD: Name = Name { id: 1 };
-
-const R: Name = Name { id: 4 };
-
-// The binders (a, b, r, t).
-const BINDERS: Binders = Binders {
-    sender: Name { id: 2 },
-    receiver: Name { id: 3 },
-    what: R,
-    day: Name { id: 5 },
-};
-
-// transmit(a, b, r, t | kind(r) = kind). then
-fn of_kind(alloc: Global, kind: Name, then: Term) -> Result<Term, Memory> {
-    let found = Expr::KindOf(make::boxed(alloc, Expr::Name(R))?);
-    let left = make::boxed(alloc, found)?;
-    let right = make::boxed(alloc, Expr::Name(kind))?;
-    build::transmit(alloc, BINDERS, Expr::Op(Op::Eq, left, right), then)
-}
+const USD: &str = "transmit(a, b, r, t | kind(r) = USD). Success";
 
 // O. U. Success + O. Success || U. Success
-fn two_ways(alloc: Global) -> Result<Term, Memory> {
-    let then = of_kind(alloc, USD, Term::Success)?;
-    let first = of_kind(alloc, OIL, then)?;
-    let oil = of_kind(alloc, OIL, Term::Success)?;
-    let beside = build::par(alloc, oil, of_kind(alloc, USD, Term::Success)?)?;
-    build::plus(alloc, first, beside)
-}
+const TWO_WAYS: &str =
+    "transmit(a, b, r, t | kind(r) = Oil). transmit(a, b, r, t | kind(r) = USD). Success
++ transmit(a, b, r, t | kind(r) = Oil). Success || transmit(a, b, r, t | kind(r) = USD). Success";
 
-// The number of rows of a contract, and whether the rows give it back.
-fn rows_of(alloc: Global, term: &Term) -> Result<(u64, bool), Memory> {
-    let rows: Rows = of_term(alloc, term)?;
-    let again = to_term(alloc, &rows)?;
-    Ok((rows.count(), same(&again, term)))
+// A contract, and the number of its rows.
+const ROWS: [(&str, u64); 2] = [(TWO_WAYS, 6), ("f(1) ; (f(1) + f(1))", 3)];
+
+// The contract that its rows give back.
+fn by_rows(alloc: Global, text: &str) -> Result<Made, Memory> {
+    let term = contract(alloc, text)?;
+    let rows = of_term(alloc, &term)?;
+    Ok((to_term(alloc, &rows)?, rows.count(), 0))
 }
 
 #[test]
 fn equal_parts_are_one_row(rt: HostRuntime) -> Result<(), Memory> {
-    let term = two_ways(rt.alloc())?;
-    let (count, is_same) = rows_of(rt.alloc(), &term)?;
-    assert_eq!(rt; count, 6);
-    assert!(rt; is_same);
-    Ok(())
-}
-
-// f(1) ; (f(1) + f(1))
-fn applied(alloc: Global) -> Result<Term, Memory> {
-    let mut args = List::new(alloc);
-    push(&mut args, Expr::Int(1))?;
-    let one = Term::App { name: OIL, args };
-    let first = copy(alloc, &one)?;
-    let second = copy(alloc, &one)?;
-    build::seq(alloc, first, build::plus(alloc, second, one)?)
-}
-
-#[test]
-fn equal_applications_are_one_row(rt: HostRuntime) -> Result<(), Memory> {
-    let term = applied(rt.alloc())?;
-    let (count, is_same) = rows_of(rt.alloc(), &term)?;
-    assert_eq!(rt; count, 3);
-    assert!(rt; is_same);
+    for (text, count) in ROWS {
+        let made = by_rows(rt.alloc(), text)?;
+        assert!(rt; is_made(rt.alloc(), &made, (text, count, 0))?, "{text}");
+    }
     Ok(())
 }
 
 #[test]
 fn the_rows_of_one_row_are_those_that_it_reaches(rt: HostRuntime) -> Result<(), Memory> {
     let mut arena = Arena::new(rt.alloc());
-    let ways = two_ways(rt.alloc())?;
+    let ways = contract(rt.alloc(), TWO_WAYS)?;
     let root = enter(rt.alloc(), &mut arena, &ways)?;
-    let usd = of_kind(rt.alloc(), USD, Term::Success)?;
+    let usd = contract(rt.alloc(), USD)?;
     let place = enter(rt.alloc(), &mut arena, &usd)?;
     assert_eq!(rt; arena.len(), 6);
     assert_eq!(rt; rows_at(rt.alloc(), arena.nodes(), root)?.count(), 6);
@@ -87,7 +46,7 @@ fn the_rows_of_one_row_are_those_that_it_reaches(rt: HostRuntime) -> Result<(), 
 
 #[test]
 fn a_table_of_rows_grows_by_new_rows_alone(rt: HostRuntime) -> Result<(), Memory> {
-    let usd = of_kind(rt.alloc(), USD, Term::Success)?;
+    let usd = contract(rt.alloc(), USD)?;
     let rows = of_term(rt.alloc(), &usd)?;
     let mut arena = rows.table(rt.alloc())?;
     assert_eq!(rt; arena.len(), 2);
@@ -100,12 +59,11 @@ fn a_table_of_rows_grows_by_new_rows_alone(rt: HostRuntime) -> Result<(), Memory
 #[test]
 fn what_is_noted_is_found(rt: HostRuntime) -> Result<(), Memory> {
     let mut notes = Notes::new(rt.alloc());
-    assert_eq!(rt; notes.note(5, 2)?, 2);
-    assert_eq!(rt; notes.note(1, 7)?, 7);
-    assert_eq!(rt; notes.note(5, 3)?, 3);
-    assert_eq!(rt; notes.get(1), Some(7));
-    assert_eq!(rt; notes.get(4), None);
-    assert_eq!(rt; notes.get(5), Some(3));
-    assert_eq!(rt; notes.get(6), None);
+    for (place, row) in [(5, 2), (1, 7), (5, 3)] {
+        assert_eq!(rt; notes.note(place, row)?, row);
+    }
+    for (place, row) in [(1, Some(7)), (4, None), (5, Some(3)), (6, None)] {
+        assert_eq!(rt; notes.get(place), row, "at {place}");
+    }
     Ok(())
 }

@@ -4,6 +4,8 @@
 #[cfg(test)]
 mod cons;
 #[cfg(test)]
+mod contracts;
+#[cfg(test)]
 mod expr;
 #[cfg(test)]
 mod guard;

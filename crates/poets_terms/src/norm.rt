@@ -1,140 +1,129 @@
 //! Builders of normal forms worked out by hand, and each called once with memory.
 
-use poets_expr::{Expr, Op, build as make};
+use crate::contracts::contract;
 use poets_norm::{distinct_choice, merge, par, plus, send, seq};
-use poets_syntax::{Binders, Term, build, copy, same};
-use poets_value::{Memory, Name};
+use poets_syntax::{Term, same};
+use poets_value::Memory;
 use std::alloc::Global;
 
-const OIL: Name = Name { id: 0 };
-
-const USD: Name = Name { id: 1 };
-
-const R: Name = Name { id: 4 };
-
-// The binders (a, b, r, t).
-const BINDERS: Binders = Binders {
-    sender: Name { id: 2 },
-    receiver: Name { id: 3 },
-    what: R,
-    day: Name { id: 5 },
-};
-
-fn equation(alloc: Global, left: Expr, right: Expr) -> Result<Expr, Memory> {
-    let left = make::boxed(alloc, left)?;
-    let right = make::boxed(alloc, right)?;
-    Ok(Expr::Op(Op::Eq, left, right))
+// What is built of two contracts. `Merge` is given the distinct alternatives of both, and `Send` has the binders and the
+// predicate of the first.
+#[derive(Clone, Copy)]
+enum Builder {
+    Plus,
+    Merge,
+    Par,
+    Seq,
+    Send,
 }
 
-// kind(r) = kind
-fn of_kind(alloc: Global, kind: Name) -> Result<Expr, Memory> {
-    let found = Expr::KindOf(make::boxed(alloc, Expr::Name(R))?);
-    equation(alloc, found, Expr::Name(kind))
+fn built(alloc: Global, builder: Builder, left: Term, right: Term) -> Result<Term, Memory> {
+    match (builder, left) {
+        (Builder::Plus, left) => plus(alloc, left, right),
+        (Builder::Merge, left) => {
+            let first = distinct_choice(alloc, left)?;
+            let second = distinct_choice(alloc, right)?;
+            merge(alloc, first, second)
+        }
+        (Builder::Par, left) => par(alloc, left, right),
+        (Builder::Seq, left) => seq(alloc, left, right),
+        (Builder::Send, Term::Transmit { binders, when, .. }) => send(alloc, binders, when, right),
+        (Builder::Send, left) => Ok(left),
+    }
 }
 
-// transmit(a, b, r, t | kind(r) = Oil). then
-fn oil(alloc: Global, then: Term) -> Result<Term, Memory> {
-    build::transmit(alloc, BINDERS, of_kind(alloc, OIL)?, then)
-}
-
-// transmit(a, b, r, t | kind(r) = USD). then
-fn usd(alloc: Global, then: Term) -> Result<Term, Memory> {
-    build::transmit(alloc, BINDERS, of_kind(alloc, USD)?, then)
-}
+const OIL: &str = "transmit(a, b, r, t | kind(r) = Oil). Success";
 
 // O + U
-fn oil_or_usd(alloc: Global) -> Result<Term, Memory> {
-    let left = oil(alloc, Term::Success)?;
-    build::plus(alloc, left, usd(alloc, Term::Success)?)
-}
+const OIL_OR_USD: &str =
+    "transmit(a, b, r, t | kind(r) = Oil). Success + transmit(a, b, r, t | kind(r) = USD). Success";
 
 // U + O. U
-fn usd_or_both(alloc: Global) -> Result<Term, Memory> {
-    let left = usd(alloc, Term::Success)?;
-    let then = usd(alloc, Term::Success)?;
-    build::plus(alloc, left, oil(alloc, then)?)
-}
+const USD_OR_BOTH: &str = "transmit(a, b, r, t | kind(r) = USD). Success
++ transmit(a, b, r, t | kind(r) = Oil). transmit(a, b, r, t | kind(r) = USD). Success";
 
 // (O + U) + O. U
-fn each_once(alloc: Global) -> Result<Term, Memory> {
-    let left = oil_or_usd(alloc)?;
-    let then = usd(alloc, Term::Success)?;
-    build::plus(alloc, left, oil(alloc, then)?)
+const EACH_ONCE: &str = "transmit(a, b, r, t | kind(r) = Oil). Success
++ transmit(a, b, r, t | kind(r) = USD). Success
++ transmit(a, b, r, t | kind(r) = Oil). transmit(a, b, r, t | kind(r) = USD). Success";
+
+const SUCCESS_OR_OIL: &str = "Success + transmit(a, b, r, t | kind(r) = Oil). Success";
+
+// What the row shows, the builder, two contracts, and what is built of them.
+type Row<'a> = (&'a str, Builder, &'a str, &'a str, &'a str);
+
+const BUILT: [Row; 9] = [
+    (
+        "of equal alternatives the first is kept",
+        Builder::Plus,
+        OIL_OR_USD,
+        USD_OR_BOTH,
+        EACH_ONCE,
+    ),
+    ("a choice drops failure", Builder::Plus, "Failure", OIL, OIL),
+    (
+        "choices of distinct alternatives are merged",
+        Builder::Merge,
+        "Success + Success",
+        OIL,
+        SUCCESS_OR_OIL,
+    ),
+    (
+        "a side that is over is left out",
+        Builder::Par,
+        "Success",
+        OIL,
+        OIL,
+    ),
+    (
+        "a second part that is over is left out",
+        Builder::Seq,
+        OIL,
+        "Success",
+        OIL,
+    ),
+    (
+        "a side that fails fails the whole",
+        Builder::Par,
+        OIL,
+        "Failure",
+        "Failure",
+    ),
+    (
+        "a first part that fails fails the whole",
+        Builder::Seq,
+        "Failure",
+        OIL,
+        "Failure",
+    ),
+    (
+        "a dead continuation fails",
+        Builder::Send,
+        OIL,
+        "Failure",
+        "Failure",
+    ),
+    (
+        "another continuation is sent before",
+        Builder::Send,
+        OIL,
+        "Success",
+        OIL,
+    ),
+];
+
+// Whether the row holds.
+fn is_built(alloc: Global, row: &Row) -> Result<bool, Memory> {
+    let left = contract(alloc, row.2)?;
+    let right = contract(alloc, row.3)?;
+    let made = built(alloc, row.1, left, right)?;
+    Ok(same(&made, &contract(alloc, row.4)?))
 }
 
 #[test]
-fn of_equal_alternatives_the_first_is_kept(rt: HostRuntime) -> Result<(), Memory> {
-    let left = oil_or_usd(rt.alloc())?;
-    let right = usd_or_both(rt.alloc())?;
-    let chosen = plus(rt.alloc(), left, right)?;
-    let wanted = each_once(rt.alloc())?;
-    assert!(rt; same(&chosen, &wanted));
-    Ok(())
-}
-
-#[test]
-fn a_choice_drops_failure(rt: HostRuntime) -> Result<(), Memory> {
-    let wanted = oil(rt.alloc(), Term::Success)?;
-    let alternative = copy(rt.alloc(), &wanted)?;
-    let chosen = plus(rt.alloc(), Term::Failure, alternative)?;
-    assert!(rt; same(&chosen, &wanted));
-    Ok(())
-}
-
-// Success + Success, and then O: Success + O
-fn is_merged(alloc: Global) -> Result<bool, Memory> {
-    let twice = build::plus(alloc, Term::Success, Term::Success)?;
-    let first = distinct_choice(alloc, twice)?;
-    let second = distinct_choice(alloc, oil(alloc, Term::Success)?)?;
-    let merged = merge(alloc, first, second)?;
-    let wanted = build::plus(alloc, Term::Success, oil(alloc, Term::Success)?)?;
-    Ok(same(&merged, &wanted))
-}
-
-#[test]
-fn choices_of_distinct_alternatives_are_merged(rt: HostRuntime) -> Result<(), Memory> {
-    assert!(rt; is_merged(rt.alloc())?);
-    Ok(())
-}
-
-fn is_par(alloc: Global, left: Term, right: Term, wanted: &Term) -> Result<bool, Memory> {
-    let made = par(alloc, left, right)?;
-    Ok(same(&made, wanted))
-}
-
-fn is_seq(alloc: Global, left: Term, right: Term, wanted: &Term) -> Result<bool, Memory> {
-    let made = seq(alloc, left, right)?;
-    Ok(same(&made, wanted))
-}
-
-#[test]
-fn parts_that_are_over_are_left_out(rt: HostRuntime) -> Result<(), Memory> {
-    let one = oil(rt.alloc(), Term::Success)?;
-    let twin = copy(rt.alloc(), &one)?;
-    assert!(rt; is_par(rt.alloc(), Term::Success, twin, &one)?);
-    let twin = copy(rt.alloc(), &one)?;
-    assert!(rt; is_seq(rt.alloc(), twin, Term::Success, &one)?);
-    Ok(())
-}
-
-#[test]
-fn a_part_that_fails_fails_the_whole(rt: HostRuntime) -> Result<(), Memory> {
-    let one = oil(rt.alloc(), Term::Success)?;
-    assert!(rt; is_par(rt.alloc(), one, Term::Failure, &Term::Failure)?);
-    let one = oil(rt.alloc(), Term::Success)?;
-    assert!(rt; is_seq(rt.alloc(), Term::Failure, one, &Term::Failure)?);
-    Ok(())
-}
-
-fn is_sent(alloc: Global, then: Term, wanted: &Term) -> Result<bool, Memory> {
-    let sent = send(alloc, BINDERS, of_kind(alloc, OIL)?, then)?;
-    Ok(same(&sent, wanted))
-}
-
-#[test]
-fn a_dead_continuation_fails(rt: HostRuntime) -> Result<(), Memory> {
-    assert!(rt; is_sent(rt.alloc(), Term::Failure, &Term::Failure)?);
-    let one = oil(rt.alloc(), Term::Success)?;
-    assert!(rt; is_sent(rt.alloc(), Term::Success, &one)?);
+fn what_is_built_is_normal(rt: HostRuntime) -> Result<(), Memory> {
+    for row in &BUILT {
+        assert!(rt; is_built(rt.alloc(), row)?, "{}", row.0);
+    }
     Ok(())
 }

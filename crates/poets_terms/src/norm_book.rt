@@ -1,233 +1,152 @@
-//! Normal forms and widths in a book of two templates, worked out by hand, and each call once with memory.
-ghost use Rattle.std.specs.Prelude.{◌≡◌, ◌∷◌, [], IfOk};
-ghost use Rattle.poets_expr.specs.Expression.{expression_of};
-ghost use Rattle.poets_syntax.specs.Contract.{contract_of, Success, Transmit, App};
-ghost use Rattle.poets_syntax.specs.Book.{book_of};
-ghost use Rattle.poets_syntax.specs.Studied.{marks_of};
-ghost use Rattle.poets_syntax.specs.Applied.{CountsFit};
-ghost use Rattle.poets_terms.specs.NormBook as examples;
+//! Normal forms and widths in a book of templates, worked out by hand, and each call once with memory.
 
-use poets_cons::to_term;
-use poets_expr::{Asks, Decls, Expr, Op, build as make};
+use crate::contracts::{Case, Made, fits, is_made, read_case};
+use poets_cons::{of_term, to_term};
+use poets_expr::Asks;
 use poets_norm::{app, normal, normal_rows, wide};
-use poets_syntax::build::{plus, transmit};
-use poets_syntax::{Binders, Book, Mark, Param, Studied, Template, Term, same};
-use poets_value::{List, Memory, Name, Ty, push};
+use poets_residue::wide_rows;
+use poets_syntax::{Mark, Term, same};
+use poets_value::Memory;
 use std::alloc::Global;
-use std::collections::BTreeMap;
 
-const F: Name = Name { id: 0 };
-
-const G: Name = Name { id: 1 };
-
-const N: Name = Name { id: 2 };
-
-const R: Name = Name { id: 5 };
-
-// The binders (a, b, r, t).
-const BINDERS: Binders = Binders {
-    sender: Name { id: 3 },
-    receiver: Name { id: 4 },
-    what: R,
-    day: Name { id: 6 },
-};
-
-// transmit(a, b, r, t | true). Success
-fn anything(alloc: Global) -> Result<Term, Memory>
-    ensures { IfOk result (λ c. contract_of c ≡ examples.anything BINDERS) }
-{
-    transmit(alloc, BINDERS, Expr::Bool(true), Term::Success)
+// The normal form over trees, which is the plain program that the one over rows is compared with.
+fn by_tree(alloc: Global, text: &str) -> Result<Made, Memory> {
+    let case = read_case(alloc, text, 0)?;
+    let mut asks = Asks::new(());
+    let made = normal(alloc, &case.studied, &case.term, &mut asks)?;
+    let rows = of_term(alloc, &made)?;
+    Ok((made, rows.count(), asks.count()))
 }
 
-// template f(n : Int) = transmit(a, b, r, t | true). Success;;
-// template g() = Failure;;
-fn book(alloc: Global) -> Result<Book, Memory>
-    ensures { IfOk result (λ b. book_of b ≡ examples.two_templates BINDERS F N G) }
-{
-    let mut params = List::new(alloc);
-    let number = Param {
-        name: N,
-        ty: Ty::Int,
-    };
-    push(&mut params, number)?;
-    let first = Template {
-        name: F,
-        params,
-        body: anything(alloc)?,
-    };
-    let second = Template {
-        name: G,
-        params: List::new(alloc),
-        body: Term::Failure,
-    };
-    let mut templates = List::new(alloc);
-    push(&mut templates, first)?;
-    push(&mut templates, second)?;
-    let decls = Decls {
-        names: BTreeMap::new(alloc),
-    };
-    Ok(Book { decls, templates })
+// The normal form over rows.
+fn by_rows(alloc: Global, text: &str) -> Result<Made, Memory> {
+    let case = read_case(alloc, text, 0)?;
+    let mut asks = Asks::new(());
+    let rows = normal_rows(alloc, &case.studied, &case.term, &mut asks)?;
+    Ok((to_term(alloc, &rows)?, rows.count(), asks.count()))
 }
 
-fn marks(alloc: Global) -> Result<List<Mark>, Memory>
-    ensures { IfOk result (λ r. r.items ≡ examples.marks) }
-{
-    let first = Mark {
-        nullable: false,
-        hopeful: true,
-        wide: 3,
-    };
-    let second = Mark {
-        nullable: false,
-        hopeful: false,
-        wide: 1,
-    };
-    let mut marks = List::new(alloc);
-    push(&mut marks, first)?;
-    push(&mut marks, second)?;
-    Ok(marks)
-}
+const DEAD_OR_TWO: &str = "transmit(a, b, r, t | true). g() + f(1 + 1)";
 
-fn studied(alloc: Global) -> Result<Studied, Memory>
-    ensures { IfOk result (λ s. book_of s.book ≡ examples.two_templates BINDERS F N G) }
-{
-    let book = book(alloc)?;
-    Studied::of(alloc, book, marks(alloc)?)
-}
+const ANYTHING: &str = "transmit(a, b, r, t | true). Success";
 
-// The first and one more.
-fn next(alloc: Global, first: Expr) -> Result<Expr, Memory> {
-    let first = make::boxed(alloc, first)?;
-    let one = make::boxed(alloc, Expr::Int(1))?;
-    Ok(Expr::Op(Op::Add, first, one))
-}
+const ANYTHING_THRICE: &str = "transmit(a, b, r, t | true). Success
++ transmit(a, b, r, t | true). Success + transmit(a, b, r, t | true). Success";
 
-// name(arg)
-fn applied(alloc: Global, name: Name, arg: Expr) -> Result<Term, Memory>
-    ensures { IfOk result (λ c. contract_of c ≡ App name (expression_of arg ∷ [])) }
-{
-    let mut args = List::new(alloc);
-    push(&mut args, arg)?;
-    Ok(Term::App { name, args })
-}
+// A contract, and its normal form, how many rows that has, and how much is asked for it.
+type Row<'a> = (&'a str, (&'a str, u64, u64));
 
-// transmit(a, b, r, t | true). g() + f(1 + 1)
-fn dead_or_two(alloc: Global) -> Result<Term, Memory> {
-    let dead = Term::App {
-        name: G,
-        args: List::new(alloc),
-    };
-    let dead = transmit(alloc, BINDERS, Expr::Bool(true), dead)?;
-    let sum = next(alloc, Expr::Int(1))?;
-    plus(alloc, dead, applied(alloc, F, sum)?)
+const NORMAL: [Row; 2] = [
+    // Closed arguments are folded, and hopeless templates fail. The argument 1 + 1 is asked.
+    (DEAD_OR_TWO, ("f(2)", 1, 1)),
+    // Equal alternatives are one row, and Success is another.
+    (ANYTHING_THRICE, (ANYTHING, 2, 0)),
+];
+
+// Whether the row holds of trees and of rows.
+fn is_normal(alloc: Global, row: &Row) -> Result<bool, Memory> {
+    let tree = by_tree(alloc, row.0)?;
+    let rows = by_rows(alloc, row.0)?;
+    Ok(is_made(alloc, &tree, row.1)? && is_made(alloc, &rows, row.1)?)
 }
 
 #[test]
-fn closed_arguments_are_folded_and_hopeless_templates_fail(rt: HostRuntime) -> Result<(), Memory> {
-    let studied = studied(rt.alloc())?;
-    let mut asks = Asks::new(());
-    let term = dead_or_two(rt.alloc())?;
-    let made = normal(rt.alloc(), &studied, &term, &mut asks)?;
-    let wanted = applied(rt.alloc(), F, Expr::Int(2))?;
-    assert!(rt; same(&made, &wanted));
-    assert_eq!(rt; asks.count(), 1);
+fn trees_and_rows_have_the_normal_form(rt: HostRuntime) -> Result<(), Memory> {
+    for row in &NORMAL {
+        assert!(rt; is_normal(rt.alloc(), row)?, "{}", row.0);
+    }
     Ok(())
 }
 
-#[test]
-fn the_rows_of_a_normal_form_give_it_back(rt: HostRuntime) -> Result<(), Memory> {
-    let studied = studied(rt.alloc())?;
+// Of the application under a transmit the mark of its template, whether it stays as it is, and how much is asked for it.
+fn opened(alloc: Global, case: &Case) -> Result<Option<(Mark, bool, u64)>, Memory> {
+    let Term::Transmit { then, .. } = &case.term else {
+        return Ok(None);
+    };
+    let Term::App { name, args } = &**then else {
+        return Ok(None);
+    };
+    let Some((_, mark)) = case.studied.template(*name) else {
+        return Ok(None);
+    };
     let mut asks = Asks::new(());
-    let term = dead_or_two(rt.alloc())?;
-    let rows = normal_rows(rt.alloc(), &studied, &term, &mut asks)?;
-    let made = to_term(rt.alloc(), &rows)?;
-    let wanted = applied(rt.alloc(), F, Expr::Int(2))?;
-    assert!(rt; same(&made, &wanted));
-    assert_eq!(rt; rows.count(), 1);
-    assert_eq!(rt; asks.count(), 1);
-    Ok(())
-}
-
-// The normal form over trees is the plain program that the one over rows is compared with.
-#[test]
-fn the_normal_form_of_a_tree_is_that_of_its_rows(rt: HostRuntime) -> Result<(), Memory> {
-    let studied = studied(rt.alloc())?;
-    let mut asks = Asks::new(());
-    let term = dead_or_two(rt.alloc())?;
-    let tree = normal(rt.alloc(), &studied, &term, &mut asks)?;
-    let rows = normal_rows(rt.alloc(), &studied, &term, &mut asks)?;
-    let made = to_term(rt.alloc(), &rows)?;
-    assert!(rt; same(&made, &tree));
-    Ok(())
-}
-
-#[test]
-fn equal_alternatives_are_one_row(rt: HostRuntime) -> Result<(), Memory> {
-    let studied = studied(rt.alloc())?;
-    let mut asks = Asks::new(());
-    let first = anything(rt.alloc())?;
-    let twice = plus(rt.alloc(), first, anything(rt.alloc())?)?;
-    let thrice = plus(rt.alloc(), twice, anything(rt.alloc())?)?;
-    let rows = normal_rows(rt.alloc(), &studied, &thrice, &mut asks)?;
-    assert_eq!(rt; rows.count(), 2);
-    Ok(())
+    let made = app(alloc, &case.studied, *name, args.as_slice(), &mut asks)?;
+    Ok(Some((*mark, same(&made, then), asks.count())))
 }
 
 #[test]
 fn open_arguments_stay(rt: HostRuntime) -> Result<(), Memory> {
-    let studied = studied(rt.alloc())?;
-    let mut asks = Asks::new(());
-    let mut args = List::new(rt.alloc());
-    push(&mut args, next(rt.alloc(), Expr::Name(R))?)?;
-    let made = app(rt.alloc(), &studied, F, args.as_slice(), &mut asks)?;
-    let sum = next(rt.alloc(), Expr::Name(R))?;
-    let wanted = applied(rt.alloc(), F, sum)?;
-    assert!(rt; same(&made, &wanted));
-    assert_eq!(rt; asks.count(), 0);
+    let open = read_case(
+        rt.alloc(),
+        "transmit(a, b, r, t | true). f(amount(r) + 1)",
+        0,
+    )?;
+    let found = opened(rt.alloc(), &open)?;
+    // The template is found with its mark.
+    assert!(rt; matches!(found, Some((mark, true, 0)) if mark.hopeful && !mark.nullable));
     Ok(())
 }
 
-#[test]
-fn templates_are_found_with_their_marks(rt: HostRuntime) -> Result<(), Memory> {
-    let studied = studied(rt.alloc())?;
-    let found = studied.template(F);
-    assert!(rt; matches!(found, Some((_, mark)) if mark.hopeful && !mark.nullable));
-    assert!(rt; studied.template(N).is_none());
-    Ok(())
-}
+const BOTH_WANT_OIL: &str = "transmit(a, b, r, t | kind(r) = kind([1 Oil])). Success
+|| transmit(a, b, r, t | kind(r) = kind([1 Oil])). transmit(a, b, r, t | kind(r) = kind([1 USD])). Success";
 
-// f(2)
-fn two(alloc: Global) -> Result<Term, Memory>
-    ensures { IfOk result (λ c. CountsFit (examples.two_templates BINDERS F N G) (contract_of c)) }
-{
-    applied(alloc, F, Expr::Int(2))
-}
+const OIL: &str = "transmit(a, b, r, t | kind(r) = kind([1 Oil])). Success";
 
-// transmit(a, b, r, t | 1 + .. + 1). Success, with as many `+`
-fn sums(alloc: Global, count: u32) -> Result<Term, Memory>
-    ensures { IfOk result (λ c. CountsFit (examples.two_templates BINDERS F N G) (contract_of c)) }
-{
-    let mut sum = Expr::Int(1);
-    for _ in 0..count {
-        sum = next(alloc, sum)?;
+const AND_OIL: &str = " || transmit(a, b, r, t | kind(r) = kind([1 Oil])). Success";
+
+const ONE: &str = "transmit(a, b, r, t | 1";
+
+const IS_ONE: &str = " = 1). Success";
+
+// What a contract begins with, what follows so many times, what ends it, and its width.
+type Width<'a> = (&'a str, &'a str, usize, &'a str, u64);
+
+const WIDTHS: [Width; 7] = [
+    // One node, the argument, and the three nodes of the body, as its mark says.
+    ("f(2)", "", 0, "", 5),
+    // One node, the argument, and the eleven nodes of the body, as its mark says.
+    ("count(1)", "", 0, "", 13),
+    // Seven nodes of O. Success, thirteen of O. U. Success, and their node.
+    (BOTH_WANT_OIL, "", 0, "", 21),
+    // Five nodes, and two of each sum. The width is cut at 1001.
+    (ONE, " + 1", 497, IS_ONE, 999),
+    (ONE, " + 1", 500, IS_ONE, 1001),
+    // Seven nodes of each, and one less of those between them.
+    (OIL, AND_OIL, 124, "", 999),
+    (OIL, AND_OIL, 125, "", 1001),
+];
+
+// The text of the row's contract.
+fn repeated(alloc: Global, row: &Width) -> Result<String, Memory> {
+    let mut text = String::from_str(alloc, row.0)?;
+    for _ in 0..row.2 {
+        text.push_str(row.1)?;
     }
-    transmit(alloc, BINDERS, sum, Term::Success)
+    text.push_str(row.3)?;
+    Ok(text)
+}
+
+// Whether the width is that of the row, by trees and by rows.
+fn is_wide(alloc: Global, row: &Width) -> Result<bool, Memory> {
+    let text = repeated(alloc, row)?;
+    let case = read_case(alloc, text.as_str(), 0)?;
+    if !fits(&case.studied, &case.term) {
+        return Err(Memory);
+    }
+    let rows = of_term(alloc, &case.term)?;
+    Ok(wide(&case.studied, &case.term) == row.4 && wide_rows(&case.studied, &rows) == row.4)
 }
 
 #[test]
-fn an_application_is_as_wide_as_its_body(rt: HostRuntime) -> Result<(), Memory> {
-    let studied = studied(rt.alloc())?;
-    let two = two(rt.alloc())?;
-    assert_eq!(rt; wide(&studied, &two), 5);
-    Ok(())
-}
-
-#[test]
-fn the_width_is_cut_at_1001(rt: HostRuntime) -> Result<(), Memory> {
-    let studied = studied(rt.alloc())?;
-    let narrow = sums(rt.alloc(), 498)?;
-    assert_eq!(rt; wide(&studied, &narrow), 999);
-    let broad = sums(rt.alloc(), 500)?;
-    assert_eq!(rt; wide(&studied, &broad), 1001);
+fn the_width_is_that_of_bodies_and_is_cut(rt: HostRuntime) -> Result<(), Memory> {
+    for row in &WIDTHS {
+        assert!(rt;
+            is_wide(rt.alloc(), row)?,
+            "{} and {} times {}",
+            row.0,
+            row.2,
+            row.1
+        );
+    }
     Ok(())
 }

@@ -1,5 +1,0 @@
-use Rattle.poets_terms.proofs.ResidueBook.{studied}
-use Rattle.poets_terms.proofs.residue.studied.Goals as goal
-
-pub of-requires : goal.of-requires
-of-requires c = rw (c.in_ok-book.ensures, c.in_ok-marks.ensures) studied

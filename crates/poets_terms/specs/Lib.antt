@@ -1,2 +1,0 @@
-pub mod NormBook
-pub mod ResidueBook

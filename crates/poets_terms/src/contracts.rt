@@ -1,0 +1,102 @@
+//! Contracts that are read from texts, and the studied book that they stand in.
+ghost use Rattle.std.specs.Prelude.{IsTrue};
+ghost use Rattle.poets_syntax.specs.Applied.{CountsFit};
+ghost use Rattle.poets_syntax.specs.Book.{book_of};
+ghost use Rattle.poets_syntax.specs.Contract.{contract_of};
+
+use poets_call::Command;
+use poets_session::{Form, Session, read};
+use poets_syntax::{Studied, Term, copy, same};
+use poets_value::{Event, LONGEST_TEXT, Memory};
+use std::alloc::Global;
+
+// The book of all tests. All names of their contracts stand in it, so that these have the same numbers in each session.
+const BOOK: &str = "agents ann, bob;; kinds Oil, USD;;
+template f(n: Int) = transmit(a, b, r, t | true). Success;;
+template g() = Failure;;
+template count(n: Int) = Success + transmit(a, b, r, t | amount(r) = n). count(n + 1);;
+clerk;;
+";
+
+// The session of the book and the commands of one clerk. No session is answered as want of memory is: the test fails.
+fn session(alloc: Global, commands: &str) -> Result<Session, Memory> {
+    let text = format!(in alloc; "{BOOK}{commands}")?;
+    if text.len() > LONGEST_TEXT {
+        return Err(Memory);
+    }
+    match read(alloc, text.as_bytes(), Form::Clerks) {
+        Ok(session) => Ok(session),
+        Err(_) => Err(Memory),
+    }
+}
+
+/// A contract in the studied book, and an event.
+#[derive(Drop)]
+pub(crate) struct Case {
+    pub studied: Studied,
+    pub term: Term,
+    pub event: Event,
+}
+
+/// The contract of a text, and the event that ann gives bob so much oil.
+pub(crate) fn read_case(alloc: Global, text: &str, amount: u64) -> Result<Case, Memory> {
+    let commands = format!(in alloc;
+        "register c = {text};; transmit c ann bob {amount} Oil @2006-01-01;;"
+    )?;
+    let Session {
+        rules,
+        mut scripts,
+        ..
+    } = session(alloc, commands.as_str())?;
+    let script = scripts.pop().ok_or(Memory)?;
+    let [register, transmit] = script.as_slice() else {
+        return Err(Memory);
+    };
+    let (Command::Register { term, .. }, Command::Transmit { event, .. }) = (
+        &**register,
+        &**transmit,
+    ) else {
+        return Err(Memory);
+    };
+    Ok(Case {
+        studied: rules.studied,
+        term: copy(alloc, term)?,
+        event: *event,
+    })
+}
+
+/// The contract of a text.
+pub(crate) fn contract(alloc: Global, text: &str) -> Result<Term, Memory> {
+    let Case { term, .. } = read_case(alloc, text, 0)?;
+    Ok(term)
+}
+
+/// What is made of a contract, how many rows it has, and how much was asked for it.
+pub(crate) type Made = (Term, u64, u64);
+
+/// Whether this is the contract of the text, has so many rows, and so much was asked for it.
+pub(crate) fn is_made(
+    alloc: Global,
+    made: &Made,
+    (text, rows, asked): (&str, u64, u64),
+) -> Result<bool, Memory> {
+    let wanted = contract(alloc, text)?;
+    Ok(same(&made.0, &wanted) && made.1 == rows && made.2 == asked)
+}
+
+/// Whether each application of a template has as many arguments as the template has parameters.
+pub(crate) fn fits(studied: &Studied, term: &Term) -> bool
+    ensures { IsTrue result → CountsFit (book_of studied.now.book) (contract_of term.now) }
+{
+    match term {
+        Term::Success | Term::Failure => true,
+        Term::Transmit { then, .. } => fits(studied, then),
+        Term::Plus(a, b) | Term::Par(a, b) | Term::Seq(a, b) => {
+            fits(studied, a) && fits(studied, b)
+        }
+        Term::App { name, args } => match studied.template(*name) {
+            None => true,
+            Some((template, _)) => template.params.len() == args.len(),
+        },
+    }
+}
