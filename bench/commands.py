@@ -145,7 +145,8 @@ def registrations(share):
         delivery = f"transmit(a, b, r, t | a = ann and b = bob and kind(r) = Oil and amount(r) = {number})"
         payment = f"transmit(c, d, p, w | c = b and d = a and kind(p) = USD and amount(p) = {500 + number})"
         calls.append(Call(f"register c{number} = {delivery}. {payment}. Success + Success", f"registered {number}"))
-    return session(calls, count)
+    # the text is kept for the mark of a fault, and stands twice
+    return session(calls, count)._replace(most_memory=21)
 
 
 FAMILIES = (watches_without_key, watches_with_key, portfolios, looks, replayed, registrations)

@@ -13,6 +13,8 @@ BRACKETS = 200
 OPERATORS = 1_000
 # A token takes 24 bytes and a node of a tree some 70. A compact text has a token for each byte, or a node for every few.
 COMPACT = 40
+# One that is refused is read once more, for the mark of its fault.
+REFUSED = 48
 
 
 def of_bytes(words, text, **bounds):
@@ -74,7 +76,7 @@ def dense_parallels(share):
 def dense_unguarded(share):
     """Up to 256 templates, each with all later ones side by side, and the last beside itself."""
     last = f"f{int(TEMPLATES * share) - 1}()"
-    return dense(share, "||", f"{last} || {last}", status=1)
+    return dense(share, "||", f"{last} || {last}", status=1)._replace(most_memory=REFUSED)
 
 
 def commands(share):

@@ -14,8 +14,6 @@ mod limits;
 #[cfg(test)]
 mod many;
 #[cfg(test)]
-mod names;
-#[cfg(test)]
 mod past;
 #[cfg(test)]
 mod portfolios;

@@ -18,9 +18,12 @@ template count(n: Int) = Success + transmit(a, b, r, t | amount(r) = n). count(n
 clerk;;
 ";
 
-// The session of the book and the commands of one clerk. No session is answered as want of memory is: the test fails.
-fn session(alloc: Global, commands: &str) -> Result<Session, Memory> {
-    let text = format!(in alloc; "{BOOK}{commands}")?;
+/// The session of the book and of one clerk, who registers the contract of a text, and then delivers so much oil. No session
+/// is answered as want of memory is: the test fails.
+pub(crate) fn session(alloc: Global, text: &str, amount: u64) -> Result<Session, Memory> {
+    let text = format!(in alloc;
+        "{BOOK}register c = {text};; transmit c ann bob {amount} Oil @2006-01-01;;"
+    )?;
     if text.len() > LONGEST_TEXT {
         return Err(Memory);
     }
@@ -30,45 +33,31 @@ fn session(alloc: Global, commands: &str) -> Result<Session, Memory> {
     }
 }
 
-/// A contract in the studied book, and an event.
-#[derive(Drop)]
-pub(crate) struct Case {
-    pub studied: Studied,
-    pub term: Term,
-    pub event: Event,
+// The command of the clerk with that number, from 0.
+fn command(session: &Session, number: usize) -> Option<&Command> {
+    Some(&**session.scripts.get(0)?.get(number)?)
 }
 
-/// The contract of a text, and the event that ann gives bob so much oil.
-pub(crate) fn read_case(alloc: Global, text: &str, amount: u64) -> Result<Case, Memory> {
-    let commands = format!(in alloc;
-        "register c = {text};; transmit c ann bob {amount} Oil @2006-01-01;;"
-    )?;
-    let Session {
-        rules,
-        mut scripts,
-        ..
-    } = session(alloc, commands.as_str())?;
-    let script = scripts.pop().ok_or(Memory)?;
-    let [register, transmit] = script.as_slice() else {
-        return Err(Memory);
-    };
-    let (Command::Register { term, .. }, Command::Transmit { event, .. }) = (
-        &**register,
-        &**transmit,
-    ) else {
-        return Err(Memory);
-    };
-    Ok(Case {
-        studied: rules.studied,
-        term: copy(alloc, term)?,
-        event: *event,
-    })
+/// The contract that the clerk registers.
+pub(crate) fn registered(session: &Session) -> Result<&Term, Memory> {
+    match command(session, 0) {
+        Some(Command::Register { term, .. }) => Ok(term),
+        _ => Err(Memory),
+    }
+}
+
+/// The event that ann gives bob so much oil.
+pub(crate) fn delivered(session: &Session) -> Result<Event, Memory> {
+    match command(session, 1) {
+        Some(Command::Transmit { event, .. }) => Ok(*event),
+        _ => Err(Memory),
+    }
 }
 
 /// The contract of a text.
 pub(crate) fn contract(alloc: Global, text: &str) -> Result<Term, Memory> {
-    let Case { term, .. } = read_case(alloc, text, 0)?;
-    Ok(term)
+    let session = session(alloc, text, 0)?;
+    copy(alloc, registered(&session)?)
 }
 
 /// What is made of a contract, how many rows it has, and how much was asked for it.
@@ -80,8 +69,8 @@ pub(crate) fn is_made(
     made: &Made,
     (text, rows, asked): (&str, u64, u64),
 ) -> Result<bool, Memory> {
-    let wanted = contract(alloc, text)?;
-    Ok(same(&made.0, &wanted) && made.1 == rows && made.2 == asked)
+    let wanted = session(alloc, text, 0)?;
+    Ok(same(&made.0, registered(&wanted)?) && made.1 == rows && made.2 == asked)
 }
 
 /// Whether each application of a template has as many arguments as the template has parameters.

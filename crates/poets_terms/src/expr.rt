@@ -1,4 +1,4 @@
-//! Values worked out by hand, and each call once with memory.
+//! Values worked out by hand.
 
 use crate::sentences::{ANN, BOB, OIL, R, USD, X, Y, expressions, repeated};
 use poets_expr::build::boxed;
@@ -275,13 +275,5 @@ fn a_copy_is_the_same_tree(rt: HostRuntime) -> Result<(), Memory> {
         assert!(rt; same(e, &twin));
     }
     assert!(rt; !same(&Expr::Undefined(Ty::Int), &Expr::Undefined(Ty::Day)));
-    Ok(())
-}
-
-#[test]
-fn a_copied_table_says_the_same(rt: HostRuntime) -> Result<(), Memory> {
-    let twin = declared(rt.alloc())?.copy()?;
-    assert_eq!(rt; twin.names.len(), 4);
-    assert_eq!(rt; twin.names.get(&OIL), Some(&Ty::Kind));
     Ok(())
 }

@@ -1,28 +1,37 @@
 //! Normal forms and widths in a book of templates, worked out by hand, and each call once with memory.
 
-use crate::contracts::{Case, Made, fits, is_made, read_case};
+use crate::contracts::{Made, fits, is_made, registered, session};
 use poets_cons::{of_term, to_term};
 use poets_expr::Asks;
 use poets_norm::{app, normal, normal_rows, wide};
 use poets_residue::wide_rows;
+use poets_session::Session;
 use poets_syntax::{Mark, Term, same};
 use poets_value::Memory;
 use std::alloc::Global;
 
 // The normal form over trees, which is the plain program that the one over rows is compared with.
-fn by_tree(alloc: Global, text: &str) -> Result<Made, Memory> {
-    let case = read_case(alloc, text, 0)?;
+fn by_tree(alloc: Global, session: &Session) -> Result<Made, Memory> {
     let mut asks = Asks::new(());
-    let made = normal(alloc, &case.studied, &case.term, &mut asks)?;
+    let made = normal(
+        alloc,
+        &session.rules.studied,
+        registered(session)?,
+        &mut asks,
+    )?;
     let rows = of_term(alloc, &made)?;
     Ok((made, rows.count(), asks.count()))
 }
 
 // The normal form over rows.
-fn by_rows(alloc: Global, text: &str) -> Result<Made, Memory> {
-    let case = read_case(alloc, text, 0)?;
+fn by_rows(alloc: Global, session: &Session) -> Result<Made, Memory> {
     let mut asks = Asks::new(());
-    let rows = normal_rows(alloc, &case.studied, &case.term, &mut asks)?;
+    let rows = normal_rows(
+        alloc,
+        &session.rules.studied,
+        registered(session)?,
+        &mut asks,
+    )?;
     Ok((to_term(alloc, &rows)?, rows.count(), asks.count()))
 }
 
@@ -33,8 +42,11 @@ const ANYTHING: &str = "transmit(a, b, r, t | true). Success";
 const ANYTHING_THRICE: &str = "transmit(a, b, r, t | true). Success
 + transmit(a, b, r, t | true). Success + transmit(a, b, r, t | true). Success";
 
-// A contract, and its normal form, how many rows that has, and how much is asked for it.
-type Row<'a> = (&'a str, (&'a str, u64, u64));
+// A normal form, how many rows it has, and how much is asked for it.
+type Wanted<'a> = (&'a str, u64, u64);
+
+// A contract, and its normal form.
+type Row<'a> = (&'a str, Wanted<'a>);
 
 const NORMAL: [Row; 2] = [
     // Closed arguments are folded, and hopeless templates fail. The argument 1 + 1 is asked.
@@ -43,11 +55,20 @@ const NORMAL: [Row; 2] = [
     (ANYTHING_THRICE, (ANYTHING, 2, 0)),
 ];
 
+fn is_so_by_tree(alloc: Global, session: &Session, wanted: Wanted) -> Result<bool, Memory> {
+    let made = by_tree(alloc, session)?;
+    is_made(alloc, &made, wanted)
+}
+
+fn is_so_by_rows(alloc: Global, session: &Session, wanted: Wanted) -> Result<bool, Memory> {
+    let made = by_rows(alloc, session)?;
+    is_made(alloc, &made, wanted)
+}
+
 // Whether the row holds of trees and of rows.
 fn is_normal(alloc: Global, row: &Row) -> Result<bool, Memory> {
-    let tree = by_tree(alloc, row.0)?;
-    let rows = by_rows(alloc, row.0)?;
-    Ok(is_made(alloc, &tree, row.1)? && is_made(alloc, &rows, row.1)?)
+    let session = session(alloc, row.0, 0)?;
+    Ok(is_so_by_tree(alloc, &session, row.1)? && is_so_by_rows(alloc, &session, row.1)?)
 }
 
 #[test]
@@ -59,29 +80,28 @@ fn trees_and_rows_have_the_normal_form(rt: HostRuntime) -> Result<(), Memory> {
 }
 
 // Of the application under a transmit the mark of its template, whether it stays as it is, and how much is asked for it.
-fn opened(alloc: Global, case: &Case) -> Result<Option<(Mark, bool, u64)>, Memory> {
-    let Term::Transmit { then, .. } = &case.term else {
+fn opened(alloc: Global, session: &Session) -> Result<Option<(Mark, bool, u64)>, Memory> {
+    let Term::Transmit { then, .. } = registered(session)? else {
         return Ok(None);
     };
     let Term::App { name, args } = &**then else {
         return Ok(None);
     };
-    let Some((_, mark)) = case.studied.template(*name) else {
+    let studied = &session.rules.studied;
+    let Some((_, mark)) = studied.template(*name) else {
         return Ok(None);
     };
     let mut asks = Asks::new(());
-    let made = app(alloc, &case.studied, *name, args.as_slice(), &mut asks)?;
+    let made = app(alloc, studied, *name, args.as_slice(), &mut asks)?;
     Ok(Some((*mark, same(&made, then), asks.count())))
 }
 
+const OPEN: &str = "transmit(a, b, r, t | true). f(amount(r) + 1)";
+
 #[test]
 fn open_arguments_stay(rt: HostRuntime) -> Result<(), Memory> {
-    let open = read_case(
-        rt.alloc(),
-        "transmit(a, b, r, t | true). f(amount(r) + 1)",
-        0,
-    )?;
-    let found = opened(rt.alloc(), &open)?;
+    let session = session(rt.alloc(), OPEN, 0)?;
+    let found = opened(rt.alloc(), &session)?;
     // The template is found with its mark.
     assert!(rt; matches!(found, Some((mark, true, 0)) if mark.hopeful && !mark.nullable));
     Ok(())
@@ -126,15 +146,22 @@ fn repeated(alloc: Global, row: &Width) -> Result<String, Memory> {
     Ok(text)
 }
 
+// The width of the contract, by trees and by rows.
+fn widths(alloc: Global, session: &Session) -> Result<(u64, u64), Memory> {
+    let term = registered(session)?;
+    let studied = &session.rules.studied;
+    if !fits(studied, term) {
+        return Err(Memory);
+    }
+    let rows = of_term(alloc, term)?;
+    Ok((wide(studied, term), wide_rows(studied, &rows)))
+}
+
 // Whether the width is that of the row, by trees and by rows.
 fn is_wide(alloc: Global, row: &Width) -> Result<bool, Memory> {
     let text = repeated(alloc, row)?;
-    let case = read_case(alloc, text.as_str(), 0)?;
-    if !fits(&case.studied, &case.term) {
-        return Err(Memory);
-    }
-    let rows = of_term(alloc, &case.term)?;
-    Ok(wide(&case.studied, &case.term) == row.4 && wide_rows(&case.studied, &rows) == row.4)
+    let session = session(alloc, text.as_str(), 0)?;
+    Ok(widths(alloc, &session)? == (row.4, row.4))
 }
 
 #[test]

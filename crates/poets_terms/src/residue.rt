@@ -1,32 +1,38 @@
 //! Residuals in a book of templates, worked out by hand, and each call once with memory.
 
-use crate::contracts::{Case, Made, fits, is_made, read_case};
+use crate::contracts::{Made, delivered, fits, is_made, registered, session};
 use poets_cons::{of_term, to_term};
 use poets_expr::Asks;
 use poets_residue::{may_end, may_end_rows, residual, residual_rows};
-use poets_syntax::Term;
-use poets_value::{List, Memory};
+use poets_session::Session;
+use poets_syntax::{Studied, Term};
+use poets_value::{Event, List, Memory};
 use std::alloc::Global;
 
 // The residual by the event, over trees.
-fn after(alloc: Global, case: &Case) -> Result<Made, Memory> {
-    if !fits(&case.studied, &case.term) {
+fn after(alloc: Global, studied: &Studied, term: &Term, event: &Event) -> Result<Made, Memory> {
+    if !fits(studied, term) {
         return Err(Memory);
     }
     let mut asks = Asks::new(());
-    let left = residual(alloc, &case.studied, &case.term, &case.event, &mut asks)?;
+    let left = residual(alloc, studied, term, event, &mut asks)?;
     let rows = of_term(alloc, &left)?;
     Ok((left, rows.count(), asks.count()))
 }
 
 // The residual by the event, from rows to rows.
-fn rows_after(alloc: Global, case: &Case) -> Result<Made, Memory> {
-    if !fits(&case.studied, &case.term) {
+fn rows_after(
+    alloc: Global,
+    studied: &Studied,
+    term: &Term,
+    event: &Event,
+) -> Result<Made, Memory> {
+    if !fits(studied, term) {
         return Err(Memory);
     }
-    let rows = of_term(alloc, &case.term)?;
+    let rows = of_term(alloc, term)?;
     let mut asks = Asks::new(());
-    let left = residual_rows(alloc, &case.studied, &rows, &case.event, &mut asks)?;
+    let left = residual_rows(alloc, studied, &rows, event, &mut asks)?;
     Ok((to_term(alloc, &left)?, left.count(), asks.count()))
 }
 
@@ -72,8 +78,11 @@ const NINE_SIDES: &str = "transmit(a, b, r, t | kind(r) = kind([1 Oil])). Succes
 || transmit(a, b, r, t | kind(r) = kind([1 Oil])). Success
 || transmit(a, b, r, t | kind(r) = kind([1 Oil])). Success";
 
-// A contract, the amount of an event, and what it leaves: the contract, how many rows it has, and how much was asked.
-type Step<'a> = (&'a str, u64, (&'a str, u64, u64));
+// What an event leaves: the contract, how many rows it has, and how much was asked.
+type Left<'a> = (&'a str, u64, u64);
+
+// A contract, the amount of an event, and what it leaves.
+type Step<'a> = (&'a str, u64, Left<'a>);
 
 const STEPS: [Step; 9] = [
     // A recursive template counts on: the argument 1 + 1 in the body is asked, and the predicate.
@@ -96,12 +105,22 @@ const STEPS: [Step; 9] = [
     (TEN_SIDES, 1, (NINE_SIDES, 10, 1)),
 ];
 
+fn is_left_by_tree(alloc: Global, session: &Session, wanted: Left) -> Result<bool, Memory> {
+    let event = delivered(session)?;
+    let left = after(alloc, &session.rules.studied, registered(session)?, &event)?;
+    is_made(alloc, &left, wanted)
+}
+
+fn is_left_by_rows(alloc: Global, session: &Session, wanted: Left) -> Result<bool, Memory> {
+    let event = delivered(session)?;
+    let left = rows_after(alloc, &session.rules.studied, registered(session)?, &event)?;
+    is_made(alloc, &left, wanted)
+}
+
 // Whether the step is taken so, over trees and over rows.
 fn is_taken(alloc: Global, step: &Step) -> Result<bool, Memory> {
-    let case = read_case(alloc, step.0, step.1)?;
-    let tree = after(alloc, &case)?;
-    let rows = rows_after(alloc, &case)?;
-    Ok(is_made(alloc, &tree, step.2)? && is_made(alloc, &rows, step.2)?)
+    let session = session(alloc, step.0, step.1)?;
+    Ok(is_left_by_tree(alloc, &session, step.2)? && is_left_by_rows(alloc, &session, step.2)?)
 }
 
 #[test]
@@ -113,15 +132,12 @@ fn an_event_leaves_the_residual(rt: HostRuntime) -> Result<(), Memory> {
 }
 
 // Whether a contract may end, by its tree, which is the plain program, and by its rows.
-fn may_end_by_both(alloc: Global, case: &Case) -> Result<(bool, bool), Memory> {
-    if !fits(&case.studied, &case.term) {
+fn may_end_by_both(alloc: Global, studied: &Studied, term: &Term) -> Result<(bool, bool), Memory> {
+    if !fits(studied, term) {
         return Err(Memory);
     }
-    let rows = of_term(alloc, &case.term)?;
-    Ok((
-        may_end(&case.studied, &case.term),
-        may_end_rows(&case.studied, &rows),
-    ))
+    let rows = of_term(alloc, term)?;
+    Ok((may_end(studied, term), may_end_rows(studied, &rows)))
 }
 
 // A contract, and whether it may end.
@@ -134,30 +150,40 @@ const ENDS: [(&str, bool); 6] = [
     (BOTH_WANT_OIL, false),
 ];
 
+// Whether the contract of the text ends so by its tree and by its rows.
+fn ends_so(alloc: Global, text: &str, ends: bool) -> Result<bool, Memory> {
+    let session = session(alloc, text, 0)?;
+    let found = may_end_by_both(alloc, &session.rules.studied, registered(&session)?)?;
+    Ok(found == (ends, ends))
+}
+
 #[test]
 fn trees_and_rows_may_end_alike(rt: HostRuntime) -> Result<(), Memory> {
     for (text, ends) in ENDS {
-        let found = may_end_by_both(rt.alloc(), &read_case(rt.alloc(), text, 0)?)?;
-        assert!(rt; found == (ends, ends), "{text}");
+        assert!(rt; ends_so(rt.alloc(), text, ends)?, "{text}");
     }
     Ok(())
 }
 
-// An application of a template that is not in the book.
-fn without_template(alloc: Global) -> Result<Case, Memory> {
-    let mut case = read_case(alloc, "Success", 1)?;
-    case.term = Term::App {
-        name: case.event.sender,
+// Whether an application of a template that is not in the book may not end, and leaves failure by the event.
+fn takes_nothing(alloc: Global, session: &Session) -> Result<bool, Memory> {
+    let event = delivered(session)?;
+    let studied = &session.rules.studied;
+    let term = Term::App {
+        name: event.sender,
         args: List::new(alloc),
     };
-    Ok(case)
+    if studied.template(event.sender).is_some() {
+        return Ok(false);
+    }
+    let is_end = may_end_by_both(alloc, studied, &term)? != (false, false);
+    let left = after(alloc, studied, &term, &event)?;
+    Ok(!is_end && matches!(left.0, Term::Failure))
 }
 
 #[test]
 fn without_a_template_an_application_takes_nothing(rt: HostRuntime) -> Result<(), Memory> {
-    let case = without_template(rt.alloc())?;
-    assert!(rt; case.studied.template(case.event.sender).is_none());
-    assert!(rt; may_end_by_both(rt.alloc(), &case)? == (false, false));
-    assert!(rt; matches!(after(rt.alloc(), &case)?, (Term::Failure, ..)));
+    let session = session(rt.alloc(), "Success", 1)?;
+    assert!(rt; takes_nothing(rt.alloc(), &session)?);
     Ok(())
 }

@@ -21,11 +21,7 @@ pub(crate) const USD: Name = Name { id: 3 };
 
 pub(crate) const A: Name = Name { id: 4 };
 
-pub(crate) const B: Name = Name { id: 5 };
-
 pub(crate) const R: Name = Name { id: 6 };
-
-pub(crate) const T: Name = Name { id: 7 };
 
 pub(crate) const N: Name = Name { id: 8 };
 

@@ -1,11 +1,10 @@
-//! Contracts counted and replaced by hand, and each call once with memory.
+//! Contracts counted, compared and replaced by hand.
 
 use crate::expr::given;
-use crate::sentences::{A, B, BOB, N, R, T, contract, repeated};
-use poets_expr::{Expr, Given};
-use poets_syntax::build::{boxed, copy_params, par, plus, seq, transmit};
-use poets_syntax::{Binders, Param, Term, copy, same, size, subst};
-use poets_value::{List, Memory, Name, Ty, Value, push};
+use crate::sentences::{A, BOB, N, contract, repeated};
+use poets_expr::Given;
+use poets_syntax::{Term, same, size, subst};
+use poets_value::{Memory, Name, Ty, Value};
 use std::alloc::Global;
 
 // Whether the body is the choice of a contract and of another, which it is with the names replaced.
@@ -77,14 +76,6 @@ fn other_binders_and_forms_make_another_contract(rt: HostRuntime) -> Result<(), 
 const COMPOSED: &str = "template f() =
     (transmit(a, c, q, w | a = bob and amount(q) = n). Success || f(1, n)) ; Failure + f(n, 1)";
 
-#[test]
-fn a_copy_is_the_same_contract(rt: HostRuntime) -> Result<(), Memory> {
-    let term = contract(rt.alloc(), COMPOSED)?;
-    let copied = copy(rt.alloc(), &term)?;
-    assert!(rt; same(&copied, &term));
-    Ok(())
-}
-
 fn size_of(alloc: Global, text: &str) -> Result<u64, Memory> {
     Ok(size(&contract(alloc, text)?))
 }
@@ -113,43 +104,5 @@ fn sizes_are_those_counted_by_hand(rt: HostRuntime) -> Result<(), Memory> {
     let piece = " + transmit(a, b, r, t | amount(r) = 2). Success";
     let choice = repeated(rt.alloc(), head, piece, 142, "")?;
     assert_eq!(rt; size_of(rt.alloc(), &choice)?, 1000);
-    Ok(())
-}
-
-// The binders (a, b, r, t).
-const BINDERS: Binders = Binders {
-    sender: A,
-    receiver: B,
-    what: R,
-    day: T,
-};
-
-// (transmit(a, b, r, t | true). Success || Success) ; Failure + Success
-fn made(alloc: Global) -> Result<Term, Memory> {
-    let first = transmit(alloc, BINDERS, Expr::Bool(true), Term::Success)?;
-    let beside = par(alloc, first, Term::Success)?;
-    let then = seq(alloc, beside, Term::Failure)?;
-    plus(alloc, then, Term::Success)
-}
-
-const MADE: &str = "template f() =
-    (transmit(a, b, r, t | true). Success || Success) ; Failure + Success";
-
-#[test]
-fn contracts_are_made_of_their_parts(rt: HostRuntime) -> Result<(), Memory> {
-    let read = contract(rt.alloc(), MADE)?;
-    let made = boxed(rt.alloc(), made(rt.alloc())?)?;
-    assert!(rt; same(&made, &read));
-    Ok(())
-}
-
-#[test]
-fn copied_parameters_are_the_same(rt: HostRuntime) -> Result<(), Memory> {
-    let mut params = List::new(rt.alloc());
-    for name in [A, N] {
-        push(&mut params, Param { name, ty: Ty::Int })?;
-    }
-    let copied = copy_params(rt.alloc(), &params)?;
-    assert_eq!(rt; copied.as_slice(), params.as_slice());
     Ok(())
 }

@@ -8,8 +8,8 @@ use poets_value::Memory;
 use std::alloc::{AllocError, Global};
 use std::test::Fail;
 
-// The statement of a text that has tokens.
-fn read(alloc: Global, text: &[u8]) -> Result<Statement, SyntaxFault> {
+/// The statement of a text that has tokens, and the table of its names.
+pub(crate) fn read(alloc: Global, text: &[u8]) -> Result<(Names, Statement), SyntaxFault> {
     if text.len() > 1 << 16 {
         return Err(SyntaxFault::Memory);
     }
@@ -17,7 +17,8 @@ fn read(alloc: Global, text: &[u8]) -> Result<Statement, SyntaxFault> {
     let Ok(tokens) = tokens(alloc, text, &mut names) else {
         return Err(SyntaxFault::Memory);
     };
-    statement(alloc, tokens.as_slice())
+    let statement = statement(alloc, tokens.as_slice())?;
+    Ok((names, statement))
 }
 
 // `register x = Success` with so many brackets round the contract.
@@ -36,7 +37,7 @@ fn bracketed(alloc: Global, brackets: usize) -> Result<Vec<u8>, AllocError> {
 
 #[test]
 fn a_statement_is_read(rt: HostRuntime) -> Result<(), Fail> {
-    let statement = read(rt.alloc(), b"3: portfolio worth(1, -x) over a, b, c")?;
+    let (_, statement) = read(rt.alloc(), b"3: portfolio worth(1, -x) over a, b, c")?;
     let Statement::Numbered(3, Command::Portfolio { args, over, .. }) = &statement else {
         return Err(Memory.into());
     };
@@ -48,7 +49,7 @@ fn a_statement_is_read(rt: HostRuntime) -> Result<(), Fail> {
 #[test]
 fn two_hundred_brackets_are_read(rt: HostRuntime) -> Result<(), Fail> {
     let text = bracketed(rt.alloc(), 200)?;
-    let statement = read(rt.alloc(), &text)?;
+    let (_, statement) = read(rt.alloc(), &text)?;
     assert!(rt; matches!(&statement, Statement::Command(Command::Register { .. })));
     let text = bracketed(rt.alloc(), 201)?;
     let refused = read(rt.alloc(), &text);

@@ -30,8 +30,8 @@ fn each_clerk_has_a_script(rt: HostRuntime) -> Result<(), Memory> {
     }
 }
 
-// The line of the text's first fault, and no bytes for a session of the form.
-fn line_of(alloc: Global, text: &[u8], form: Form) -> Result<String, Memory> {
+/// The line of the text's first fault, and no bytes for a session of the form.
+pub(crate) fn line_of(alloc: Global, text: &[u8], form: Form) -> Result<String, Memory> {
     if text.len() > LONGEST_TEXT {
         return Ok(String::new(alloc));
     }
