@@ -5,7 +5,7 @@ use poets_expr::Expr;
 use poets_lex::{Names, tokens};
 use poets_parse::statement;
 use poets_syntax::{Template, Term};
-use poets_value::{List, Memory, Name};
+use poets_value::{Memory, Name};
 use std::alloc::Global;
 
 // The names that are numbered first, each by its place.
@@ -49,10 +49,10 @@ pub(crate) fn sentence(alloc: Global, text: &str) -> Result<Statement, Memory> {
     statement(alloc, tokens.as_slice()).or(Err(Memory))
 }
 
-/// The arguments of the sentence `watch f(x, y, ..)`.
-pub(crate) fn expressions(alloc: Global, text: &str) -> Result<List<Expr>, Memory> {
-    match sentence(alloc, text)? {
-        Statement::Command(Command::Watch { args, .. }) => Ok(args),
+/// The arguments of a statement `watch f(x, y, ..)`.
+pub(crate) fn arguments(statement: &Statement) -> Result<&[Expr], Memory> {
+    match statement {
+        Statement::Command(Command::Watch { args, .. }) => Ok(args.as_slice()),
         _ => Err(Memory),
     }
 }

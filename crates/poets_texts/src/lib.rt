@@ -8,8 +8,6 @@ mod mark;
 #[cfg(test)]
 mod names;
 #[cfg(test)]
-mod parse;
-#[cfg(test)]
 mod print;
 #[cfg(test)]
 mod session;

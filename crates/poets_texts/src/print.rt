@@ -1,22 +1,36 @@
 //! Contracts and commands, and how they are printed.
 
-use crate::parse::read;
 use poets_call::Statement;
+use poets_lex::{Names, tokens};
+use poets_parse::statement;
 use poets_print::{command_text, term_text};
 use poets_syntax::Template;
 use poets_value::Memory;
 use std::alloc::Global;
 
-// How the command of the text is printed, or the contract of the template.
-fn printed(alloc: Global, text: &str) -> Result<String, Memory> {
-    let Ok((names, statement)) = read(alloc, text.as_bytes()) else {
-        return Err(Memory);
-    };
-    match &statement {
-        Statement::Command(command) => command_text(alloc, &names, command),
-        Statement::Template(Template { body, .. }) => term_text(alloc, &names, body),
+// The text of a command, or of the contract of a template.
+fn text_of(alloc: Global, names: &Names, statement: &Statement) -> Result<String, Memory> {
+    match statement {
+        Statement::Command(command) => command_text(alloc, names, command),
+        Statement::Template(Template { body, .. }) => term_text(alloc, names, body),
         _ => Err(Memory),
     }
+}
+
+// How the command of the text is printed, or the contract of the template.
+#[tactic(auto, using(poets_grammar::proofs::Lexed::read_natural))]
+fn printed(alloc: Global, text: &str) -> Result<String, Memory> {
+    let mut names = Names::new(alloc);
+    if text.len() > 1 << 16 {
+        return Err(Memory);
+    }
+    let Ok(tokens) = tokens(alloc, text.as_bytes(), &mut names) else {
+        return Err(Memory);
+    };
+    let Ok(statement) = statement(alloc, tokens.as_slice()) else {
+        return Err(Memory);
+    };
+    text_of(alloc, &names, &statement)
 }
 
 // The part in brackets of each operator, and which of the brackets are printed.
