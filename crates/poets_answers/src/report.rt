@@ -34,7 +34,7 @@ fn report_of(alloc: Global, text: &str) -> Result<Report, Memory> {
     }
 }
 
-// An event of that amount, on the first day of the calendar's count.
+// An event of that amount, on 1970-01-01.
 fn event(amount: i64) -> Option<Event> {
     Some(Event {
         sender: Name { id: 0 },

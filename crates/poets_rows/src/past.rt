@@ -13,8 +13,8 @@ const EVENT: &str = "transmit c ann bob 1 Oil @2006-01-01";
 
 const EVENTS: u32 = 65_518;
 
-// The command, so many times.
-fn commands(alloc: Global, command: &str, count: u32) -> Result<String, Fail> {
+/// The command, so many times.
+pub(crate) fn commands(alloc: Global, command: &str, count: u32) -> Result<String, Fail> {
     let line = joined(alloc, &[command, ";;\n"])?;
     repeated(alloc, line.as_str(), count as usize)
 }
@@ -35,8 +35,8 @@ fn session(alloc: Global) -> Result<String, Fail> {
     joined(alloc, &pieces)
 }
 
-// The lines of such commands, so many after the first ones. A reply counts the commands.
-fn replies(
+/// The lines of such commands, so many after the first ones. A reply counts the commands.
+pub(crate) fn replies(
     alloc: Global,
     command: &str,
     (past, count): (u32, u32),

@@ -7,6 +7,7 @@ const OTHERS: &str = "
 report newest(): Day = fold x = @2006-01-01 with (s, v, r, t) in t;;
 report share(): Int = fold x = 100 with (s, v, r, t) in x / amount(r);;
 report above(n: Int): Int = fold x = 0 with (s, v, r, t) in if amount(r) > n then x + 1 else x end;;
+report parted(): Int = fold x = 0 with (s, v, r, t) in x + amount(r) by 12 / amount(r);;
 ";
 
 // What somebody received, less what he gave.
@@ -38,6 +39,7 @@ transmit d ann bob 5 Oil @2006-02-01 => recorded 1, may end yes
 transmit c bob ann 0 USD @2006-01-05 => recorded 1, may end yes
 register e = any() => registered 3
 portfolio moved() over c, d, e => portfolio c {USD: 0}, d {Oil: 5}, e {}
+portfolio parted() over c, d, e => portfolio c {undefined: 0}, d {2: 5}, e {}
 portfolio newest() over d, c, e => portfolio d @2006-02-01, c @2006-01-05, e @2006-01-01
 portfolio share() over d, e => portfolio d 20, e 100, total 120
 portfolio share() over d, c, e => portfolio d 20, c undefined, e 100, total undefined

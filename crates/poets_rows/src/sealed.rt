@@ -1,33 +1,53 @@
 //! Portfolios over long pasts, which are made once their turn is over.
 
 use crate::books::{ANY, HEAD, SUM};
-use crate::program::{Edges, SOUND, answered, ask, joined, repeated};
+use crate::past::{commands, replies};
+use crate::program::{Edges, SOUND, answered, ask, joined};
+use poets_table::PIECE_LENGTH;
+use std::alloc::Global;
 use std::test::Fail;
 
-#[test]
-fn a_portfolio_goes_over_all_pieces(rt: HostRuntime) -> Result<(), Fail> {
-    let alloc = rt.alloc();
-    let events = repeated(alloc, "transmit c ann bob 1 Oil @2006-01-01;;\n", 600)?;
+const OF_C: &str = "transmit c ann bob 1 Oil @2006-01-01";
+
+const OF_D: &str = "transmit d ann bob 2 Oil @2006-01-01";
+
+// Two contracts, 600 events on the first, 512 on the second, and a portfolio of both.
+fn long_pasts(alloc: Global) -> Result<String, Fail> {
+    let on_first = commands(alloc, OF_C, 600)?;
+    let on_second = commands(alloc, OF_D, 512)?;
     let pieces = [
         HEAD,
         ANY,
         SUM,
-        "clerk;;\nregister c = any();;\n",
-        events.as_str(),
-        "portfolio sum() over c;;\n",
+        "clerk;;\nregister c = any();;\nregister d = any();;\n",
+        on_first.as_str(),
+        on_second.as_str(),
+        "portfolio sum() over c, d;;\n",
     ];
-    let text = joined(alloc, &pieces)?;
-    let mut lines = joined(alloc, &["1 1: register c = any() => registered 1\n"])?;
-    for count in 1..=600u32 {
-        let number = count + 1;
-        let line = format!(in alloc;
-            "{number} 1: transmit c ann bob 1 Oil @2006-01-01 => recorded {count}, may end yes\n"
-        )?;
-        lines.push_str(line.as_str())?;
-    }
-    lines.push_str("602 1: portfolio sum() over c => portfolio c 600, total 600\n")?;
+    joined(alloc, &pieces)
+}
+
+// The history of these commands.
+fn lines_of_long_pasts(alloc: Global) -> Result<String, Fail> {
+    let of_first = replies(alloc, OF_C, (2, 600), ("recorded ", ", may end yes"))?;
+    let of_second = replies(alloc, OF_D, (602, 512), ("recorded ", ", may end yes"))?;
+    let pieces = [
+        "1 1: register c = any() => registered 1\n2 1: register d = any() => registered 2\n",
+        of_first.as_str(),
+        of_second.as_str(),
+        "1115 1: portfolio sum() over c, d => portfolio c 600, d 1024, total 1624\n",
+    ];
+    joined(alloc, &pieces)
+}
+
+#[test]
+fn a_portfolio_goes_over_all_pieces(rt: HostRuntime) -> Result<(), Fail> {
+    let alloc = rt.alloc();
+    assert_eq!(rt; PIECE_LENGTH, 256);
+    let text = long_pasts(alloc)?;
+    let lines = lines_of_long_pasts(alloc)?;
     let row = ("a portfolio goes over all pieces", text.as_str());
-    answered(&rt, alloc, row, (0, 602, lines.as_str()))
+    answered(&rt, alloc, row, (0, 1_115, lines.as_str()))
 }
 
 // A portfolio, and another clerk's transmission.

@@ -1,6 +1,7 @@
 //! Rows of contracts worked out by hand.
 
-use crate::contracts::{Made, is_made, registered, session};
+use crate::contracts::{Made, is_made};
+use crate::sentences::contract;
 use poets_cons::{of_term, to_term};
 use poets_value::Memory;
 use std::alloc::Global;
@@ -15,8 +16,8 @@ const ROWS: [(&str, u64); 2] = [(TWO_WAYS, 6), ("f(1) ; (f(1) + f(1))", 3)];
 
 // The contract that its rows give back.
 fn by_rows(alloc: Global, text: &str) -> Result<Made, Memory> {
-    let session = session(alloc, text, 0)?;
-    let rows = of_term(alloc, registered(&session)?)?;
+    let term = contract(alloc, text)?;
+    let rows = of_term(alloc, &term)?;
     Ok((to_term(alloc, &rows)?, rows.count(), 0))
 }
 

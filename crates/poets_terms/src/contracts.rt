@@ -4,13 +4,15 @@ ghost use Rattle.poets_syntax.specs.Applied.{CountsFit};
 ghost use Rattle.poets_syntax.specs.Book.{book_of};
 ghost use Rattle.poets_syntax.specs.Contract.{contract_of};
 
+use crate::sentences::contract;
 use poets_call::Command;
 use poets_session::{Form, Session, read};
-use poets_syntax::{Studied, Term, copy, same};
+use poets_syntax::{Studied, Term, same};
 use poets_value::{Event, LONGEST_TEXT, Memory};
 use std::alloc::Global;
 
-// The book of all tests. All names of their contracts stand in it, so that these have the same numbers in each session.
+// The book of all tests. All names of their contracts stand in it, so that these have the same numbers in each session; and in
+// sentences, whose names begin in the same order.
 const BOOK: &str = "agents ann, bob;; kinds Oil, USD;;
 template f(n: Int) = transmit(a, b, r, t | true). Success;;
 template g() = Failure;;
@@ -18,19 +20,21 @@ template count(n: Int) = Success + transmit(a, b, r, t | amount(r) = n). count(n
 clerk;;
 ";
 
-/// The session of the book and of one clerk, who registers the contract of a text, and then delivers so much oil. No session
+// The book, and one clerk who registers the contract of a text, and then delivers so much oil.
+fn with_book(alloc: Global, text: &str, amount: u64) -> Result<String, Memory> {
+    Ok(format!(in alloc;
+        "{BOOK}register c = {text};; transmit c ann bob {amount} Oil @2006-01-01;;"
+    )?)
+}
+
+/// The session in which one clerk registers the contract of a text, and then delivers so much oil. A text that is no session
 /// is answered as want of memory is: the test fails.
 pub(crate) fn session(alloc: Global, text: &str, amount: u64) -> Result<Session, Memory> {
-    let text = format!(in alloc;
-        "{BOOK}register c = {text};; transmit c ann bob {amount} Oil @2006-01-01;;"
-    )?;
+    let text = with_book(alloc, text, amount)?;
     if text.len() > LONGEST_TEXT {
         return Err(Memory);
     }
-    match read(alloc, text.as_bytes(), Form::Clerks) {
-        Ok(session) => Ok(session),
-        Err(_) => Err(Memory),
-    }
+    read(alloc, text.as_bytes(), Form::Clerks).or(Err(Memory))
 }
 
 // The command of the clerk with that number, from 0.
@@ -54,12 +58,6 @@ pub(crate) fn delivered(session: &Session) -> Result<Event, Memory> {
     }
 }
 
-/// The contract of a text.
-pub(crate) fn contract(alloc: Global, text: &str) -> Result<Term, Memory> {
-    let session = session(alloc, text, 0)?;
-    copy(alloc, registered(&session)?)
-}
-
 /// What is made of a contract, how many rows it has, and how much was asked for it.
 pub(crate) type Made = (Term, u64, u64);
 
@@ -69,8 +67,8 @@ pub(crate) fn is_made(
     made: &Made,
     (text, rows, asked): (&str, u64, u64),
 ) -> Result<bool, Memory> {
-    let wanted = session(alloc, text, 0)?;
-    Ok(same(&made.0, registered(&wanted)?) && made.1 == rows && made.2 == asked)
+    let wanted = contract(alloc, text)?;
+    Ok(same(&made.0, &wanted) && made.1 == rows && made.2 == asked)
 }
 
 /// Whether each application of a template has as many arguments as the template has parameters.

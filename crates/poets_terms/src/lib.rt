@@ -19,3 +19,5 @@ mod residue;
 mod sentences;
 #[cfg(test)]
 mod syntax;
+#[cfg(test)]
+mod types;

@@ -1,6 +1,6 @@
 //! Builders of normal forms worked out by hand, and each called once with memory.
 
-use crate::contracts::contract;
+use crate::sentences::contract;
 use poets_norm::{distinct_choice, merge, par, plus, send, seq};
 use poets_syntax::{Term, same};
 use poets_value::Memory;

@@ -8,8 +8,8 @@ use poets_syntax::{Template, Term};
 use poets_value::{Memory, Name};
 use std::alloc::Global;
 
-// The names that are numbered first, each by its place.
-const ORDER: &[u8] = b"ann bob Oil USD a b r t n x y f g h";
+// The names that are numbered first, each by its place: up to `count` those of the book in `contracts`.
+const ORDER: &[u8] = b"ann bob Oil USD f n a b r t g count x y h";
 
 pub(crate) const ANN: Name = Name { id: 0 };
 
@@ -19,21 +19,21 @@ pub(crate) const OIL: Name = Name { id: 2 };
 
 pub(crate) const USD: Name = Name { id: 3 };
 
-pub(crate) const A: Name = Name { id: 4 };
+pub(crate) const F: Name = Name { id: 4 };
 
-pub(crate) const R: Name = Name { id: 6 };
+pub(crate) const N: Name = Name { id: 5 };
 
-pub(crate) const N: Name = Name { id: 8 };
+pub(crate) const A: Name = Name { id: 6 };
 
-pub(crate) const X: Name = Name { id: 9 };
+pub(crate) const R: Name = Name { id: 8 };
 
-pub(crate) const Y: Name = Name { id: 10 };
+pub(crate) const G: Name = Name { id: 10 };
 
-pub(crate) const F: Name = Name { id: 11 };
+pub(crate) const X: Name = Name { id: 12 };
 
-pub(crate) const G: Name = Name { id: 12 };
+pub(crate) const Y: Name = Name { id: 13 };
 
-pub(crate) const H: Name = Name { id: 13 };
+pub(crate) const H: Name = Name { id: 14 };
 
 /// What the sentence says, in which these names have these numbers.
 #[tactic(auto, using(poets_grammar::proofs::Lexed::read_natural))]
@@ -57,9 +57,10 @@ pub(crate) fn arguments(statement: &Statement) -> Result<&[Expr], Memory> {
     }
 }
 
-/// The body of the template that the sentence declares.
+/// The contract of the text.
 pub(crate) fn contract(alloc: Global, text: &str) -> Result<Term, Memory> {
-    match sentence(alloc, text)? {
+    let declared = format!(in alloc; "template f() = {text}")?;
+    match sentence(alloc, declared.as_str())? {
         Statement::Template(Template { body, .. }) => Ok(body),
         _ => Err(Memory),
     }

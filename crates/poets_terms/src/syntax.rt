@@ -18,12 +18,12 @@ fn is_replaced(alloc: Global, text: &str, pairs: &[(Name, Given)]) -> Result<boo
 }
 
 // The name n is replaced below both transmits, and a, which they bind, below none.
-const BOUND: &str = "template f() =
-    transmit(a, b, r, t | amount(r) = n). transmit(a, c, q, w | a = bob and amount(q) = n). Success
+const BOUND: &str =
+    "transmit(a, b, r, t | amount(r) = n). transmit(a, c, q, w | a = bob and amount(q) = n). Success
     + transmit(a, b, r, t | amount(r) = 5). transmit(a, c, q, w | a = bob and amount(q) = 5). Success";
 
 // Arguments are replaced by the later pair.
-const APPLIED: &str = "template f() = f(a, n) + f(undefined Agent, 2)";
+const APPLIED: &str = "f(a, n) + f(undefined Agent, 2)";
 
 #[test]
 fn names_are_replaced_up_to_their_binders(rt: HostRuntime) -> Result<(), Memory> {
@@ -48,21 +48,18 @@ fn are_same(alloc: Global, text: &str) -> Result<bool, Memory> {
 // Contracts of the same binders, of other binders, of another day, and of other forms.
 const TWO_CONTRACTS: [(&str, bool); 4] = [
     (
-        "template f() = transmit(a, b, r, t | true). Success + transmit(a, b, r, t | true). Success",
+        "transmit(a, b, r, t | true). Success + transmit(a, b, r, t | true). Success",
         true,
     ),
     (
-        "template f() = transmit(a, b, r, t | true). Success + transmit(a, c, q, w | true). Success",
+        "transmit(a, b, r, t | true). Success + transmit(a, c, q, w | true). Success",
         false,
     ),
     (
-        "template f() = transmit(a, b, r, t | true). Success + transmit(a, b, r, n | true). Success",
+        "transmit(a, b, r, t | true). Success + transmit(a, b, r, n | true). Success",
         false,
     ),
-    (
-        "template f() = Success ; Failure + (Success || Failure)",
-        false,
-    ),
+    ("Success ; Failure + (Success || Failure)", false),
 ];
 
 #[test]
@@ -73,20 +70,20 @@ fn other_binders_and_forms_make_another_contract(rt: HostRuntime) -> Result<(), 
     Ok(())
 }
 
-const COMPOSED: &str = "template f() =
-    (transmit(a, c, q, w | a = bob and amount(q) = n). Success || f(1, n)) ; Failure + f(n, 1)";
+const COMPOSED: &str =
+    "(transmit(a, c, q, w | a = bob and amount(q) = n). Success || f(1, n)) ; Failure + f(n, 1)";
 
 fn size_of(alloc: Global, text: &str) -> Result<u64, Memory> {
     Ok(size(&contract(alloc, text)?))
 }
 
 const SIZES: [(&str, u64); 5] = [
-    ("template f() = Success", 1),
-    ("template f() = Failure", 1),
-    ("template f() = f([5 Oil], undefined Int)", 3),
+    ("Success", 1),
+    ("Failure", 1),
+    ("f([5 Oil], undefined Int)", 3),
     // two transmits, =, amount, r and 1, then and, =, a, bob, =, amount, q and 1, and Success
     (
-        "template f() = transmit(a, b, r, t | amount(r) = 1).
+        "transmit(a, b, r, t | amount(r) = 1).
             transmit(a, c, q, w | a = bob and amount(q) = 1). Success",
         15,
     ),
@@ -100,7 +97,7 @@ fn sizes_are_those_counted_by_hand(rt: HostRuntime) -> Result<(), Memory> {
         assert_eq!(rt; size_of(rt.alloc(), text)?, *wanted, "{text}");
     }
     // 143 contracts of 6 nodes each, and 142 nodes between them
-    let head = "template f() = transmit(a, b, r, t | amount(r) = 1). Success";
+    let head = "transmit(a, b, r, t | amount(r) = 1). Success";
     let piece = " + transmit(a, b, r, t | amount(r) = 2). Success";
     let choice = repeated(rt.alloc(), head, piece, 142, "")?;
     assert_eq!(rt; size_of(rt.alloc(), &choice)?, 1000);

@@ -1,9 +1,9 @@
 //! Contracts and commands, and how they are printed.
 
-use poets_call::Statement;
+use poets_call::{Reply, Statement};
 use poets_lex::{Names, tokens};
 use poets_parse::statement;
-use poets_print::{command_text, term_text};
+use poets_print::{command_text, reply_text, term_text};
 use poets_syntax::Template;
 use poets_value::Memory;
 use std::alloc::Global;
@@ -33,7 +33,7 @@ fn printed(alloc: Global, text: &str) -> Result<String, Memory> {
     text_of(alloc, &names, &statement)
 }
 
-// The part in brackets of each operator, and which of the brackets are printed.
+// Operators with both parts in brackets, and how they are printed.
 const OPERATORS: [(&str, &str); 8] = [
     ("watch f((x - x) + (x - x))", "watch f(x - x + (x - x))"),
     ("watch f((x + x) * (x / x))", "watch f((x + x) * (x / x))"),
@@ -51,7 +51,8 @@ const OPERATORS: [(&str, &str); 8] = [
     ),
 ];
 
-const TERMS: [(&str, &str); 7] = [
+// Brackets, white space and zeros that the tree does not ask for, and how the commands are printed.
+const COMMANDS: [(&str, &str); 7] = [
     (
         "watch f(if (not ((true) or (x = y))) then (amount(r) = (-(-x))) else ((kind(r)) <> Oil) end)",
         "watch f(if not (true or x = y) then amount(r) = --x else kind(r) <> Oil end)",
@@ -70,7 +71,7 @@ const TERMS: [(&str, &str); 7] = [
     ),
 ];
 
-// The part in brackets of each form, and which of the brackets are printed.
+// Templates whose contracts have all their parts in brackets, and how these are printed.
 const CONTRACTS: [(&str, &str); 3] = [
     (
         "template f() = (((Success) + Failure) || (Success ; (Success ; Success)))",
@@ -87,12 +88,24 @@ const CONTRACTS: [(&str, &str); 3] = [
 ];
 
 #[test]
-fn brackets_are_printed_where_the_tree_asks_for_them(rt: HostRuntime) -> Result<(), Memory> {
-    for table in [OPERATORS.as_slice(), TERMS.as_slice(), CONTRACTS.as_slice()] {
+fn what_is_printed_is_what_the_tree_asks_for(rt: HostRuntime) -> Result<(), Memory> {
+    for table in [
+        OPERATORS.as_slice(),
+        COMMANDS.as_slice(),
+        CONTRACTS.as_slice(),
+    ] {
         for (text, wanted) in table {
             let found = printed(rt.alloc(), text)?;
             assert!(rt; found.as_str() == *wanted, "{text}: {found}");
         }
     }
+    Ok(())
+}
+
+#[test]
+fn a_reply_is_printed(rt: HostRuntime) -> Result<(), Memory> {
+    let names = Names::new(rt.alloc());
+    let text = reply_text(rt.alloc(), &names, &Reply::NoWatch(2))?;
+    assert!(rt; text.as_str() == "no watch 2");
     Ok(())
 }
