@@ -1,59 +1,45 @@
-//! Contracts that are read from texts, and the studied book that they stand in.
+//! The book in which contracts are worked out, the event that comes, and what is made of a contract.
 ghost use Rattle.std.specs.Prelude.{IsTrue};
 ghost use Rattle.poets_syntax.specs.Applied.{CountsFit};
 ghost use Rattle.poets_syntax.specs.Book.{book_of};
 ghost use Rattle.poets_syntax.specs.Contract.{contract_of};
 
-use crate::sentences::contract;
-use poets_call::Command;
-use poets_session::{Form, Session, read};
+use crate::sentences::{contract, sentence, statements};
+use poets_call::{Command, Statement};
+use poets_guard::{GuardFault, study};
 use poets_syntax::{Studied, Term, same};
-use poets_value::{Event, LONGEST_TEXT, Memory};
+use poets_types::check_book;
+use poets_value::{Event, Memory};
 use std::alloc::Global;
 
-// The book of all tests. All names of their contracts stand in it, so that these have the same numbers in each session; and in
-// sentences, whose names begin in the same order.
-const BOOK: &str = "agents ann, bob;; kinds Oil, USD;;
-template f(n: Int) = transmit(a, b, r, t | true). Success;;
-template g() = Failure;;
-template count(n: Int) = Success + transmit(a, b, r, t | amount(r) = n). count(n + 1);;
-clerk;;
-";
+const BOOK: [&str; 5] = [
+    "agents ann, bob",
+    "kinds Oil, USD",
+    "template f(n: Int) = transmit(a, b, r, t | true). Success",
+    "template g() = Failure",
+    "template count(n: Int) = Success + transmit(a, b, r, t | amount(r) = n). count(n + 1)",
+];
 
-// The book, and one clerk who registers the contract of a text, and then delivers so much oil.
-fn with_book(alloc: Global, text: &str, amount: u64) -> Result<String, Memory> {
-    Ok(format!(in alloc;
-        "{BOOK}register c = {text};; transmit c ann bob {amount} Oil @2006-01-01;;"
-    )?)
-}
-
-/// The session in which one clerk registers the contract of a text, and then delivers so much oil. A text that is no session
-/// is answered as want of memory is: the test fails.
-pub(crate) fn session(alloc: Global, text: &str, amount: u64) -> Result<Session, Memory> {
-    let text = with_book(alloc, text, amount)?;
-    if text.len() > LONGEST_TEXT {
-        return Err(Memory);
+/// The study of the book of these statements, which are checked.
+pub(crate) fn studied(alloc: Global, texts: &[&str]) -> Result<Studied, GuardFault> {
+    let statements = statements(alloc, texts)?;
+    match check_book(alloc, statements.as_slice()) {
+        Ok(checked) => study(alloc, checked.book),
+        Err(_) => Err(GuardFault::Memory),
     }
-    read(alloc, text.as_bytes(), Form::Clerks).or(Err(Memory))
 }
 
-// The command of the clerk with that number, from 0.
-fn command(session: &Session, number: usize) -> Option<&Command> {
-    Some(&**session.scripts.get(0)?.get(number)?)
-}
-
-/// The contract that the clerk registers.
-pub(crate) fn registered(session: &Session) -> Result<&Term, Memory> {
-    match command(session, 0) {
-        Some(Command::Register { term, .. }) => Ok(term),
-        _ => Err(Memory),
-    }
+/// The book of the templates f, g and count.
+pub(crate) fn book(alloc: Global) -> Result<Studied, Memory> {
+    studied(alloc, &BOOK).or(Err(Memory))
 }
 
 /// The event that ann gives bob so much oil.
-pub(crate) fn delivered(session: &Session) -> Result<Event, Memory> {
-    match command(session, 1) {
-        Some(Command::Transmit { event, .. }) => Ok(*event),
+pub(crate) fn delivered(alloc: Global, amount: u64) -> Result<Event, Memory> {
+    let text = format!(in alloc; "transmit c ann bob {amount} Oil @2006-01-01")?;
+    let said = sentence(alloc, &text)?;
+    match &said {
+        Statement::Command(Command::Transmit { event, .. }) => Ok(*event),
         _ => Err(Memory),
     }
 }

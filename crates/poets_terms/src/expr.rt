@@ -1,6 +1,6 @@
 //! Values worked out by hand.
 
-use crate::sentences::{ANN, BOB, OIL, R, USD, X, Y, arguments, repeated, sentence};
+use crate::sentences::{ANN, BOB, OIL, R, USD, X, Y, expressions, repeated};
 use poets_expr::{
     Asks, Decls, Env, Expr, Given, eval, fold_closed, free_names, literal, same, size, subst,
 };
@@ -131,8 +131,8 @@ fn first_other(
         decls: &decls,
         pairs,
     };
-    let statement = sentence(alloc, text)?;
-    for (place, row) in arguments(&statement)?.chunks(2).enumerate() {
+    let expressions = expressions(alloc, text)?;
+    for (place, row) in expressions.as_slice().chunks(2).enumerate() {
         if !is_worked(&env, row) {
             return Ok(Some(place));
         }
@@ -178,8 +178,8 @@ fn long_expressions_have_values(rt: HostRuntime) -> Result<(), Memory> {
     // as many operators as a sentence may have, each of them adding 2
     let text = repeated(rt.alloc(), "watch sum(0", " + x", 1000, ", 2000)")?;
     assert_eq!(rt; first_other(rt.alloc(), &PAIRS, &text)?, None);
-    let statement = sentence(rt.alloc(), &text)?;
-    let [sum, ..] = arguments(&statement)? else {
+    let expressions = expressions(rt.alloc(), &text)?;
+    let [sum, ..] = expressions.as_slice() else {
         return Err(Memory);
     };
     assert_eq!(rt; size(sum), 2001);
@@ -214,8 +214,8 @@ const REPLACED: &str = "watch replaced(
 
 #[test]
 fn names_are_replaced_by_literals(rt: HostRuntime) -> Result<(), Memory> {
-    let statement = sentence(rt.alloc(), REPLACED)?;
-    for row in arguments(&statement)?.chunks(2) {
+    let expressions = expressions(rt.alloc(), REPLACED)?;
+    for row in expressions.as_slice().chunks(2) {
         assert!(rt; is_replaced(rt.alloc(), row)?);
     }
     Ok(())
@@ -241,8 +241,8 @@ const STAYING: &str = "watch staying(5, 5, ann, ann, 5 + x, 5 + x)";
 fn closed_expressions_are_folded_by_one_evaluation(rt: HostRuntime) -> Result<(), Memory> {
     let decls = declared(rt.alloc())?;
     for (text, count) in [(FOLDED, 1), (STAYING, 0)] {
-        let statement = sentence(rt.alloc(), text)?;
-        for row in arguments(&statement)?.chunks(2) {
+        let expressions = expressions(rt.alloc(), text)?;
+        for row in expressions.as_slice().chunks(2) {
             assert!(rt; is_folded(rt.alloc(), &decls, row, count)?, "{text}");
         }
     }
@@ -254,8 +254,8 @@ const NAMED: &str = "watch names(if kind(r) = Oil then x else res(x, y) end, [5 
 
 #[test]
 fn each_free_name_stands_once(rt: HostRuntime) -> Result<(), Memory> {
-    let statement = sentence(rt.alloc(), NAMED)?;
-    let [open, closed] = arguments(&statement)? else {
+    let expressions = expressions(rt.alloc(), NAMED)?;
+    let [open, closed] = expressions.as_slice() else {
         return Err(Memory);
     };
     let names = free_names(rt.alloc(), open)?;

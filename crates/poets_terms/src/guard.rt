@@ -1,27 +1,15 @@
 //! Books worked by hand, each studied once with memory.
 
-use crate::sentences::{F, G, H, sentence};
-use poets_guard::{GuardFault, study};
-use poets_syntax::{Mark, Studied};
-use poets_types::check_book;
-use poets_value::{List, Name, push};
+use crate::contracts::studied;
+use crate::sentences::{F, G, H};
+use poets_guard::GuardFault;
+use poets_syntax::Mark;
+use poets_value::Name;
 use std::alloc::Global;
-
-// The study of the book of these statements, which are checked.
-fn found(alloc: Global, texts: &[&str]) -> Result<Studied, GuardFault> {
-    let mut statements = List::new(alloc);
-    for text in texts {
-        push(&mut statements, sentence(alloc, text)?)?;
-    }
-    match check_book(alloc, statements.as_slice()) {
-        Ok(checked) => study(alloc, checked.book),
-        Err(_) => Err(GuardFault::Memory),
-    }
-}
 
 // Whether the study finds this cycle.
 fn has_cycle(alloc: Global, texts: &[&str], names: &[Name]) -> bool {
-    match found(alloc, texts) {
+    match studied(alloc, texts) {
         Err(GuardFault::Unguarded { cycle }) => cycle.as_slice() == names,
         _ => false,
     }
@@ -29,7 +17,7 @@ fn has_cycle(alloc: Global, texts: &[&str], names: &[Name]) -> bool {
 
 // Whether the study finds two templates with these marks.
 fn has_marks(alloc: Global, texts: &[&str], marks: &[Mark]) -> bool {
-    match found(alloc, texts) {
+    match studied(alloc, texts) {
         Ok(studied) => studied.book().templates.len() == 2 && studied.marks() == marks,
         Err(_) => false,
     }

@@ -1,37 +1,27 @@
 //! Normal forms and widths in a book of templates, worked out by hand, and each call once with memory.
 
-use crate::contracts::{Made, fits, is_made, registered, session};
+use crate::contracts::{Made, book, fits, is_made};
+use crate::sentences::{contract, repeated};
 use poets_cons::{of_term, to_term};
 use poets_expr::Asks;
 use poets_norm::{app, normal, normal_rows, wide};
 use poets_residue::wide_rows;
-use poets_session::Session;
-use poets_syntax::{Mark, Term, same};
+use poets_syntax::{Mark, Studied, Term, same};
 use poets_value::Memory;
 use std::alloc::Global;
 
 // The normal form over trees, which is the plain program that the one over rows is compared with.
-fn by_tree(alloc: Global, session: &Session) -> Result<Made, Memory> {
+fn by_tree(alloc: Global, studied: &Studied, term: &Term) -> Result<Made, Memory> {
     let mut asks = Asks::new(());
-    let made = normal(
-        alloc,
-        &session.rules.studied,
-        registered(session)?,
-        &mut asks,
-    )?;
+    let made = normal(alloc, studied, term, &mut asks)?;
     let rows = of_term(alloc, &made)?;
     Ok((made, rows.count(), asks.count()))
 }
 
 // The normal form over rows.
-fn by_rows(alloc: Global, session: &Session) -> Result<Made, Memory> {
+fn by_rows(alloc: Global, studied: &Studied, term: &Term) -> Result<Made, Memory> {
     let mut asks = Asks::new(());
-    let rows = normal_rows(
-        alloc,
-        &session.rules.studied,
-        registered(session)?,
-        &mut asks,
-    )?;
+    let rows = normal_rows(alloc, studied, term, &mut asks)?;
     Ok((to_term(alloc, &rows)?, rows.count(), asks.count()))
 }
 
@@ -55,39 +45,35 @@ const NORMAL: [Row; 2] = [
     (ANYTHING_THRICE, (ANYTHING, 2, 0)),
 ];
 
-fn is_so_by_tree(alloc: Global, session: &Session, wanted: Wanted) -> Result<bool, Memory> {
-    let made = by_tree(alloc, session)?;
-    is_made(alloc, &made, wanted)
-}
-
-fn is_so_by_rows(alloc: Global, session: &Session, wanted: Wanted) -> Result<bool, Memory> {
-    let made = by_rows(alloc, session)?;
-    is_made(alloc, &made, wanted)
-}
-
 // Whether the row holds of trees and of rows.
-fn is_normal(alloc: Global, row: &Row) -> Result<bool, Memory> {
-    let session = session(alloc, row.0, 0)?;
-    Ok(is_so_by_tree(alloc, &session, row.1)? && is_so_by_rows(alloc, &session, row.1)?)
+fn is_normal(alloc: Global, studied: &Studied, row: &Row) -> Result<bool, Memory> {
+    let term = contract(alloc, row.0)?;
+    let tree = by_tree(alloc, studied, &term)?;
+    let rows = by_rows(alloc, studied, &term)?;
+    Ok(is_made(alloc, &tree, row.1)? && is_made(alloc, &rows, row.1)?)
 }
 
 #[test]
 fn trees_and_rows_have_the_normal_form(rt: HostRuntime) -> Result<(), Memory> {
+    let studied = book(rt.alloc())?;
     for row in &NORMAL {
-        assert!(rt; is_normal(rt.alloc(), row)?, "{}", row.0);
+        assert!(rt; is_normal(rt.alloc(), &studied, row)?, "{}", row.0);
     }
     Ok(())
 }
 
 // Of the application under a transmit the mark of its template, whether it stays as it is, and how much is asked for it.
-fn opened(alloc: Global, session: &Session) -> Result<Option<(Mark, bool, u64)>, Memory> {
-    let Term::Transmit { then, .. } = registered(session)? else {
+fn opened(
+    alloc: Global,
+    studied: &Studied,
+    term: &Term,
+) -> Result<Option<(Mark, bool, u64)>, Memory> {
+    let Term::Transmit { then, .. } = term else {
         return Ok(None);
     };
     let Term::App { name, args } = &**then else {
         return Ok(None);
     };
-    let studied = &session.rules.studied;
     let Some((_, mark)) = studied.template(*name) else {
         return Ok(None);
     };
@@ -100,8 +86,7 @@ const OPEN: &str = "transmit(a, b, r, t | true). f(amount(r) + 1)";
 
 #[test]
 fn open_arguments_stay(rt: HostRuntime) -> Result<(), Memory> {
-    let session = session(rt.alloc(), OPEN, 0)?;
-    let found = opened(rt.alloc(), &session)?;
+    let found = opened(rt.alloc(), &book(rt.alloc())?, &contract(rt.alloc(), OPEN)?)?;
     // The template is found with its mark.
     assert!(rt; matches!(found, Some((mark, true, 0)) if mark.hopeful && !mark.nullable));
     Ok(())
@@ -119,7 +104,7 @@ const ONE: &str = "transmit(a, b, r, t | 1";
 const IS_ONE: &str = " = 1). Success";
 
 // What a contract begins with, what follows so many times, what ends it, and its width.
-type Width<'a> = (&'a str, &'a str, usize, &'a str, u64);
+type Width<'a> = (&'a str, &'a str, u32, &'a str, u64);
 
 const WIDTHS: [Width; 7] = [
     // One node, the argument, and the three nodes of the body, as its mark says.
@@ -136,39 +121,23 @@ const WIDTHS: [Width; 7] = [
     (OIL, AND_OIL, 125, "", 1001),
 ];
 
-// The text of the row's contract.
-fn repeated(alloc: Global, row: &Width) -> Result<String, Memory> {
-    let mut text = String::from_str(alloc, row.0)?;
-    for _ in 0..row.2 {
-        text.push_str(row.1)?;
-    }
-    text.push_str(row.3)?;
-    Ok(text)
-}
-
-// The width of the contract, by trees and by rows.
-fn widths(alloc: Global, session: &Session) -> Result<(u64, u64), Memory> {
-    let term = registered(session)?;
-    let studied = &session.rules.studied;
-    if !fits(studied, term) {
+// Whether the width is that of the row, by trees and by rows.
+fn is_wide(alloc: Global, studied: &Studied, row: &Width) -> Result<bool, Memory> {
+    let text = repeated(alloc, row.0, row.1, row.2, row.3)?;
+    let term = contract(alloc, &text)?;
+    if !fits(studied, &term) {
         return Err(Memory);
     }
-    let rows = of_term(alloc, term)?;
-    Ok((wide(studied, term), wide_rows(studied, &rows)))
-}
-
-// Whether the width is that of the row, by trees and by rows.
-fn is_wide(alloc: Global, row: &Width) -> Result<bool, Memory> {
-    let text = repeated(alloc, row)?;
-    let session = session(alloc, text.as_str(), 0)?;
-    Ok(widths(alloc, &session)? == (row.4, row.4))
+    let rows = of_term(alloc, &term)?;
+    Ok(wide(studied, &term) == row.4 && wide_rows(studied, &rows) == row.4)
 }
 
 #[test]
 fn the_width_is_that_of_bodies_and_is_cut(rt: HostRuntime) -> Result<(), Memory> {
+    let studied = book(rt.alloc())?;
     for row in &WIDTHS {
         assert!(rt;
-            is_wide(rt.alloc(), row)?,
+            is_wide(rt.alloc(), &studied, row)?,
             "{} and {} times {}",
             row.0,
             row.2,

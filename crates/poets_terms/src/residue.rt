@@ -1,10 +1,10 @@
 //! Residuals in a book of templates, worked out by hand, and each call once with memory.
 
-use crate::contracts::{Made, delivered, fits, is_made, registered, session};
+use crate::contracts::{Made, book, delivered, fits, is_made};
+use crate::sentences::contract;
 use poets_cons::{of_term, to_term};
 use poets_expr::Asks;
 use poets_residue::{may_end, may_end_rows, residual, residual_rows};
-use poets_session::Session;
 use poets_syntax::{Studied, Term};
 use poets_value::{Event, List, Memory};
 use std::alloc::Global;
@@ -105,28 +105,25 @@ const STEPS: [Step; 9] = [
     (TEN_SIDES, 1, (NINE_SIDES, 10, 1)),
 ];
 
-fn is_left_by_tree(alloc: Global, session: &Session, wanted: Left) -> Result<bool, Memory> {
-    let event = delivered(session)?;
-    let left = after(alloc, &session.rules.studied, registered(session)?, &event)?;
-    is_made(alloc, &left, wanted)
-}
-
-fn is_left_by_rows(alloc: Global, session: &Session, wanted: Left) -> Result<bool, Memory> {
-    let event = delivered(session)?;
-    let left = rows_after(alloc, &session.rules.studied, registered(session)?, &event)?;
-    is_made(alloc, &left, wanted)
-}
-
 // Whether the step is taken so, over trees and over rows.
-fn is_taken(alloc: Global, step: &Step) -> Result<bool, Memory> {
-    let session = session(alloc, step.0, step.1)?;
-    Ok(is_left_by_tree(alloc, &session, step.2)? && is_left_by_rows(alloc, &session, step.2)?)
+fn is_taken(alloc: Global, studied: &Studied, step: &Step) -> Result<bool, Memory> {
+    let term = contract(alloc, step.0)?;
+    let event = delivered(alloc, step.1)?;
+    let tree = after(alloc, studied, &term, &event)?;
+    let rows = rows_after(alloc, studied, &term, &event)?;
+    Ok(is_made(alloc, &tree, step.2)? && is_made(alloc, &rows, step.2)?)
 }
 
 #[test]
 fn an_event_leaves_the_residual(rt: HostRuntime) -> Result<(), Memory> {
+    let studied = book(rt.alloc())?;
     for step in &STEPS {
-        assert!(rt; is_taken(rt.alloc(), step)?, "{} after {}", step.0, step.1);
+        assert!(rt;
+            is_taken(rt.alloc(), &studied, step)?,
+            "{} after {}",
+            step.0,
+            step.1
+        );
     }
     Ok(())
 }
@@ -151,24 +148,23 @@ const ENDS: [(&str, bool); 6] = [
 ];
 
 // Whether the contract of the text ends so by its tree and by its rows.
-fn ends_so(alloc: Global, text: &str, ends: bool) -> Result<bool, Memory> {
-    let session = session(alloc, text, 0)?;
-    let found = may_end_by_both(alloc, &session.rules.studied, registered(&session)?)?;
+fn ends_so(alloc: Global, studied: &Studied, text: &str, ends: bool) -> Result<bool, Memory> {
+    let found = may_end_by_both(alloc, studied, &contract(alloc, text)?)?;
     Ok(found == (ends, ends))
 }
 
 #[test]
 fn trees_and_rows_may_end_alike(rt: HostRuntime) -> Result<(), Memory> {
+    let studied = book(rt.alloc())?;
     for (text, ends) in ENDS {
-        assert!(rt; ends_so(rt.alloc(), text, ends)?, "{text}");
+        assert!(rt; ends_so(rt.alloc(), &studied, text, ends)?, "{text}");
     }
     Ok(())
 }
 
 // Whether an application of a template that is not in the book may not end, and leaves failure by the event.
-fn takes_nothing(alloc: Global, session: &Session) -> Result<bool, Memory> {
-    let event = delivered(session)?;
-    let studied = &session.rules.studied;
+fn takes_nothing(alloc: Global, studied: &Studied) -> Result<bool, Memory> {
+    let event = delivered(alloc, 1)?;
     let term = Term::App {
         name: event.sender,
         args: List::new(alloc),
@@ -183,7 +179,6 @@ fn takes_nothing(alloc: Global, session: &Session) -> Result<bool, Memory> {
 
 #[test]
 fn without_a_template_an_application_takes_nothing(rt: HostRuntime) -> Result<(), Memory> {
-    let session = session(rt.alloc(), "Success", 1)?;
-    assert!(rt; takes_nothing(rt.alloc(), &session)?);
+    assert!(rt; takes_nothing(rt.alloc(), &book(rt.alloc())?)?);
     Ok(())
 }

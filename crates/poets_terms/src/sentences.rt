@@ -5,10 +5,10 @@ use poets_expr::Expr;
 use poets_lex::{Names, tokens};
 use poets_parse::statement;
 use poets_syntax::{Template, Term};
-use poets_value::{Memory, Name};
+use poets_value::{List, Memory, Name, push};
 use std::alloc::Global;
 
-// The names that are numbered first, each by its place: up to `count` those of the book in `contracts`.
+// The names that are numbered first, each by its place.
 const ORDER: &[u8] = b"ann bob Oil USD f n a b r t g count x y h";
 
 pub(crate) const ANN: Name = Name { id: 0 };
@@ -49,10 +49,19 @@ pub(crate) fn sentence(alloc: Global, text: &str) -> Result<Statement, Memory> {
     statement(alloc, tokens.as_slice()).or(Err(Memory))
 }
 
-/// The arguments of a statement `watch f(x, y, ..)`.
-pub(crate) fn arguments(statement: &Statement) -> Result<&[Expr], Memory> {
-    match statement {
-        Statement::Command(Command::Watch { args, .. }) => Ok(args.as_slice()),
+/// What the sentences say.
+pub(crate) fn statements(alloc: Global, texts: &[&str]) -> Result<List<Statement>, Memory> {
+    let mut statements = List::new(alloc);
+    for text in texts {
+        push(&mut statements, sentence(alloc, text)?)?;
+    }
+    Ok(statements)
+}
+
+/// The expressions x, y and so on of the text `watch f(x, y, ..)`.
+pub(crate) fn expressions(alloc: Global, text: &str) -> Result<List<Expr>, Memory> {
+    match sentence(alloc, text)? {
+        Statement::Command(Command::Watch { args, .. }) => Ok(args),
         _ => Err(Memory),
     }
 }

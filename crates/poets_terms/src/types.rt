@@ -1,9 +1,9 @@
 //! Contracts and commands that are checked in a book, each by itself.
 
-use crate::sentences::{F, contract, sentence};
+use crate::sentences::{F, contract, sentence, statements};
 use poets_call::Statement;
 use poets_types::{Checked, TypeCause, check_book, check_call, check_term};
-use poets_value::{List, Memory, Ty, push};
+use poets_value::{Memory, Ty};
 use std::alloc::Global;
 
 const BOOK: [&str; 4] = [
@@ -15,10 +15,7 @@ const BOOK: [&str; 4] = [
 
 // What the book declares.
 fn checked(alloc: Global) -> Result<Checked, Memory> {
-    let mut statements = List::new(alloc);
-    for text in &BOOK {
-        push(&mut statements, sentence(alloc, text)?)?;
-    }
+    let statements = statements(alloc, &BOOK)?;
     check_book(alloc, statements.as_slice()).or(Err(Memory))
 }
 
