@@ -25,7 +25,7 @@ fn by_rows(alloc: Global, text: &str) -> Result<Made, Memory> {
 fn equal_parts_are_one_row(rt: HostRuntime) -> Result<(), Memory> {
     for (text, count) in ROWS {
         let made = by_rows(rt.alloc(), text)?;
-        assert!(rt; is_made(rt.alloc(), &made, (text, count, 0))?, "{text}");
+        assert!(rt; is_made(rt.alloc(), made, (text, count, 0))?, "{text}");
     }
     Ok(())
 }

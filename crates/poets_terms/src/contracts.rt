@@ -1,13 +1,14 @@
 //! The book in which contracts are worked out, the event that comes, and what is made of a contract.
-ghost use Rattle.std.specs.Prelude.{IsTrue};
+ghost use Rattle.std.specs.Prelude.{IfOk, IsTrue};
 ghost use Rattle.poets_syntax.specs.Applied.{CountsFit};
 ghost use Rattle.poets_syntax.specs.Book.{book_of};
+ghost use Rattle.poets_syntax.specs.Checked.{IsChecked};
 ghost use Rattle.poets_syntax.specs.Contract.{contract_of};
 
 use crate::sentences::{contract, sentence, statements};
 use poets_call::{Command, Statement};
 use poets_guard::{GuardFault, study};
-use poets_syntax::{Studied, Term, same};
+use poets_syntax::{Book, Studied, Term, same};
 use poets_types::check_book;
 use poets_value::{Event, Memory};
 use std::alloc::Global;
@@ -20,13 +21,20 @@ const BOOK: [&str; 5] = [
     "template count(n: Int) = Success + transmit(a, b, r, t | amount(r) = n). count(n + 1)",
 ];
 
-/// The study of the book of these statements, which are checked.
-pub(crate) fn studied(alloc: Global, texts: &[&str]) -> Result<Studied, GuardFault> {
+// The book of these statements, which are checked.
+fn checked(alloc: Global, texts: &[&str]) -> Result<Book, Memory>
+    ensures { IfOk result (λ book. IsChecked (book_of book)) }
+{
     let statements = statements(alloc, texts)?;
-    match check_book(alloc, statements.as_slice()) {
-        Ok(checked) => study(alloc, checked.book),
-        Err(_) => Err(GuardFault::Memory),
-    }
+    let Ok(checked) = check_book(alloc, statements.as_slice()) else {
+        return Err(Memory);
+    };
+    Ok(checked.book)
+}
+
+/// The study of the book of these statements.
+pub(crate) fn studied(alloc: Global, texts: &[&str]) -> Result<Studied, GuardFault> {
+    study(alloc, checked(alloc, texts)?)
 }
 
 /// The book of the templates f, g and count.
@@ -50,7 +58,7 @@ pub(crate) type Made = (Term, u64, u64);
 /// Whether this is the contract of the text, has so many rows, and so much was asked for it.
 pub(crate) fn is_made(
     alloc: Global,
-    made: &Made,
+    made: Made,
     (text, rows, asked): (&str, u64, u64),
 ) -> Result<bool, Memory> {
     let wanted = contract(alloc, text)?;

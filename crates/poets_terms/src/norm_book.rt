@@ -48,9 +48,9 @@ const NORMAL: [Row; 2] = [
 // Whether the row holds of trees and of rows.
 fn is_normal(alloc: Global, studied: &Studied, row: &Row) -> Result<bool, Memory> {
     let term = contract(alloc, row.0)?;
-    let tree = by_tree(alloc, studied, &term)?;
-    let rows = by_rows(alloc, studied, &term)?;
-    Ok(is_made(alloc, &tree, row.1)? && is_made(alloc, &rows, row.1)?)
+    let tree = is_made(alloc, by_tree(alloc, studied, &term)?, row.1)?;
+    let rows = is_made(alloc, by_rows(alloc, studied, &term)?, row.1)?;
+    Ok(tree && rows)
 }
 
 #[test]

@@ -109,9 +109,9 @@ const STEPS: [Step; 9] = [
 fn is_taken(alloc: Global, studied: &Studied, step: &Step) -> Result<bool, Memory> {
     let term = contract(alloc, step.0)?;
     let event = delivered(alloc, step.1)?;
-    let tree = after(alloc, studied, &term, &event)?;
-    let rows = rows_after(alloc, studied, &term, &event)?;
-    Ok(is_made(alloc, &tree, step.2)? && is_made(alloc, &rows, step.2)?)
+    let tree = is_made(alloc, after(alloc, studied, &term, &event)?, step.2)?;
+    let rows = is_made(alloc, rows_after(alloc, studied, &term, &event)?, step.2)?;
+    Ok(tree && rows)
 }
 
 #[test]
@@ -172,9 +172,9 @@ fn takes_nothing(alloc: Global, studied: &Studied) -> Result<bool, Memory> {
     if studied.template(event.sender).is_some() {
         return Ok(false);
     }
-    let is_end = may_end_by_both(alloc, studied, &term)? != (false, false);
+    let may_end = may_end_by_both(alloc, studied, &term)?;
     let left = after(alloc, studied, &term, &event)?;
-    Ok(!is_end && matches!(left.0, Term::Failure))
+    Ok(is_made(alloc, left, ("Failure", 1, 0))? && may_end == (false, false))
 }
 
 #[test]
