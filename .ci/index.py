@@ -18,8 +18,10 @@ MODULE = re.compile(r"^ *ghost use (Rattle[^;\n{]*) as (\w+);", re.MULTILINE)
 WITHIN = re.compile(r"(?<![\w'.])(\w+)\.([^\s(){}\[\];,.\"]+)")
 CONTRACT = re.compile(
     r"^ *pub fn [^{]*?(?=^\s*(?:requires|ensures) |\{)(.*?)(?=^ *\{\s*$|^ *\{\}|;\s*$)", re.MULTILINE | re.DOTALL)
-# what callers see of a type, and what it keeps
-MODEL = re.compile(r"ghost (?:Value|view|invariant) = \{(.*?)\};", re.DOTALL)
+# what callers see of a type
+MODEL = re.compile(r"ghost (?:Value|view) = \{(.*?)\};", re.DOTALL)
+# what it keeps: of its private fields too, whose definitions may stand in specs/code
+KEPT = re.compile(r"ghost invariant = \{(.*?)\};", re.DOTALL)
 
 
 def comments_of(text):
@@ -82,6 +84,9 @@ def named(modules):
             found.update(standing(modules, *imports[word]) for word in WORD.findall(contract) if word in imports)
             found.update(
                 standing(modules, aliases[alias], word) for alias, word in WITHIN.findall(contract) if alias in aliases)
+        for kept in KEPT.findall(text):
+            places = [standing(modules, *imports[word]) for word in WORD.findall(kept) if word in imports]
+            found.update(place for place in places if place and ".code." not in place[0])
     return found - {None}
 
 

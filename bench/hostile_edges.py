@@ -144,35 +144,47 @@ def numbers_of_operators():
 
 
 def alternatives(first):
-    """143 transmissions to choose from, the first with this predicate. Where that is 4 wide, all are 1,000 wide."""
+    """143 transmissions to choose from, the first with this predicate. Where that has 4 nodes, all have 1,000."""
     return " + ".join(f"transmit(a, b, r, t | {first if at == 1 else f'amount(r) = {at}'}). Success"
                       for at in range(1, 144))
 
 
-def widths():
-    """Contracts of the widths 1,000 and 1,001, and transmissions after which as much is owed. An application is one
-    wider than its template's body."""
-    yield one_step("a width of 1000", "register c = " + alternatives("amount(r) = 1"), "registered 1")
-    yield one_step("a width of 1001", "register c = " + alternatives("not amount(r) = 1"), "too large")
+def doubles():
+    """Templates d0 to d8: the body of d(k) is 9 * 2^k - 3 wide."""
+    first = "template d0() = transmit(a, b, r, t | kind(r) = USD). Success;;\n"
+    return first + "".join(f"template d{k + 1}() = d{k}() || d{k}();;\n" for k in range(8))
+
+
+def spread_out(predicate):
+    """Applications that count 4,076 with their bodies, and a transmission with this predicate, which counts 3, its
+    continuation 1, and five `||` 3 each. So a predicate of two nodes makes a spread of 4,096."""
+    return f"d8() || d7() || d6() || d2() || d1() || transmit(a, b, r, t | {predicate}). Success"
+
+
+def sizes_and_spreads():
+    """Contracts of the sizes 1,000 and 1,001 and of the spreads 4,096 and 4,097, and transmissions after which as much is
+    owed."""
+    yield one_step("a size of 1000", "register c = " + alternatives("amount(r) = 1"), "registered 1")
+    yield one_step("a size of 1001", "register c = " + alternatives("not amount(r) = 1"), "too large")
     transmit = f"register c = transmit(a, b, r, t | {997 * 'not '}true). Success"
-    yield one_step("a transmit of the width 1000", transmit, "registered 1")
-    for width, first in ((1_000, "not not true"), (1_001, "amount(r) = 1")):
-        book = f"{HEAD}template wide() = {alternatives(first)};;\n"
-        reply = "registered 1" if width == 1_000 else "too large"
-        yield one_step(f"an application of the width {width}", "register c = wide()", reply, book)
-        later, event = "transmit(a, b, r, t | true). wide()", "transmit c ann bob 1 Oil @2006-01-01"
-        replies = (("recorded 1, may end no", "events 1, may end no, ended no, residual wide()") if width == 1_000
+    yield one_step("a transmit of the size 1000", transmit, "registered 1")
+    for spread, predicate in ((4_096, "not true"), (4_097, "not not true")):
+        book, owed = f"{HEAD}{doubles()}", spread_out(predicate)
+        reply = "registered 1" if spread == 4_096 else "too large"
+        yield one_step(f"a spread of {spread}", f"register c = {owed}", reply, book)
+        later, event = f"transmit(a, b, r, t | true). ({owed})", "transmit c ann bob 1 Oil @2006-01-01"
+        replies = (("recorded 1, may end no", f"events 1, may end no, ended no, residual {owed}") if spread == 4_096
                    else ("too large", f"events 0, may end no, ended no, residual {later}"))
         text = f"{book}clerk;; register c = {later};; {event};; show c;;"
         lines = (f"1 1: register c = {later} => registered 1\n2 1: {event} => {replies[0]}\n"
                  f"3 1: show c => {replies[1]}\n")
-        yield case(f"a residual of the width {width}", "run", text, 0, lines)
+        yield case(f"a residual of the spread {spread}", "run", text, 0, lines)
 
 
 def limits():
     """At and past the limits."""
     return [(declarations,), (numbers_of_commands,), (numbers_of_bytes,), (numbers_of_brackets,),
-            (numbers_of_operators,), (widths,)]
+            (numbers_of_operators,), (sizes_and_spreads,)]
 
 
 def nested(count, before, middle, after):

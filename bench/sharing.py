@@ -22,9 +22,9 @@ CONTRACTS = 400
 LOOKS = 5_000
 
 
-def like_parts(parts):
+def like_parts(parts, share=1):
     """Contracts of so many like deliveries side by side, of which ten are taken one by one."""
-    count = PARTS // parts
+    count = int(PARTS * share) // parts
     contract = "\n|| ".join([BARREL] * parts)
     lines = "".join(f"register c{i} = {contract};;\n" + 10 * TRANSMIT.format(f"c{i}") for i in range(count))
     return Case("run", (HEAD + "clerk;;\n" + lines).encode(), 11 * count)
@@ -35,48 +35,54 @@ def without_contract(case):
     return case._replace(text=case.text.replace(b"transmit c", b"transmit x"))
 
 
-def doubling():
+def doubling(share=1):
     """Contracts whose alternatives double with each of five transmissions; all of them are alike but for a number."""
     book = HEAD + (
         "template f(n: Int) = transmit(a, b, r, t | true). f(2 * n) + transmit(a, b, r, t | true). f(2 * n + 1);;\n")
     book = book.replace(" = transmit", " = Success + transmit", 1)
-    lines = "".join(f"register c{i} = f(1);;\n" + 5 * TRANSMIT.format(f"c{i}") for i in range(5 * CONTRACTS))
-    return Case("run", (book + "clerk;;\n" + lines).encode(), 30 * CONTRACTS)
+    count = int(5 * CONTRACTS * share)
+    lines = "".join(f"register c{i} = f(1);;\n" + 5 * TRANSMIT.format(f"c{i}") for i in range(count))
+    return Case("run", (book + "clerk;;\n" + lines).encode(), 6 * count)
 
 
-def two_ways():
+def two_ways(share=1):
     """Contracts of three like parts, each with two ways for a transmission, of which four are taken."""
     way = f"({BARREL} + transmit(a, b, r, t | r = [1 Oil]). {BARREL})"
     contract = "\n|| ".join([way] * 3)
-    lines = "".join(f"register c{i} = {contract};;\n" + 4 * TRANSMIT.format(f"c{i}") for i in range(CONTRACTS))
-    return Case("run", (HEAD + "clerk;;\n" + lines).encode(), 5 * CONTRACTS)
+    count = int(CONTRACTS * share)
+    lines = "".join(f"register c{i} = {contract};;\n" + 4 * TRANSMIT.format(f"c{i}") for i in range(count))
+    return Case("run", (HEAD + "clerk;;\n" + lines).encode(), 5 * count)
 
 
-def looks():
+def looks(share=1):
     """So many shows of a contract with ninety-nine different deliveries side by side."""
     parts = "\n|| ".join(f"transmit(a, b, r, t | r = [{i} Oil]). Success" for i in range(99))
-    return Case("run", (HEAD + f"clerk;;\nregister c = {parts};;\n" + "show c;;\n" * LOOKS).encode(), LOOKS + 1)
+    count = int(LOOKS * share)
+    return Case("run", (HEAD + f"clerk;;\nregister c = {parts};;\n" + "show c;;\n" * count).encode(), count + 1)
 
 
-def different_parts():
+def different_parts(share=1):
     """Contracts of ten different deliveries side by side, which are taken one by one."""
     parts = "\n|| ".join(f"transmit(a, b, r, t | amount(r) = {i}). Success" for i in range(10))
+    count = int(2_000 * share)
     lines = "".join(
         f"register c{number} = {parts};;\n"
         + "".join(f"transmit c{number} ann bob {i} Oil @2006-01-01;;\n" for i in reversed(range(10)))
-        for number in range(2_000))
-    return Case("run", (HEAD + "clerk;;\n" + lines).encode(), 22_000)
+        for number in range(count))
+    return Case("run", (HEAD + "clerk;;\n" + lines).encode(), 11 * count)
 
 
-def plain():
+def plain(share=1):
     """Transmissions on one contract that takes every one."""
-    text = HEAD + ANY + "clerk;;\nregister c = any();;\n" + TRANSMIT.format("c") * (COMMANDS - 1)
-    return Case("run", text.encode(), COMMANDS)
+    count = int(COMMANDS * share)
+    text = HEAD + ANY + "clerk;;\nregister c = any();;\n" + TRANSMIT.format("c") * (count - 1)
+    return Case("run", text.encode(), count)
 
 
-def demonstration():
+def demonstration(share=1):
     """The demonstration with 1,000 sales."""
-    return Case("demo 1000", b"", 40_008)
+    sales = int(1_000 * share)
+    return Case(f"demo {sales}", b"", 40 * sales + 8)
 
 
 def printed(program, case):

@@ -1,12 +1,13 @@
 -- Worked histories: their replies were written by hand, and each is the right one.
-use Rattle.std.proofs.Common.{arith, ◌≡◌, ℕ, zero, suc, ◌+◌, Bool, true, false, nat_lt, List, [], ◌∷◌, Some, None, if◌then◌else◌, ◌<◌, ◌≤◌, take, refl, inl, inr}
+use Rattle.std.proofs.Common.{◌≡◌, ℕ, zero, suc, ◌+◌, Bool, true, false, nat_lt, List, [], ◌∷◌, Some, None, if◌then◌else◌, take, refl, sym, ◌∙◌, subst, inl, inr}
 use Rattle.std.specs.Prelude.{ℤ, pos, IsTrue, ◌↔◌}
 use Rattle.poets_value.specs.declared.value.Name.{Name}
 use Rattle.poets_value.specs.declared.event.Event.{Event}
 use Rattle.poets_value.specs.declared.value.Ty.TheVariants as T
 use Rattle.poets_value.specs.declared.value.Value.TheVariants as V
 use Rattle.poets_expr.specs.declared.expr.Op.TheVariants as O
-use Rattle.poets_expr.specs.Env.{Declared, Env}
+use Rattle.poets_expr.specs.Env.{Declared, Env, same_name}
+use Rattle.poets_expr.proofs.SameTrees.{name_one}
 use Rattle.poets_expr.specs.Expression.{Expression, Literal, Named, Unary, Binary, Not, AmountOf, KindOf}
 use Rattle.poets_syntax.specs.declared.term.Binders.{Binders}
 use Rattle.poets_syntax.specs.Contract.{Contract}
@@ -14,6 +15,10 @@ use Rattle.poets_syntax.specs.Between.{Between}
 use Rattle.poets_syntax.specs.Perf.{Perf}
 use Rattle.poets_syntax.specs.May.{May}
 use Rattle.poets_syntax.specs.NoTemplates.{without_templates}
+use Rattle.poets_syntax.specs.Plain.{Book, Template}
+use Rattle.poets_syntax.specs.Book.{template_in}
+use Rattle.poets_syntax.specs.Marks.{Marks, AreRight, BodySatisfies, Hopeful}
+use Rattle.poets_syntax.proofs.Replacing.{truth}
 use Rattle.poets_report.specs.Keys.{Key, same_key}
 use Rattle.poets_report.specs.Plain.{Report, Answer}
 use Rattle.poets_report.specs.Reports.{folded, key_on, with_key}
@@ -23,7 +28,7 @@ use Rattle.poets_call.specs.Plain.{Command, Reply, Entry}
 use Rattle.poets_call.specs.Gathered.{recorded}
 use Rattle.poets_call.specs.Frame.{Frame}
 use Rattle.poets_call.specs.NoTemplates.{frame_without_templates}
-use Rattle.poets_syntax.specs.Width.{widest}
+use Rattle.std.proofs.lemmas.Bool.{false≢true}
 use Rattle.poets_call.specs.Replies.{Legal}
 
 abbrev name : ℕ → Name
@@ -88,8 +93,8 @@ c = name 31
 abbrev d : Name
 d = name 32
 
-is_not_too_large : {n : ℕ} → n ≤ widest → widest < n → ⊥
-is_not_too_large small large = omega (arith, small, large)
+is_not_too_large : {past : Bool} → past ≡ false → IsTrue past → ⊥
+is_not_too_large within past = false≢true (sym within ∙ past)
 
 -- a contract is registered, shown and ended once; a second one of its name, and an event that it does not want, are refused
 abbrev first_day : List Entry
@@ -120,7 +125,7 @@ no e = absurd cc
 
 pub first_day_is_legal : Legal frame first_day
 first_day_is_legal =
-    let h₁ : Legal frame (take 1 first_day) = Legal.More _ Legal.Empty (inr ((0, May.Done), inr (is_not_too_large (omega arith), refl))) in
+    let h₁ : Legal frame (take 1 first_day) = Legal.More _ Legal.Empty (inr ((0, May.Done), inr (is_not_too_large refl, refl))) in
     let h₂ : Legal frame (take 2 first_day) = Legal.More _ h₁ refl in
     let h₃ : Legal frame (take 3 first_day) = Legal.More _ h₂ (inr (no, inl (λ m. success_is_over m.1, refl))) in
     let h₄ : Legal frame (take 4 first_day) = Legal.More _ h₃ (true, success_is_performed, refl) in
@@ -181,16 +186,16 @@ seven_moved k = at_oil (same_key k (Some (V.Kind oil))) refl
 
 pub trade_is_legal : Legal frame trade
 trade_is_legal =
-    let h₁ : Legal frame (take 1 trade) = Legal.More _ Legal.Empty (inr ((2, May.Granted (May.Granted May.Done)), inr (is_not_too_large (omega arith), refl))) in
-    let h₂ : Legal frame (take 2 trade) = Legal.More _ h₁ (inr ((0, May.Done), inr (is_not_too_large (omega arith), refl))) in
+    let h₁ : Legal frame (take 1 trade) = Legal.More _ Legal.Empty (inr ((2, May.Granted (May.Granted May.Done)), inr (is_not_too_large refl, refl))) in
+    let h₂ : Legal frame (take 2 trade) = Legal.More _ h₁ (inr ((0, May.Done), inr (is_not_too_large refl, refl))) in
     let h₃ : Legal frame (take 3 trade) = Legal.More _ h₂ refl in
     let h₄ : Legal frame (take 4 trade) = Legal.More _ h₃
-    (inr (no, inr ((1, May.Taken refl (May.Granted May.Done)), inr (is_not_too_large (omega arith), (false, is_not, refl))))) in
+    (inr (no, inr ((1, May.Taken refl (May.Granted May.Done)), inr (is_not_too_large refl, (false, is_not, refl))))) in
     let h₅ : Legal frame (take 5 trade) = Legal.More _ h₄ (inr (no, refl)) in
     let h₆ : Legal frame (take 6 trade) = Legal.More _ h₅ (false, is_not, refl) in
     let h₇ : Legal frame (take 7 trade) = Legal.More _ h₆ (inr (no, inl (one_is_too_few, refl))) in
     let h₈ : Legal frame (take 8 trade) = Legal.More _ h₇
-    (inr (no, inr ((0, May.Taken refl (May.Taken refl May.Done)), inr (is_not_too_large (omega arith), (true, (λ _. two_are_enough, λ _. refl), refl))))) in
+    (inr (no, inr ((0, May.Taken refl (May.Taken refl May.Done)), inr (is_not_too_large refl, (true, (λ _. two_are_enough, λ _. refl), refl))))) in
     let h₉ : Legal frame (take 9 trade) = Legal.More _ h₈
     (moved, refl, (Answer.Rows ((Some (V.Kind oil), Some (V.Int (pos 7))) ∷ []), rows_by_key declared moved [] _ _ _ tt seven_moved, refl)) in
     let h₁₀ : Legal frame (take 10 trade) = Legal.More _ h₉ refl in
@@ -241,13 +246,13 @@ pub either_side_is_legal : Legal frame either_side
 either_side_is_legal =
     let first : Between (moves (pos 1) 1 ∷ []) [] (moves (pos 1) 1 ∷ []) = Between.First Between.Empty in
     let h₁ : Legal frame (take 1 either_side) = Legal.More _ Legal.Empty
-    (inr ((3, May.Beside Between.Empty refl (May.Granted May.Done) (May.Granted (May.Granted May.Done))), inr (is_not_too_large (omega arith), refl))) in
+    (inr ((3, May.Beside Between.Empty refl (May.Granted May.Done) (May.Granted (May.Granted May.Done))), inr (is_not_too_large refl, refl))) in
     let h₂ : Legal frame (take 2 either_side) = Legal.More _ h₁
     (inr (
       no,
       inr (
         (2, May.Beside first refl (May.Taken refl May.Done) (May.Granted (May.Granted May.Done))),
-        inr (is_not_too_large (omega arith), (false, not_both, refl)),
+        inr (is_not_too_large refl, (false, not_both, refl)),
       ),
     )) in
     Legal.More _ h₂ (false, not_both, refl)
@@ -260,7 +265,7 @@ nots (suc n) = Unary Not (nots n)
 abbrev wide_by : ℕ → Contract
 wide_by n = Contract.Transmit binders (nots n) Contract.Success
 
--- a width of 1000 is taken, and one of 1001 is not
+-- a size of 1000 is taken, and one of 1001 is not
 abbrev at_the_limit : List Entry
 at_the_limit =
     by 1 (Command.Register a (wide_by 998)) Reply.TooLarge
@@ -269,5 +274,70 @@ at_the_limit =
 
 pub at_the_limit_is_legal : Legal frame at_the_limit
 at_the_limit_is_legal =
-    let h₁ : Legal frame (take 1 at_the_limit) = Legal.More _ Legal.Empty (inr ((1, May.Granted May.Done), inl (omega arith, refl))) in
-    Legal.More _ h₁ (inr ((1, May.Granted May.Done), inr (is_not_too_large (omega arith), refl)))
+    let h₁ : Legal frame (take 1 at_the_limit) = Legal.More _ Legal.Empty (inr ((1, May.Granted May.Done), inl (refl, refl))) in
+    Legal.More _ h₁ (inr ((1, May.Granted May.Done), inr (is_not_too_large refl, refl)))
+
+-- template filled(n: Int) = transmit(s, v, r, t | ..). Success, of size 1000
+abbrev filled : Name
+filled = name 40
+
+abbrev filled_template : Template
+filled_template = record { name = filled; params = record { name = name 41; ty = T.Int } ∷ []; body = wide_by 997 }
+
+abbrev one_template : Book
+one_template = record { declared = declared; templates = filled_template ∷ [] }
+
+abbrev one_mark : Marks
+one_mark = record { nullable = λ f. false; hopeful = λ f. same_name filled f }
+
+template_is : (f : Name) (t : Template) → template_in one_template.templates f ≡ Some t → (filled ≡ f) × (filled_template ≡ t)
+template_is f t q = elim (truth (same_name filled f)) [
+  | inl e ↦ (name_one filled f e, some_one (rw e at q))
+  | inr e ↦ (let none : _ = rw e at q in absurd cc)
+]
+  where
+    some_one : {x y : Template} → Some x ≡ Some y → x ≡ y
+    some_one e = cc
+
+pub mark_is_right : AreRight one_template one_mark
+mark_is_right = record {
+  nullable = λ f. (λ e. absurd (no e), λ h. absurd (no_transmit (subst (λ t. Perf one_template [] t.body []) (sym (template_is f h.0 h.1).1) h.2)));
+  hopeful = λ f. (
+    λ e. subst (λ g. BodySatisfies one_template (Hopeful one_template) g) (name_one filled f e) (filled_template, refl, (1, May.Granted May.Done)),
+    λ h. subst (λ g. same_name filled g ≡ true) (template_is f h.0 h.1).0 refl,
+  );
+}
+  where
+    no_transmit : Perf one_template [] (wide_by 997) [] → ⊥
+    no_transmit p = elim p [ ]
+
+abbrev one_frame : Frame
+one_frame = record { book = one_template; reports = []; marks = one_mark; right = mark_is_right }
+
+abbrev filled_with : ℕ → Contract
+filled_with n = Contract.App filled (Literal (V.Int (pos n)) ∷ [])
+
+abbrev five : (i j k l m : ℕ) → Contract
+five i j k l m =
+    Contract.Par (Contract.Par (Contract.Par (Contract.Par (filled_with i) (filled_with j)) (filled_with k)) (filled_with l)) (filled_with m)
+
+five_hopeful : (i j k l m : ℕ) → Hopeful one_template (five i j k l m)
+five_hopeful i j k l m = (5, beside (beside (beside (beside (one i) (one j)) (one k)) (one l)) (one m))
+  where
+    one : (n : ℕ) → May one_template [] (filled_with n) [] 1
+    one n = May.Body refl refl (May.Granted May.Done)
+
+    beside : {n : ℕ} {x y : Contract} → May one_template [] x [] n → May one_template [] y [] 1 → May one_template [] (Contract.Par x y) [] (n + 1)
+    beside p q = May.Beside Between.Empty refl p q
+
+-- the bodies of different applications count each, that of equal ones once: a spread of 4020 is taken, and one of 5022 is not
+abbrev far_spread : List Entry
+far_spread =
+    by 1 (Command.Register a (five 1 2 3 4 5)) Reply.TooLarge
+    ∷ by 1 (Command.Register a (five 1 1 2 3 4)) (Reply.Registered 1)
+    ∷ []
+
+pub far_spread_is_legal : Legal one_frame far_spread
+far_spread_is_legal =
+    let h₁ : Legal one_frame (take 1 far_spread) = Legal.More _ Legal.Empty (inr (five_hopeful 1 2 3 4 5, inl (refl, refl))) in
+    Legal.More _ h₁ (inr (five_hopeful 1 1 2 3 4, inr (is_not_too_large refl, refl)))

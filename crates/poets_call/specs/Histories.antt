@@ -33,12 +33,14 @@ AnswersIn book reports calls command reply = InFrame book reports (λ f. Answers
 
 -- a look at a contract: the entry shows this residual
 abbrev pub shown : (clerk : ℕ) → Name → Contract → (count : ℕ) → (may_end ended : Bool) → Entry
-shown clerk x residual count may_end ended = record { clerk = clerk; command = Command.Show x; reply = Reply.Shown residual count may_end ended }
+shown clerk x residual count may_end ended =
+    record { clerk = clerk; command = Command.Show x; reply = Reply.Shown residual count may_end ended }
 
 -- each residual that is shown is performed by exactly the completions of the contract's recorded trace
 abbrev pub ShowsCompletions : Book → List Entry → Type 0
 ShowsCompletions book h =
-    (before after : List Entry) (clerk : ℕ) (x : Name) (residual : Contract) (count : ℕ) (may_end ended : Bool) (number : ℕ) (original : Contract)
+    (before after : List Entry) (clerk : ℕ) (x : Name) (residual : Contract) (count : ℕ) (may_end ended : Bool)
+    (number : ℕ) (original : Contract)
     → h ≡ before ++ shown clerk x residual count may_end ended ∷ after
     → contract_named (ledger_of before) x ≡ Some (number, original)
     → (s : List Event) → Perf book [] residual s ↔ Perf book [] original (trace (ledger_of before) number ++ s)

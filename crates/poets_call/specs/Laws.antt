@@ -1,4 +1,5 @@
--- The laws of replies, histories and typed commands, and what checks of types say by the rules of typing, as statements.
+-- The laws of replies, histories and typed commands, and what checks of types say by the rules of typing, as
+-- statements.
 use Rattle.std.specs.Prelude.{◌≡◌, ◌↔◌, List, Some, length}
 use Rattle.poets_value.specs.declared.value.Name.{Name}
 use Rattle.poets_value.specs.declared.event.Event.{Event}
@@ -43,11 +44,15 @@ AnyFrameAnswers = (f : Frame) (calls : List Call) (command : Command) (r : Reply
 
 -- a template passes exactly where it is typed by the rules
 abbrev pub TemplatesByRules : Type 0
-TemplatesByRules = (book : Book) (reports : List Name) (t : Template) → check_template book reports t ≡ Passes tt ↔ IsTypedTemplate book reports t
+TemplatesByRules =
+    (book : Book) (reports : List Name) (t : Template) →
+    check_template book reports t ≡ Passes tt ↔ IsTypedTemplate book reports t
 
 -- a report passes exactly where it is typed by the rules
 abbrev pub ReportsByRules : Type 0
-ReportsByRules = (book : Book) (reports : List Name) (q : Report) → check_report book reports q ≡ Passes tt ↔ IsTypedReport book reports q
+ReportsByRules =
+    (book : Book) (reports : List Name) (q : Report) →
+    check_report book reports q ≡ Passes tt ↔ IsTypedReport book reports q
 
 -- a command passes exactly where it is typed by the rules
 abbrev pub CommandsByRules : Type 0

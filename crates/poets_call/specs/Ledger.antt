@@ -1,5 +1,6 @@
 -- The ledger: the lists that are gathered from a history.
-use Rattle.std.specs.Prelude.{ℕ, zero, suc, Bool, List, [], ◌∷◌, ◌++◌, Option, Some, None, map, filter, fold, nat_eq, slice_get, if◌then◌else◌, ℤ, int_lt}
+use Rattle.std.specs.Prelude.{ℕ, zero, suc, Bool, Option, Some, None, nat_eq, if◌then◌else◌, ℤ, int_lt}
+use Rattle.std.specs.Prelude.{List, [], ◌∷◌, ◌++◌, map, filter, fold, slice_get}
 use Rattle.std.specs.List.{list_any}
 use Rattle.poets_value.specs.declared.value.Name.{Name}
 use Rattle.poets_value.specs.declared.event.Event.{Event}
@@ -40,10 +41,13 @@ number_of ledger x = number_in (contract_named ledger x)
 
 -- with an entry: only accepted commands add to the ledger
 abbrev pub with_entry : Ledger → Command → Reply → Ledger
-with_entry ledger (Command.Register x c) (Reply.Registered n) = record ledger { contracts = ledger.contracts ++ (x, c) ∷ [] }
-with_entry ledger (Command.Transmit x e) (Reply.Recorded n may_end) = record ledger { log = ledger.log ++ (number_of ledger x, e) ∷ [] }
+with_entry ledger (Command.Register x c) (Reply.Registered n) =
+    record ledger { contracts = ledger.contracts ++ (x, c) ∷ [] }
+with_entry ledger (Command.Transmit x e) (Reply.Recorded n may_end) =
+    record ledger { log = ledger.log ++ (number_of ledger x, e) ∷ [] }
 with_entry ledger (Command.End x) Reply.EndedNow = record ledger { ends = ledger.ends ++ number_of ledger x ∷ [] }
-with_entry ledger (Command.Watch q args) (Reply.Watching n) = record ledger { watches = ledger.watches ++ (q, args) ∷ [] }
+with_entry ledger (Command.Watch q args) (Reply.Watching n) =
+    record ledger { watches = ledger.watches ++ (q, args) ∷ [] }
 with_entry ledger _ _ = ledger
 
 -- the entries of a history taken in order

@@ -1,5 +1,6 @@
 -- The reply to a command after a history.
-use Rattle.std.specs.Prelude.{◌≡◌, ℕ, ◌+◌, ◌<◌, ℤ, pos, ◌+ℤ◌, Bool, IsTrue, ◌↔◌, ◌⊎◌, List, [], ◌∷◌, ◌++◌, Option, Some, None, map, fold, length, if◌then◌else◌}
+use Rattle.std.specs.Prelude.{◌≡◌, ℕ, ◌+◌, ℤ, pos, ◌+ℤ◌, Bool, IsTrue, ◌↔◌, ◌⊎◌, Option, Some, None, if◌then◌else◌}
+use Rattle.std.specs.Prelude.{List, [], ◌∷◌, ◌++◌, map, fold, length}
 use Rattle.std.specs.List.{AllZip}
 use Rattle.poets_value.specs.declared.value.Name.{Name}
 use Rattle.poets_value.specs.declared.event.Event.{Event}
@@ -15,13 +16,14 @@ use Rattle.poets_syntax.specs.Perf.{Perf}
 use Rattle.poets_syntax.specs.May.{May}
 use Rattle.poets_syntax.specs.Marks.{Hopeful}
 use Rattle.poets_syntax.specs.Normal.{normal}
-use Rattle.poets_syntax.specs.Width.{width, widest}
+use Rattle.poets_syntax.specs.Spread.{is_past_limit}
 use Rattle.poets_syntax.specs.Residual.{residual_after}
 use Rattle.poets_report.specs.Plain.{Report, Answer}
 use Rattle.poets_report.specs.Answers.{IsAnswer}
 use Rattle.poets_call.specs.Plain.{Command, Reply, Entry}
 use Rattle.poets_call.specs.Calls.{Call, calls_of}
-use Rattle.poets_call.specs.Ledger.{Ledger, ledger_of, contract_named, number_of, trace, events, is_ended, late_day, first_absent, watch_at}
+use Rattle.poets_call.specs.Ledger.{Ledger, ledger_of, contract_named, number_of, trace, events, is_ended, late_day}
+use Rattle.poets_call.specs.Ledger.{first_absent, watch_at}
 use Rattle.poets_call.specs.Frame.{Frame}
 
 -- the first where the condition holds, else the second
@@ -32,8 +34,9 @@ When Condition First Second = (Condition × First) ⊎ ((Condition → ⊥) × S
 abbrev pub Unless : Type 0 → Type 0 → Type 0 → Type 0
 Unless Condition First Second = ((Condition → ⊥) × First) ⊎ (Condition × Second)
 
+-- the contract is past the limit
 abbrev pub IsTooLarge : Frame → Contract → Type 0
-IsTooLarge f c = widest < width f.book f.marks c
+IsTooLarge f c = IsTrue (is_past_limit f.book f.marks c)
 
 -- some number of granted steps after the trace performs it
 abbrev pub CanGoOn : Frame → Contract → List Event → Type 0
@@ -122,14 +125,16 @@ Shows f ledger x (Some named) r =
 -- to a tally of the report with a name over events
 abbrev pub Tallies : Frame → Name → List Expression → List Event → Reply → Type 0
 Tallies f x args s r =
-    (q : Report) × (report_in f.reports x ≡ Some q) × ((a : Answer) × AnswersReport f q args s a × (r ≡ Reply.Answered a))
+    (q : Report) × (report_in f.reports x ≡ Some q) × ((a : Answer)
+    × AnswersReport f q args s a × (r ≡ Reply.Answered a))
 
 -- `absent` is the first listed name that no contract has, if there is one
 abbrev pub GivesFolio : Frame → Ledger → Name → List Expression → List Name → (absent : Option Name) → Reply → Type 0
 GivesFolio f ledger x args over (Some absent) r = r ≡ Reply.NoContract absent
 GivesFolio f ledger x args over None r =
     (q : Report) × (report_in f.reports x ≡ Some q)
-    × ((rows : List (Name × Answer)) × AreFolioRows f ledger q args over rows × (r ≡ Reply.Folio rows (total_of q rows)))
+    × ((rows : List (Name × Answer))
+    × AreFolioRows f ledger q args over rows × (r ≡ Reply.Folio rows (total_of q rows)))
 
 abbrev pub Watches : Ledger → Reply → Type 0
 Watches ledger r = r ≡ Reply.Watching (length ledger.watches + 1)

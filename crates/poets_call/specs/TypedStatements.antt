@@ -8,7 +8,8 @@ use Rattle.poets_expr.specs.Expression.{Expression}
 use Rattle.poets_expr.specs.Env.{Declared}
 use Rattle.poets_syntax.specs.Plain.{Book, Unknown}
 use Rattle.poets_syntax.specs.TypeOf.{Verdict, Passes, Fails, ◌>>=◌, Scope, must_be, name_type, type_of}
-use Rattle.poets_syntax.specs.Typed.{is_among, in_use, check_new, names_bound, types_bound, scope_of, check_type, check_arguments, check_contract}
+use Rattle.poets_syntax.specs.Typed.{is_among, in_use, check_new, names_bound, types_bound, scope_of}
+use Rattle.poets_syntax.specs.Typed.{check_type, check_arguments, check_contract}
 use Rattle.poets_call.specs.Replies.{report_in}
 use Rattle.poets_call.specs.Said.{Statement, Template, Report, Command, Numbered}
 use Rattle.poets_call.specs.Declarations.{names_declared, book_from, reports_of}
@@ -65,9 +66,12 @@ check_report_arguments declared x (Some q) args = check_arguments declared [] x 
 abbrev pub check_command : Book → List plain.Report → plain.Command → Verdict (Unit {0})
 check_command book reports (plain.Command.Register x c) = check_contract book (report_names reports) [] c
 check_command book reports (plain.Command.Transmit x e) = check_event book.declared e
-check_command book reports (plain.Command.Tally x args) = check_report_arguments book.declared x (report_in reports x) args
-check_command book reports (plain.Command.Portfolio x args over) = check_report_arguments book.declared x (report_in reports x) args
-check_command book reports (plain.Command.Watch x args) = check_report_arguments book.declared x (report_in reports x) args
+check_command book reports (plain.Command.Tally x args) =
+    check_report_arguments book.declared x (report_in reports x) args
+check_command book reports (plain.Command.Portfolio x args over) =
+    check_report_arguments book.declared x (report_in reports x) args
+check_command book reports (plain.Command.Watch x args) =
+    check_report_arguments book.declared x (report_in reports x) args
 check_command book reports _ = Passes tt
 
 abbrev pub check_statement : Book → List plain.Report → Statement → Verdict (Unit {0})
@@ -86,7 +90,8 @@ or_else (Fails fault) number others = Some (number, fault)
 abbrev pub twice_from : ℕ → (earlier : List Name) → List Statement → TypeFault
 twice_from number earlier [] = None
 twice_from number earlier (s ∷ statements) =
-    or_else (check_new (is_among earlier) [] (names_declared s)) number (twice_from (number + 1) (names_declared s ++ earlier) statements)
+    or_else (check_new (is_among earlier) [] (names_declared s)) number
+    (twice_from (number + 1) (names_declared s ++ earlier) statements)
 
 -- the first fault of types
 abbrev pub mistyped_from : ℕ → Book → List plain.Report → List Statement → TypeFault

@@ -12,7 +12,8 @@ use Rattle.poets_syntax.specs.Typed.{in_use, names_bound, types_bound, scope_of}
 use Rattle.poets_syntax.specs.Typing.{Has, Fit, AreNew, IsTyped}
 use Rattle.poets_syntax.specs.WellFormed.{IsDeclaredEvent}
 use Rattle.poets_report.specs.Plain.{Report}
-use Rattle.poets_call.specs.Plain.{Command, Register, Transmit as Transmission, End, Show, Tally, Portfolio, Watch, Read}
+use Rattle.poets_call.specs.Plain.{Command, Register, Transmit as Transmission, End, Show}
+use Rattle.poets_call.specs.Plain.{Tally, Portfolio, Watch, Read}
 use Rattle.poets_call.specs.Replies.{report_in}
 use Rattle.poets_call.specs.TypedStatements.{report_names}
 
@@ -21,8 +22,8 @@ pub data HasKey (declared : Declared) (scope : Scope) : Option Expression → Ty
   NoKey : HasKey declared scope None
   AKey : {e : Expression} {t : Ty} → Has declared scope e t → HasKey declared scope (Some e)
 
--- a report: new parameters; a start of its type; new names for the value so far and the parts of an event; a step of its type;
--- and a key, which does not see the value so far
+-- a report: new parameters; a start of its type; new names for the value so far and the parts of an event; a step of
+-- its type; and a key, which does not see the value so far
 pub record IsTypedReport (book : Book) (reports : List Name) (q : Report) : Type 0 where
   pub params : AreNew (in_use book reports) [] (map (λ p. p.name) q.params)
   pub start : Has book.declared (scope_of q.params) q.start q.ty
@@ -38,11 +39,19 @@ pub record IsTypedCall (book : Book) (reports : List Report) (x : Name) (args : 
 
 -- a command; contracts' names are a space of their own, in which nothing is declared
 pub data IsTypedCommand (book : Book) (reports : List Report) : Command → Type 0 where
-  Registers : {x : Name} {c : Contract} → IsTyped book (report_names reports) [] c → IsTypedCommand book reports (Register x c)
+  Registers :
+      {x : Name} {c : Contract} → IsTyped book (report_names reports) [] c →
+      IsTypedCommand book reports (Register x c)
   Delivers : {x : Name} {e : Event} → IsDeclaredEvent book.declared e → IsTypedCommand book reports (Transmission x e)
   Ends : {x : Name} → IsTypedCommand book reports (End x)
   Looks : {x : Name} → IsTypedCommand book reports (Show x)
-  Tallies : {x : Name} {args : List Expression} → IsTypedCall book reports x args → IsTypedCommand book reports (Tally x args)
-  Lists : {x : Name} {args : List Expression} {over : List Name} → IsTypedCall book reports x args → IsTypedCommand book reports (Portfolio x args over)
-  Watches : {x : Name} {args : List Expression} → IsTypedCall book reports x args → IsTypedCommand book reports (Watch x args)
+  Tallies :
+      {x : Name} {args : List Expression} → IsTypedCall book reports x args →
+      IsTypedCommand book reports (Tally x args)
+  Lists :
+      {x : Name} {args : List Expression} {over : List Name} → IsTypedCall book reports x args →
+      IsTypedCommand book reports (Portfolio x args over)
+  Watches :
+      {x : Name} {args : List Expression} → IsTypedCall book reports x args →
+      IsTypedCommand book reports (Watch x args)
   Reads : {n : ℕ} → IsTypedCommand book reports (Read n)

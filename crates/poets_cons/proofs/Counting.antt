@@ -118,8 +118,8 @@ module _ (nodes : List Node) (table : IsTable nodes) where
   read : (i : ℕ) (d : Contract) → i < length (contracts_of nodes) → get_or (contracts_of nodes) i d ≡ contract_at nodes i
   read i d l = sym (get_or_from_slice_get (contracts_of nodes) i (get_or (contracts_of nodes) i d) C.Failure (slice_get-get_or (contracts_of nodes) i d l))
 
-  apart : IsDistinct same_contract (contracts_of nodes)
-  apart = IsDistinct-from_apart same_contract (contracts_of nodes) (λ i j d l m.
+  pub contracts_apart : IsDistinct same_contract (contracts_of nodes)
+  contracts_apart = IsDistinct-from_apart same_contract (contracts_of nodes) (λ i j d l m.
       let n = length-contracts nodes in
       let k = length-map nodes row_of in
       elim (truth (same_contract (get_or (contracts_of nodes) i d) (get_or (contracts_of nodes) j d))) [
@@ -134,8 +134,8 @@ module _ (nodes : List Node) (table : IsTable nodes) where
       ])
 
   module _ (root : IsRooted nodes) where
-    member : (q : Contract) → list_any (same_contract q) (contracts_of nodes) ≡ list_any (same_contract q) (subterms (contract_of_rows nodes))
-    member q =
+    pub contracts_member : (q : Contract) → list_any (same_contract q) (contracts_of nodes) ≡ list_any (same_contract q) (subterms (contract_of_rows nodes))
+    contracts_member q =
         let n = length-contracts nodes in
         both_ways (list_any (same_contract q) (contracts_of nodes)) (list_any (same_contract q) (subterms (contract_of_rows nodes)))
         (λ h.
@@ -148,4 +148,4 @@ module _ (nodes : List Node) (table : IsTable nodes) where
         list_any_at (same_contract q) (contracts_of nodes) found.0 C.Failure (omega (arith, n, found.1)) found.2)
 
     pub counted : length nodes ≡ subterm_count (contract_of_rows nodes)
-    counted = sym (length-contracts nodes) ∙ length-from_keys contract_laws (contracts_of nodes) (subterms (contract_of_rows nodes)) apart member
+    counted = sym (length-contracts nodes) ∙ length-from_keys contract_laws (contracts_of nodes) (subterms (contract_of_rows nodes)) contracts_apart contracts_member

@@ -9,3 +9,11 @@ pub mod Copied
 pub mod Rooting
 pub mod Counting
 mod Loading
+pub mod Ordered
+pub mod Shapes
+pub mod Apart
+pub mod ShapeTables
+pub mod Classing
+pub mod Weights
+pub mod Formed
+pub mod Alikeness

@@ -1,6 +1,8 @@
 -- What a table of rows stands for.
-use Rattle.std.specs.Prelude.{◌≡◌, ◌⊎◌, ℕ, ◌-◌, ◌<◌, ◌≤◌, List, [], ◌∷◌, ◌++◌, map, length, slice_get, Some, if◌then◌else◌}
+use Rattle.std.specs.Prelude.{◌≡◌, ◌⊎◌, ℕ, ◌-◌, ◌<◌, ◌≤◌, List, [], ◌∷◌, ◌++◌, map, length, slice_get, Some}
+use Rattle.std.specs.Prelude.{if◌then◌else◌}
 use Rattle.std.specs.List.{IsDistinct, list_any, slice_index_or}
+use Rattle.poets_syntax.specs.Alike.{Alike}
 use Rattle.poets_syntax.specs.Contract.{Contract, Failure}
 use Rattle.poets_cons.specs.declared.node.Node.{Node}
 use Rattle.poets_cons.specs.Row.{Row, row_of, contract_by, IsPart, AreBelow}
@@ -67,6 +69,10 @@ pub record Stands (nodes : List Node) (place : ℕ) (c : Contract) : Type 0 wher
   pub within : place < length nodes
   pub contract : contract_at nodes place ≡ c
 
+-- the contracts of two rows are alike
+abbrev pub AreAlikeAt : List Node → (a b : ℕ) → Type 0
+AreAlikeAt nodes a b = Alike (contract_at nodes a) (contract_at nodes b)
+
 -- rows were added at the end
 abbrev pub Extends : List Node → List Node → Type 0
 Extends old new = (more : List Node) × (new ≡ old ++ more)
@@ -77,4 +83,5 @@ AddsReached old new root = (k : ℕ) → length old ≤ k → k < length new →
 
 -- each new row is reached from one of two
 abbrev pub AddsReachedBoth : List Node → List Node → ℕ → ℕ → Type 0
-AddsReachedBoth old new a b = (k : ℕ) → length old ≤ k → k < length new → Reached (rows_of new) a k ⊎ Reached (rows_of new) b k
+AddsReachedBoth old new a b =
+    (k : ℕ) → length old ≤ k → k < length new → Reached (rows_of new) a k ⊎ Reached (rows_of new) b k

@@ -2,14 +2,18 @@
 #![tactic(auto)]
 
 mod arena;
+mod classes;
 mod copying;
 mod entering;
 mod equality;
+mod form;
 mod hashing;
 mod node;
 mod notes;
 mod replacing;
 mod rows;
+mod runs;
+mod shape;
 
 pub use arena::{Arena, node_at};
 pub use entering::enter;

@@ -1,8 +1,7 @@
 -- What normal forms and residuals tell of the original.
-use Rattle.std.proofs.Common.{◌≡◌, ◌≢◌, ℕ, ◌<◌, ◌≤◌, true, false, nat_lt, List, [], refl, sym, subst, arith, append-nil}
+use Rattle.std.proofs.Common.{◌≡◌, ◌≢◌, ℕ, true, false, List, [], refl, sym, subst, append-nil}
 use Rattle.std.specs.List.{All}
 use Rattle.std.specs.Prelude.{◌↔◌}
-use Rattle.std.proofs.lemmas.Bool.Decides.{nat_tests}
 use Rattle.poets_value.specs.declared.event.Event.{Event}
 use Rattle.poets_syntax.specs.Contract.{Contract, Failure}
 use Rattle.poets_syntax.specs.WellFormed.{IsWellFormed, IsDeclaredEvent}
@@ -17,7 +16,6 @@ use Rattle.poets_norm.proofs.Meaning.{normal_in, normal_out}
 use Rattle.poets_norm.proofs.Hope.{IsFailureOrHopeful-normal, failure_is_hopeless, hopeful_unless_failure}
 use Rattle.poets_residue.specs.Unfolding.{IsStudied}
 use Rattle.poets_residue.proofs.Traces.{trace_in, trace_hopeless, trace_hopeful, trace_performed}
-use Rattle.poets_syntax.specs.Width.{cut, widest}
 use Rattle.poets_engine.specs.code.Judgements.{is_failure}
 
 pub failure_is : (c : Contract) → is_failure c ≡ true → c ≡ Failure
@@ -27,15 +25,6 @@ failure_is _ e = absurd cc
 pub no_failure : (c : Contract) → is_failure c ≡ false → c ≢ Failure
 no_failure Failure e h = absurd cc
 no_failure _ e h = absurd cc
-
-pub past_limit : (n : ℕ) → nat_lt widest n ≡ true → widest < n
-past_limit n e = grind (arith, nat_tests, e)
-
-pub within_limit : (n : ℕ) → nat_lt widest n ≡ false → n ≤ widest
-within_limit n e = grind (arith, nat_tests, e)
-
-pub nat_lt-cut : (n m : ℕ) → m ≡ cut n → nat_lt widest m ≡ nat_lt widest n
-nat_lt-cut n m e = grind (arith, nat_tests, e)
 
 module _ (book : Book) (marks : Marks) (study : IsStudied book marks) where
   pub normal_hopeless : (c : Contract) → IsWellFormed book.declared c → normal book marks c ≡ Failure → Hopeful book c → ⊥

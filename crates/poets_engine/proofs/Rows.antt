@@ -25,7 +25,7 @@ use Rattle.poets_norm.proofs.WholeNormals.{IsWhole-normal}
 use Rattle.poets_syntax.specs.Marks.{Hopeful}
 use Rattle.poets_syntax.specs.Residual.{after}
 use Rattle.poets_syntax.specs.Normal.{normal}
-use Rattle.poets_syntax.specs.Width.{width, widest}
+use Rattle.poets_residue.specs.Limits.{is_past_limit_in}
 use Rattle.poets_residue.specs.Unfolding.{IsStudied}
 use Rattle.poets_residue.proofs.Traces.{residual_after-more, trace_fit}
 use Rattle.poets_cons.specs.declared.node.Node.{Node}
@@ -76,7 +76,7 @@ row_same s l m i r events ended h = record {
   days = h.days;
   current = h.current;
   hopeful = h.hopeful;
-  narrow = h.narrow;
+  within_limit = h.within_limit;
   whole_original = h.whole_original;
   whole_events = h.whole_events;
   whole_current = h.whole_current;
@@ -95,8 +95,8 @@ rows_added s l x c i (q ∷ rows) r h k = (
 pub new_row_is : (s : StudiedBook) (l : Ledger) (x : Name) (c : Contract) (n : ℕ) (original : Term) (current : List Node) →
     All (λ p. p.0 ≤ n) l.log → All (λ m. m ≤ n) l.ends → IsWellFormed (book_in s).declared (contract_of original) → CountsFit (book_in s) (contract_of original) →
     contract_of_rows current ≡ normal (book_in s) (marks_of s) (contract_of original) → Hopeful (book_in s) (contract_of_rows current) →
-    width (book_in s) (marks_of s) (contract_of_rows current) ≤ widest → IsWholeContract (contract_of original) → RowIs s (with_contract l x c) (1 + n) (new_row x original current)
-new_row_is s l x c n original current logged ended formed fit e hopeful narrow whole = record {
+    is_past_limit_in s (contract_of_rows current) ≡ false → IsWholeContract (contract_of original) → RowIs s (with_contract l x c) (1 + n) (new_row x original current)
+new_row_is s l x c n original current logged ended formed fit e hopeful within_limit whole = record {
   events = sym (ap (map (λ p. p.1)) (numbered-past n (1 + n) l.log logged (omega arith)));
   ended = sym (ended-past n (1 + n) l.ends ended (omega arith));
   formed = formed;
@@ -105,7 +105,7 @@ new_row_is s l x c n original current logged ended formed fit e hopeful narrow w
   days = tt;
   current = e;
   hopeful = hopeful;
-  narrow = narrow;
+  within_limit = within_limit;
   whole_original = whole;
   whole_events = All-nil IsWholeEvent;
   whole_current = subst IsWholeContract (sym e) (IsWhole-normal (book_in s) (marks_of s) (contract_of original) whole);
@@ -143,7 +143,7 @@ pub record IsNext (s : StudiedBook) (r : RowView Term (List Node)) (e : Event) (
   pub in_time : late_day r.events e.day ≡ None
   pub residual : contract_of_rows next ≡ after (book_in s) (marks_of s) e (contract_of_rows r.current)
   pub hopeful : Hopeful (book_in s) (contract_of_rows next)
-  pub narrow : width (book_in s) (marks_of s) (contract_of_rows next) ≤ widest
+  pub within_limit : is_past_limit_in s (contract_of_rows next) ≡ false
   pub whole : IsWholeContract (contract_of_rows next)
 
 -- the row with the number has the event too
@@ -158,7 +158,7 @@ row_this s l n e r next h new = record {
   days = NeverFall-more r.events e h.days new.in_time;
   current = new.residual ∙ ap (after (book_in s) (marks_of s) e) h.current ∙ sym (residual_after-more (book_in s) (marks_of s) (contract_of r.original) r.events e);
   hopeful = new.hopeful;
-  narrow = new.narrow;
+  within_limit = new.within_limit;
   whole_original = h.whole_original;
   whole_events = All-append IsWholeEvent r.events (e ∷ []) h.whole_events (All-cons IsWholeEvent e [] new.whole_event (All-nil IsWholeEvent));
   whole_current = new.whole;
@@ -182,7 +182,7 @@ row_ended s l n r h = record {
   days = h.days;
   current = h.current;
   hopeful = h.hopeful;
-  narrow = h.narrow;
+  within_limit = h.within_limit;
   whole_original = h.whole_original;
   whole_events = h.whole_events;
   whole_current = h.whole_current;
@@ -252,5 +252,5 @@ pub rows_kept : (s : StudiedBook) → IsStudied (book_in s) (marks_of s) → (l 
 rows_kept s study l i [] h = All-nil (λ r. IsKept s (contract_of_rows r.current))
 rows_kept s study l i (r ∷ rows) h =
     let fit = trace_fit (book_in s) (marks_of s) study (contract_of r.original) h.0.formed h.0.fit r.events h.0.declared in
-    All-cons (λ r. IsKept s (contract_of_rows r.current)) r rows (subst (CountsFit (book_in s)) (sym h.0.current) fit, h.0.narrow)
+    All-cons (λ r. IsKept s (contract_of_rows r.current)) r rows (subst (CountsFit (book_in s)) (sym h.0.current) fit, h.0.within_limit)
     (rows_kept s study l (suc i) rows h.1)

@@ -1,5 +1,5 @@
 -- A transmission is made.
-use Rattle.std.proofs.Common.{◌≡◌, ℕ, ◌+◌, ◌-◌, ◌<◌, ◌≤◌, Bool, true, false, nat_lt, ℤ, List, [], ◌∷◌, ◌++◌, Option, Some, None, map, length, slice_get, refl, sym, ◌∙◌, ap, subst, arith, inl, inr}
+use Rattle.std.proofs.Common.{◌≡◌, ℕ, ◌+◌, ◌-◌, ◌<◌, ◌≤◌, Bool, true, false, ℤ, List, [], ◌∷◌, ◌++◌, Option, Some, None, map, length, slice_get, refl, sym, ◌∙◌, ap, subst, arith, inl, inr}
 use Rattle.std.specs.Prelude.{IsTrue, ◌↔◌}
 use Rattle.std.specs.List.{All}
 use Rattle.std.proofs.lemmas.List.Elements.{All-nil, All-cons, All-append}
@@ -14,7 +14,8 @@ use Rattle.poets_syntax.specs.WellFormed.{IsDeclaredEvent}
 use Rattle.poets_syntax.specs.Whole.{IsWholeContract}
 use Rattle.poets_syntax.specs.Studied.{marks_of}
 use Rattle.poets_syntax.specs.Residual.{after, residual_after}
-use Rattle.poets_syntax.specs.Width.{width, widest}
+use Rattle.std.proofs.lemmas.Bool.{false≢true}
+use Rattle.poets_residue.specs.Limits.{is_past_limit_in}
 use Rattle.poets_residue.proofs.WholeResiduals.{IsWhole-after_at}
 use Rattle.poets_residue.proofs.Traces.{residual_after-more}
 use Rattle.poets_cons.specs.declared.node.Node.{Node}
@@ -36,7 +37,7 @@ use Rattle.poets_engine.proofs.Named.{named}
 use Rattle.poets_engine.proofs.Rows.{with_log, IsNext, place_below, rows_recorded, named-changed_at, length-changed_at}
 use Rattle.poets_engine.proofs.Standing.{frame_by, marks_by, study, Stood, leaves, changes, stood, absent}
 use Rattle.poets_engine.proofs.WatchLedgers.{watches_recorded}
-use Rattle.poets_engine.proofs.Owed.{residual_hopeless, residual_hopeful, residual_kept, failure_is, no_failure, past_limit, within_limit, residual_performed}
+use Rattle.poets_engine.proofs.Owed.{residual_hopeless, residual_hopeful, residual_kept, failure_is, no_failure, residual_performed}
 
 module _ (rules : Rules) (x : Name) (e : Event) (old : StoreView) where
   pub transmit_absent : number_named x old.rows ≡ None → Makes rules (Command.Transmit x e) old old (Reply.NoContract x)
@@ -55,8 +56,8 @@ module _ (rules : Rules) (x : Name) (e : Event) (old : StoreView) where
     abbrev next : Contract
     next = after (book_of_rules rules) (marks_of rules.studied) e (contract_of_rows r.current)
 
-    abbrev size : ℕ
-    size = width (book_of_rules rules) (marks_of rules.studied) next
+    abbrev is_past : Bool
+    is_past = is_past_limit_in rules.studied next
 
     -- the events with this one
     abbrev longer_trace : List Event
@@ -122,21 +123,21 @@ module _ (rules : Rules) (x : Name) (e : Event) (old : StoreView) where
             ended = subst (λ m. All (λ n. n ≤ m) l.ends) (sym longer) h.ended;
           })
 
-      kept : (owed : List Node) → contract_of_rows owed ≡ next → late_day r.events e.day ≡ None → is_failure next ≡ false → size ≤ widest → IsNext rules.studied r e owed
-      kept owed same in_time failed narrow = record {
+      kept : (owed : List Node) → contract_of_rows owed ≡ next → late_day r.events e.day ≡ None → is_failure next ≡ false → is_past ≡ false → IsNext rules.studied r e owed
+      kept owed same in_time failed within_limit = record {
         event = event;
         whole_event = is_taken.whole;
         in_time = in_time;
         residual = same;
         hopeful = subst (Hopeful (book_of_rules rules)) (sym (same ∙ next_is))
             (residual_kept (book_of_rules rules) (marks_of rules.studied) (study rules l old h) original longer_trace c.is.formed c.is.fit declared (λ z. no_failure next failed (next_is ∙ z)));
-        narrow = subst (λ d. width (book_of_rules rules) (marks_of rules.studied) d ≤ widest) (sym same) narrow;
+        within_limit = subst (λ d. is_past_limit_in rules.studied d ≡ false) (sym same) within_limit;
         whole = subst IsWholeContract (sym same)
             (IsWhole-after_at (book_of_rules rules) (marks_of rules.studied) h.whole e is_taken.whole (length (book_of_rules rules).templates) (contract_of_rows r.current) c.is.whole_current);
       }
 
     transmits_refused : (ended : Bool) (late : Option ℤ) (failed large : Bool) →
-        r.ended ≡ ended → late_day r.events e.day ≡ late → is_failure next ≡ failed → nat_lt widest size ≡ large →
+        r.ended ≡ ended → late_day r.events e.day ≡ late → is_failure next ≡ failed → is_past ≡ large →
         (refusal : Reply) → Refused refusal ≡ unless_over ended late (judged Reply.Unmatched failed large next) → Makes rules (Command.Transmit x e) old old refusal
     transmits_refused true late failed large n d fe le refusal q = subst (Makes rules (Command.Transmit x e) old old) (let z : Reply.Ended ≡ refusal = cc in z)
         (leaves rules (Command.Transmit x e) Reply.Ended old (λ l. refl) (λ l h right. rw (c l h).named (inl (over l h ∙ n, refl))))
@@ -149,16 +150,16 @@ module _ (rules : Rules) (x : Name) (e : Event) (old : StoreView) where
         ))))
     transmits_refused false None false true n d fe le refusal q = subst (Makes rules (Command.Transmit x e) old old) (let z : Reply.TooLarge ≡ refusal = cc in z)
         (leaves rules (Command.Transmit x e) Reply.TooLarge old (λ l. refl) (λ l h right. open_reply l h right Reply.TooLarge None n d
-        (inr (hope l h fe, inl (subst (λ c. widest < width (book_of_rules rules) (marks_of rules.studied) c) (next_is l h) (past_limit size le), refl)))))
+        (inr (hope l h fe, inl (subst (λ c. is_past_limit_in rules.studied c ≡ true) (next_is l h) le, refl)))))
     transmits_refused false None false false n d fe le refusal q = absurd cc
 
     pub transmit_refused : (refusal : Reply) → Refused refusal ≡ judgement_by rules.studied r e → Makes rules (Command.Transmit x e) old old refusal
-    transmit_refused refusal q = transmits_refused r.ended (late_day r.events e.day) (is_failure next) (nat_lt widest size) refl refl refl refl refusal q
+    transmit_refused refusal q = transmits_refused r.ended (late_day r.events e.day) (is_failure next) is_past refl refl refl refl refusal q
 
     module _ (owed : List Node) (may_end : Bool) (tells : IsTrue may_end ↔ Perf (book_of_rules rules) [] (contract_of_rows owed) []) (new : StoreView)
         (recorded : RecordsEvent (book_of_rules rules).declared n e owed old new) where
       transmits_kept : (ended : Bool) (late : Option ℤ) (failed large : Bool) →
-          r.ended ≡ ended → late_day r.events e.day ≡ late → is_failure next ≡ failed → nat_lt widest size ≡ large →
+          r.ended ≡ ended → late_day r.events e.day ≡ late → is_failure next ≡ failed → is_past ≡ large →
           Owed (contract_of_rows owed) ≡ unless_over ended late (judged Reply.Unmatched failed large next) →
           Makes rules (Command.Transmit x e) old new (Reply.Recorded (length r.events + 1) may_end)
       transmits_kept true late failed large n d fe le q = absurd cc
@@ -167,16 +168,15 @@ module _ (rules : Rules) (x : Name) (e : Event) (old : StoreView) where
       transmits_kept false None false true n d fe le q = absurd cc
       transmits_kept false None false false n d fe le q =
           let same : contract_of_rows owed ≡ next = cc in
-          let narrow : size ≤ widest = within_limit size le in
           changes rules (Command.Transmit x e) (Reply.Recorded (length r.events + 1) may_end) old new refl
           (λ l h right. open_reply l h right (Reply.Recorded (length r.events + 1) may_end) None n d (inr (
             hope l h fe,
             inr (
-              (λ lt. absurd (let z : widest < size = subst (λ c. widest < width (book_of_rules rules) (marks_of rules.studied) c) (sym (next_is l h)) lt in omega (arith, narrow, z))),
+              (λ past. absurd (false≢true (sym le ∙ subst (λ c. is_past_limit_in rules.studied c ≡ true) (sym (next_is l h)) past))),
               (may_end, performed l h may_end (subst (λ c. IsTrue may_end ↔ Perf (book_of_rules rules) [] c []) same tells), refl),
             ),
           )))
-          (λ l h. records l h owed (kept l h owed same d fe narrow) new recorded)
+          (λ l h. records l h owed (kept l h owed same d fe le) new recorded)
 
       pub transmit_kept : Owed (contract_of_rows owed) ≡ judgement_by rules.studied r e → Makes rules (Command.Transmit x e) old new (Reply.Recorded (length r.events + 1) may_end)
-      transmit_kept q = transmits_kept r.ended (late_day r.events e.day) (is_failure next) (nat_lt widest size) refl refl refl refl q
+      transmit_kept q = transmits_kept r.ended (late_day r.events e.day) (is_failure next) is_past refl refl refl refl q

@@ -20,8 +20,8 @@ use Rattle.poets_call.specs.Plain.{Command}
 use Rattle.poets_engine.specs.State.{State}
 use Rattle.poets_engine.specs.Store.{StoreView}
 
--- the most evaluations that the residual of a contract takes: no more than it is wide, and no more than where each different
--- part is derived once
+-- the most evaluations that the residual of a contract takes: no more than it is wide, and no more than where each
+-- different part is derived once
 abbrev pub asked_in : StudiedBook → Contract → ℕ
 asked_in s c = min (width_in s c) (once_in s c)
 

@@ -11,4 +11,5 @@ use Rattle.poets_call.specs.Typing.{IsTypedCommand}
 -- a legal history of typed commands under a studied book shows what is still owed
 abbrev pub LegalHistoriesShow : Type 0
 LegalHistoriesShow = (book : Book) (marks : List Mark) (reports : List Report) (h : List Entry) →
-    IsStudiedBook book marks → IsLegal book reports h → All (λ e. IsTypedCommand book reports e.command) h → ShowsCompletions book h
+    IsStudiedBook book marks → IsLegal book reports h → All (λ e. IsTypedCommand book reports e.command) h →
+    ShowsCompletions book h

@@ -1,5 +1,5 @@
 -- What an engine keeps is the ledger of its history.
-use Rattle.std.specs.Prelude.{◌≡◌, ℕ, suc, ◌≤◌, ◌≤ℤ◌, List, [], ◌∷◌, map, length, All, Some}
+use Rattle.std.specs.Prelude.{◌≡◌, ℕ, suc, ◌≤◌, ◌≤ℤ◌, List, [], ◌∷◌, map, length, All, Some, false}
 use Rattle.std.specs.List.{AllZip}
 use Rattle.poets_value.specs.declared.value.Name.{Name}
 use Rattle.poets_value.specs.declared.event.Event.{Event}
@@ -15,9 +15,9 @@ use Rattle.poets_syntax.specs.WellFormed.{IsWellFormed, IsDeclaredEvent}
 use Rattle.poets_syntax.specs.Whole.{IsWholeContract, IsWholeBook}
 use Rattle.poets_syntax.specs.Marks.{Hopeful}
 use Rattle.poets_syntax.specs.Residual.{residual_after}
-use Rattle.poets_syntax.specs.Width.{width, widest}
 use Rattle.poets_cons.specs.declared.node.Node.{Node}
 use Rattle.poets_cons.specs.Table.{contract_of_rows}
+use Rattle.poets_residue.specs.Limits.{is_past_limit_in}
 use Rattle.poets_report.specs.Reports.{report_of}
 use Rattle.poets_table.specs.TableView.{RowView}
 use Rattle.poets_live.specs.Watching.{WatchView, Follows}
@@ -44,10 +44,11 @@ pub record RowIs (s : StudiedBook) (l : Ledger) (i : ℕ) (r : RowView Term (Lis
   pub fit : CountsFit (book_of s.book) (contract_of r.original)
   pub declared : All (IsDeclaredEvent (book_of s.book).declared) r.events
   pub days : NeverFall r.events
-  -- what is owed is the residual; some granted steps perform it, and it is narrow
-  pub current : contract_of_rows r.current ≡ residual_after (book_of s.book) (marks_of s) (contract_of r.original) r.events
+  -- what is owed is the residual; some granted steps perform it, and it is not past the limit
+  pub current : contract_of_rows r.current
+      ≡ residual_after (book_of s.book) (marks_of s) (contract_of r.original) r.events
   pub hopeful : Hopeful (book_of s.book) (contract_of_rows r.current)
-  pub narrow : width (book_of s.book) (marks_of s) (contract_of_rows r.current) ≤ widest
+  pub within_limit : is_past_limit_in s (contract_of_rows r.current) ≡ false
   -- all numbers and days are those of the language
   pub whole_original : IsWholeContract (contract_of r.original)
   pub whole_events : IsWholeTrace r.events

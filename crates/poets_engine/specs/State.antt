@@ -41,13 +41,15 @@ abbrev pub IsKeptUnlessChanged : Body → (old new : State) → Type 0
 IsKeptUnlessChanged body old new = has_changed body ≡ false → new.store ≡ old.store
 
 -- the kept value has the place of the call after those calls, and owes the right reply to the command there
-pub record Owes (book : Book) (reports : List Report) (calls : List Call) (command : plain.Command) (kept : Kept) : Type 0 where
+pub record Owes (book : Book) (reports : List Report) (calls : List Call) (command : plain.Command)
+    (kept : Kept) : Type 0 where
   pub place : kept.place ≡ length calls
   pub reply : OwesReply book reports calls command kept.body
 
 -- the kept value has the place of the call after the engine's calls, and owes the right reply to the command there
 abbrev pub OwesNext : State → Command → Kept → Type 0
-OwesNext e command kept = Owes (book_of_rules e.rules) (reports_of_rules e.rules) (plain_calls e.calls) (command_of command) kept
+OwesNext e command kept =
+    Owes (book_of_rules e.rules) (reports_of_rules e.rules) (plain_calls e.calls) (command_of command) kept
 
 -- the reply answers whatever command the kept value is owed to
 abbrev pub Fulfils : Kept → Reply → Type 0

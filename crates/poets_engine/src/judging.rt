@@ -1,18 +1,18 @@
 //! Which contracts are kept.
-ghost use Rattle.std.specs.Prelude.{◌≡◌, nat_lt};
+ghost use Rattle.std.specs.Prelude.{◌≡◌, IfOk};
 ghost use Rattle.poets_syntax.specs.Applied.{CountsFit};
 ghost use Rattle.poets_syntax.specs.Book.{book_of};
-ghost use Rattle.poets_syntax.specs.Width.{widest};
 ghost use Rattle.poets_cons.specs.Row.{contract_by, row_of};
 ghost use Rattle.poets_cons.specs.Table.{contract_at, contract_of_rows};
 ghost use Rattle.poets_engine.specs.code.Judgements.{KeptFits, judge_rows, judgement_of};
-ghost use Rattle.poets_syntax.specs.InStudied.{width_in};
 ghost use Rattle.poets_engine.specs.code.Judgements as judgements;
 
 use poets_call::Reply;
 use poets_cons::{Node, Rows};
-use poets_residue::wide_rows;
-use poets_syntax::{Studied, WIDEST};
+use poets_residue::past_limit;
+use poets_syntax::Studied;
+use poets_value::Memory;
+use std::alloc::Global;
 
 /// A refusal, or a contract that is kept.
 #[derive(Drop)]
@@ -39,25 +39,23 @@ fn is_failure(rows: &Rows) -> bool
     }
 }
 
-// Whether the contract is wider than one that is kept.
-fn is_large(studied: &Studied, rows: &Rows) -> bool
-    requires { CountsFit (book_of studied.now.book) (contract_of_rows rows.now) }
-    ensures { result ≡ nat_lt widest (width_in studied.now (contract_of_rows rows.now)) }
-{
-    wide_rows(studied, rows) > WIDEST
-}
-
-/// Refuses a contract that no number of granted steps performs by the given reply, and one that is too large.
-pub(crate) fn judge(studied: &Studied, refusal: Reply, rows: Rows) -> Decision
+/// Refuses by the given reply a contract that no number of granted steps performs, and as too large one that is past the
+/// limit.
+pub(crate) fn judge(
+    alloc: Global,
+    studied: &Studied,
+    refusal: Reply,
+    rows: Rows,
+) -> Result<Decision, Memory>
     requires { CountsFit (book_of studied.now.book) (contract_of_rows rows) }
-    ensures choice { judgement_of result ≡ judge_rows studied.now refusal rows }
-    ensures fits { KeptFits (book_of studied.now.book) (judgement_of result) }
+    ensures choice { IfOk result (λ d. judgement_of d ≡ judge_rows studied.now refusal rows) }
+    ensures fits { IfOk result (λ d. KeptFits (book_of studied.now.book) (judgement_of d)) }
 {
     if is_failure(&rows) {
-        return Decision::Refused(refusal);
+        return Ok(Decision::Refused(refusal));
     }
-    if is_large(studied, &rows) {
-        return Decision::Refused(Reply::TooLarge);
+    if past_limit(alloc, studied, &rows)? {
+        return Ok(Decision::Refused(Reply::TooLarge));
     }
-    Decision::Owed(rows)
+    Ok(Decision::Owed(rows))
 }

@@ -39,7 +39,7 @@ pub(crate) fn register<T>(
         return Ok(Reply::NameTaken(number));
     }
     let current = normal_rows(alloc, &rules.studied, term, asks)?;
-    match judge(&rules.studied, Reply::Hopeless, current) {
+    match judge(alloc, &rules.studied, Reply::Hopeless, current)? {
         Decision::Refused(reply) => Ok(reply),
         Decision::Owed(current) => {
             let original = Arc::try_clone(term)?;

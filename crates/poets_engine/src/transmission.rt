@@ -67,7 +67,7 @@ fn decide<T>(
     // The numbers of arguments fit in the bodies of the templates.
     let _book = studied.book();
     let next = residual_rows(alloc, studied, &row.current, event, asks)?;
-    Ok(judge(studied, Reply::Unmatched, next))
+    judge(alloc, studied, Reply::Unmatched, next)
 }
 
 /// Transmits an event on the contract with a name.

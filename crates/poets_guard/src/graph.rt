@@ -5,19 +5,16 @@ ghost use Rattle.poets_syntax.specs.Checked.{IsChecked};
 ghost use Rattle.poets_syntax.specs.Width.{cut};
 ghost use Rattle.poets_guard.specs.code.Graph.{is_nullable, own_of, exposures_of, ExposesMore, IsGraphOf};
 
-use poets_syntax::{Book, Term, WIDEST, size};
+use poets_syntax::{Book, Term, WIDTH_CUT, size};
 use poets_value::{List, Memory, Name, push};
 use std::alloc::Global;
 use std::collections::{BTreeMap, BTreeSet};
-
-// One more than the greatest width that a kept residual has.
-const CUT: u64 = WIDEST + 1;
 
 // The sum of two widths, cut.
 pub(crate) fn add(a: u64, b: u64) -> u64
     ensures { result ≡ cut (a + b) }
 {
-    a.saturating_add(b).min(CUT)
+    a.saturating_add(b).min(WIDTH_CUT)
 }
 
 /// What the body of a template has in unguarded positions.

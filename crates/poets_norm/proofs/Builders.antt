@@ -8,6 +8,8 @@ use Rattle.poets_syntax.specs.Contract.{Contract, Success, Failure, Transmit, Pl
 use Rattle.poets_syntax.specs.Plain.{Book}
 use Rattle.poets_syntax.specs.May.{May}
 use Rattle.poets_syntax.proofs.Inversions.{of_plus}
+use Rattle.poets_syntax.proofs.Multisets.{Alike-sym, Alike-performed}
+use Rattle.poets_syntax.proofs.Regrouping.{Alike-regrouped}
 use Rattle.poets_syntax.proofs.Lists.{Between-none, Between-swap, Between-all}
 use Rattle.poets_syntax.specs.Normal.{plus, par, seq, send}
 use Rattle.poets_norm.proofs.SomePart as SomePart
@@ -20,6 +22,7 @@ module _ {book : Book} {env : Env} {s : List Event} {n : ℕ} where
     left = λ a b m. May.Left m;
     right = λ a b m. May.Right m;
     parts = λ a b m. of_plus m inl inr;
+    alike = λ a b h m. Alike-performed h m;
   }
 
   pub plus_in : (a b : Contract) → May book env (Plus a b) s n → May book env (plus a b) s n
@@ -37,14 +40,14 @@ module _ {book : Book} {env : Env} where
   par_in a Failure (May.Beside i q m₁ m₂) = elim m₂ [ ]
   par_in Success b (May.Beside i q May.Done m) = moved (Between-none i refl) (omega arith) m
   par_in a Success (May.Beside i q m May.Done) = moved (Between-none (Between-swap i) refl) (omega arith) m
-  par_in _ _ m = m
+  par_in a b m = Alike-performed (Alike-regrouped (Par a b)) m
 
   pub par_out : {s : List Event} {n : ℕ} (a b : Contract) → May book env (par a b) s n → May book env (Par a b) s n
   par_out Failure b m = elim m [ ]
   par_out a Failure m = elim m [ ]
   par_out {s} Success b m = May.Beside (Between-all s) (omega arith) May.Done m
   par_out {s} a Success m = May.Beside (Between-swap (Between-all s)) (omega arith) m May.Done
-  par_out _ _ m = m
+  par_out a b m = Alike-performed (Alike-sym (Alike-regrouped (Par a b))) m
 
   pub seq_in : {s : List Event} {n : ℕ} (a b : Contract) → May book env (Seq a b) s n → May book env (seq a b) s n
   seq_in Failure b (May.Then q m₁ m₂) = elim m₁ [ ]

@@ -14,6 +14,7 @@ use Rattle.poets_syntax.specs.May.{May}
 use Rattle.poets_syntax.specs.Marks.{Marks, AreRight, Hopeful}
 use Rattle.poets_syntax.specs.Normal.{alternatives, distinct, plus, send, folded, params_in, normal}
 use Rattle.poets_syntax.proofs.Granting.{May-anywhere}
+use Rattle.poets_syntax.proofs.Regrouping.{regrouped-keeps}
 use Rattle.poets_syntax.proofs.Replacing.{truth}
 use Rattle.poets_norm.specs.Laws.{CountsFit}
 use Rattle.poets_norm.proofs.Counts.{length-folded}
@@ -65,7 +66,8 @@ module _ (book : Book) where
   pub IsHopefulThroughout-kept : IsKeptOrFailure (IsHopefulThroughout book)
   IsHopefulThroughout-kept = record {
     plus = hopeful-plus;
-    par = FailureOr-par (IsHopefulThroughout book) (λ a b h k e. (h, k));
+    par = FailureOr-par (IsHopefulThroughout book) (λ a b h k _ _.
+        regrouped-keeps (IsHopefulThroughout book) (record { join = λ c d l m. (l, m); sides = λ c d l. l }) (Par a b) (h, k));
     seq = FailureOr-seq (IsHopefulThroughout book) (λ a b h k e. (h, k));
     plus_parts = λ a b h. h;
     par_parts = λ a b h. h;

@@ -17,3 +17,4 @@ pub mod WholeNormals
 pub mod TypedNormals
 pub mod RowChoices
 pub mod EarlierRows
+mod Grouped

@@ -16,7 +16,7 @@ use Rattle.poets_syntax.specs.May.{May}
 use Rattle.poets_syntax.specs.Replace.{AreUndeclared}
 use Rattle.poets_syntax.proofs.Replacing.{truth, bound-free, declared_free}
 use Rattle.poets_syntax.proofs.Granting.{May-granted, May-anywhere}
-use Rattle.poets_syntax.proofs.Alike.{Alike, Alike-May, Alike-sym}
+use Rattle.poets_syntax.proofs.Saying.{SaysSame, SaysSame-May, SaysSame-sym}
 use Rattle.poets_syntax.specs.Marks.{Marks, AreRight}
 use Rattle.poets_syntax.specs.Normal.{normal, folded, app, params_in}
 use Rattle.poets_syntax.specs.WellFormed.{HaveDeclaredLiterals, IsWellFormed}
@@ -66,17 +66,17 @@ module _ {book : Book} where
 
 module _ (book : Book) (marks : Marks) (right : AreRight book marks) where
   app_alike : (env : Env) → KeepsDeclared book.declared env → (f : Name) (args : List Expression) → HaveDeclaredLiterals book.declared args →
-      Alike book.declared env (App f (folded book.declared (params_in book f) args)) env (App f args)
+      SaysSame book.declared env (App f (folded book.declared (params_in book f) args)) env (App f args)
   app_alike env k f args h =
-      Alike.App (length-folded book.declared (params_in book f) args) (folded_vals book.declared env k (params_in book f) args h)
+      SaysSame.App (length-folded book.declared (params_in book f) args) (folded_vals book.declared env k (params_in book f) args h)
 
   app_in : (f : Name) (args : List Expression) → HaveDeclaredLiterals book.declared args → Implies book (App f args) (app book marks f args)
   app_in f args h env k s n m =
-      rw (hopeful_here book marks right m) (Alike-May (Alike-sym (app_alike env k f args h)) m)
+      rw (hopeful_here book marks right m) (SaysSame-May (SaysSame-sym (app_alike env k f args h)) m)
 
   app_out : (f : Name) (args : List Expression) → HaveDeclaredLiterals book.declared args → Implies book (app book marks f args) (App f args)
   app_out f args h env k s n m = elim (truth (marks.hopeful f)) [
-    | inl e ↦ Alike-May (app_alike env k f args h) (rw e at m)
+    | inl e ↦ SaysSame-May (app_alike env k f args h) (rw e at m)
     | inr e ↦ (let l : May book env Failure s n = rw e at m in elim l [ ])
   ]
 

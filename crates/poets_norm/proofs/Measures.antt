@@ -1,9 +1,10 @@
 -- Numbers that a choice and a `||` have of their parts: the builders make them no greater.
-use Rattle.std.proofs.Common.{◌≡◌, ℕ, ◌+◌, ◌≤◌, Bool, not, List, [], ◌∷◌, ◌++◌, filter, fold, inl, inr, arith}
+use Rattle.std.proofs.Common.{◌≡◌, ℕ, ◌+◌, ◌≤◌, Bool, not, List, [], ◌∷◌, ◌++◌, filter, fold, inl, inr, arith, ap}
 use Rattle.poets_syntax.specs.Contract.{Contract, Failure, Plus, Par}
-use Rattle.poets_syntax.specs.Same.{same_contract}
-use Rattle.poets_syntax.specs.Normal.{alternatives, distinct, choice, plus, par}
+use Rattle.poets_syntax.specs.Alike.{alike, parts}
+use Rattle.poets_syntax.specs.Normal.{alternatives, distinct, choice, plus, side_by_side, par}
 use Rattle.poets_syntax.proofs.Replacing.{truth}
+use Rattle.poets_syntax.proofs.Regrouping.{first_part}
 use Rattle.poets_norm.proofs.Parts.{par_is}
 
 -- a choice and a `||` have the sum of their parts and one number more, and `Failure` has no more than that number
@@ -35,7 +36,7 @@ module _ (k : ℕ) (m : Contract → ℕ) (of : IsMeasure k m) where
 
   total-distinct : (cs : List Contract) → total (distinct cs) ≤ total cs
   total-distinct [] = omega arith
-  total-distinct (c ∷ cs) = omega (arith, total-filter (λ d. not (same_contract c d)) (distinct cs), total-distinct cs)
+  total-distinct (c ∷ cs) = omega (arith, total-filter (λ d. not (alike c d)) (distinct cs), total-distinct cs)
 
   total-fold : (c : Contract) (cs : List Contract) → k + m (fold Plus c cs) ≡ total (c ∷ cs)
   total-fold c [] = omega arith
@@ -51,9 +52,22 @@ module _ (k : ℕ) (m : Contract → ℕ) (of : IsMeasure k m) where
       choice-le (k + m a + m b) (distinct all) (omega arith)
       (omega (arith, total-distinct all, total-append (alternatives a) (alternatives b), total-alternatives a, total-alternatives b))
 
+  total-parts : (c : Contract) → total (parts c) ≡ k + m c
+  total-parts (Par a b) = omega (arith, total-append (parts a) (parts b), total-parts a, total-parts b, of.par a b)
+  total-parts _ = omega arith
+
+  total-side : (c : Contract) (cs : List Contract) → k + m (fold Par c cs) ≡ total (c ∷ cs)
+  total-side c [] = omega arith
+  total-side c (d ∷ cs) = omega (arith, total-side (Par c d) cs, of.par c d)
+
+  regrouped-is : (c : Contract) → m (side_by_side (parts c)) ≡ m c
+  regrouped-is c =
+      let f = first_part c in
+      rw f.2 (omega (arith, total-side f.0 f.1, ap total f.2, total-parts c))
+
   pub par-le : (a b : Contract) → m (par a b) ≤ k + m a + m b
   par-le a b = elim (par_is a b) [
     | inl e ↦ rw e (omega arith)
     | inr (inl e) ↦ rw e (omega arith)
-    | inr (inr e) ↦ rw e (omega (arith, of.par a b))
+    | inr (inr j) ↦ rw j.0 (omega (arith, regrouped-is (Par a b), of.par a b))
   ]

@@ -1,5 +1,5 @@
 -- What normal forms are made of, so that the normal form of a normal form is itself.
-use Rattle.std.proofs.Common.{◌≡◌, Bool, true, false, not, ◌&&◌, List, [], ◌∷◌, ◌++◌, refl, sym, ◌∙◌, ap, ap₂, subst, Option, Some, None, inl, inr, is_some}
+use Rattle.std.proofs.Common.{◌≡◌, Bool, true, false, not, ◌&&◌, List, [], ◌∷◌, ◌++◌, fold, refl, sym, ◌∙◌, ap, ap₂, subst, Option, Some, None, inl, inr, is_some}
 use Rattle.std.specs.List.{All}
 use Rattle.std.proofs.lemmas.List.Elements.{All-nil, All-cons, All-head, All-tail, All-append}
 use Rattle.poets_value.specs.declared.value.Name.{Name}
@@ -17,10 +17,13 @@ use Rattle.poets_syntax.specs.Contract.{Contract, Success, Failure, Transmit, Pl
 use Rattle.poets_syntax.specs.Plain.{Book}
 use Rattle.poets_syntax.specs.Marks.{Marks}
 use Rattle.poets_syntax.specs.Normal.{alternatives, plus, par, seq, send, folded, params_in, app, normal}
+use Rattle.poets_syntax.specs.Alike.{parts}
+use Rattle.poets_syntax.proofs.AlikeTests.{IsPart}
+use Rattle.poets_syntax.proofs.Regrouping.{first_part, regrouped-last}
 use Rattle.poets_syntax.proofs.Replacing.{truth}
-use Rattle.poets_norm.specs.Choices.{IsDistinctChoice}
+use Rattle.poets_norm.specs.Choices.{IsDistinctChoice, regrouped}
 use Rattle.poets_norm.proofs.Alternatives.{alternatives-one, alternatives-distinct_choice, IsGrouped, IsGrouped-distinct_choice, distinct_choice-grouped}
-use Rattle.poets_norm.proofs.Parts.{All-distinct, FailureOr, FailureOr-alternatives, FailureOr-par, FailureOr-seq, FailureOr-send, IsKeptOrFailure}
+use Rattle.poets_norm.proofs.Parts.{All-distinct, FailureOr, FailureOr-alternatives, FailureOr-par, FailureOr-seq, FailureOr-send, IsKeptOrFailure, IsProper, par_joined}
 
 -- what a normal form is, where it is not `Failure`: each part is as its builder would make it
 abbrev pub IsBuilt : Book → Marks → Contract → Type 0
@@ -28,7 +31,7 @@ IsBuilt book marks Success = Unit {0}
 IsBuilt book marks Failure = ⊥
 IsBuilt book marks (Transmit b p c) = IsBuilt book marks c
 IsBuilt book marks (Plus c₁ c₂) = IsBuilt book marks c₁ × IsBuilt book marks c₂ × (plus c₁ c₂ ≡ Plus c₁ c₂)
-IsBuilt book marks (Par c₁ c₂) = IsBuilt book marks c₁ × IsBuilt book marks c₂ × (par c₁ c₂ ≡ Par c₁ c₂)
+IsBuilt book marks (Par c₁ c₂) = IsBuilt book marks c₁ × IsBuilt book marks c₂ × IsProper c₁ × IsProper c₂ × IsPart c₂
 IsBuilt book marks (Seq c₁ c₂) = IsBuilt book marks c₁ × IsBuilt book marks c₂ × (seq c₁ c₂ ≡ Seq c₁ c₂)
 IsBuilt book marks (App f args) = app book marks f args ≡ App f args
 
@@ -62,10 +65,34 @@ module _ (book : Book) (marks : Marks) where
   built-send b p Failure h = h
   built-send b p _ h = h
 
+  -- parts side by side
+  abbrev IsBuiltPart : Contract → Type 0
+  IsBuiltPart c = IsBuilt book marks c × IsProper c × IsPart c
+
+  built_parts : (c : Contract) → IsBuilt book marks c → IsProper c → All IsBuiltPart (parts c)
+  built_parts (Par a b) h k = All-append IsBuiltPart (parts a) (parts b) (built_parts a h.0 h.2) (built_parts b h.1 h.3)
+  built_parts Success h k = absurd k
+  built_parts Failure h k = absurd h
+  built_parts c h k = All-cons IsBuiltPart c [] (h, k, tt) (All-nil IsBuiltPart)
+
+  built_beside : (c : Contract) (cs : List Contract) → IsBuilt book marks c → IsProper c → All IsBuiltPart cs → IsBuilt book marks (fold Par c cs)
+  built_beside c [] h k each = h
+  built_beside c (d ∷ cs) h k each =
+      let one = All-head IsBuiltPart d cs each in
+      built_beside (Par c d) cs (h, one.0, k, one.1, one.2) tt (All-tail IsBuiltPart d cs each)
+
+  built_sides : (a b : Contract) → IsBuilt book marks a → IsBuilt book marks b → IsProper a → IsProper b →
+      IsBuilt book marks (regrouped (Par a b))
+  built_sides a b h k m n =
+      let f = first_part (Par a b) in
+      let all = subst (λ xs. All IsBuiltPart xs) f.2 (All-append IsBuiltPart (parts a) (parts b) (built_parts a h m) (built_parts b k n)) in
+      let one = All-head IsBuiltPart f.0 f.1 all in
+      rw f.2 (built_beside f.0 f.1 one.0 one.1 (All-tail IsBuiltPart f.0 f.1 all))
+
   pub IsBuilt-kept : IsKeptOrFailure (IsBuilt book marks)
   IsBuilt-kept = record {
     plus = built-plus;
-    par = FailureOr-par (IsBuilt book marks) (λ a b h k e. (h, k, e));
+    par = FailureOr-par (IsBuilt book marks) built_sides;
     seq = FailureOr-seq (IsBuilt book marks) (λ a b h k e. (h, k, e));
     plus_parts = λ a b h. (h.0, h.1);
     par_parts = λ a b h. (h.0, h.1);
@@ -119,13 +146,18 @@ module _ (book : Book) (marks : Marks) where
   send-built b p Failure h = absurd h
   send-built b p _ h = refl
 
+  regrouped-built : (c : Contract) → IsBuilt book marks c → regrouped c ≡ c
+  regrouped-built (Par a b) h = regrouped-last a b h.4 ∙ ap (λ x. Par x b) (regrouped-built a h.0)
+  regrouped-built _ h = refl
+
   -- a contract so built is its normal form
   normal-built : (c : Contract) → IsBuilt book marks c → normal book marks c ≡ c
   normal-built Success h = refl
   normal-built Failure h = refl
   normal-built (Transmit b p c) h = ap (send b p) (normal-built c h) ∙ send-built b p c h
   normal-built (Plus a b) h = ap₂ plus (normal-built a h.0) (normal-built b h.1) ∙ h.2
-  normal-built (Par a b) h = ap₂ par (normal-built a h.0) (normal-built b h.1) ∙ h.2
+  normal-built (Par a b) h =
+      ap₂ par (normal-built a h.0) (normal-built b h.1) ∙ par_joined a b h.2 h.3 ∙ regrouped-built (Par a b) h
   normal-built (Seq a b) h = ap₂ seq (normal-built a h.0) (normal-built b h.1) ∙ h.2
   normal-built (App f args) h = h
 

@@ -1,5 +1,7 @@
 -- A normal form is nullable exactly where the contract is, and so is a contract whose names were replaced.
-use Rattle.std.proofs.Common.{◌≡◌, Bool, true, false, ◌||◌, ◌&&◌, refl, sym, ◌∙◌, ap₂, inl, inr}
+use Rattle.std.proofs.Common.{◌≡◌, true, false, ◌||◌, ◌&&◌, refl, sym, ◌∙◌, ap₂, inl, inr}
+use Rattle.std.specs.Cmp.{both_ways}
+use Rattle.std.proofs.Math.Bool.{and-false, and-true}
 use Rattle.poets_value.specs.declared.value.Name.{Name}
 use Rattle.poets_expr.specs.Expression.{Expression}
 use Rattle.poets_expr.specs.Subst.{Givens}
@@ -12,20 +14,9 @@ use Rattle.poets_syntax.specs.Replace.{replace}
 use Rattle.poets_syntax.proofs.Replacing.{truth}
 use Rattle.poets_syntax.proofs.Nullability.{or_first, or_second, either_true}
 use Rattle.poets_syntax.proofs.Granting.{Perf-May}
+use Rattle.poets_syntax.proofs.AlikeMeasures.{Alike-nullable}
+use Rattle.poets_syntax.proofs.Regrouping.{Alike-regrouped}
 use Rattle.poets_norm.proofs.SomePart.{IsOfSomePart, plus_in, plus_out}
-
-same_truth : (a b : Bool) → (a ≡ true → b ≡ true) → (b ≡ true → a ≡ true) → a ≡ b
-same_truth true b to from = sym (to refl)
-same_truth false true to from = from refl
-same_truth false false to from = refl
-
-and-false : (a : Bool) → (a && false) ≡ false
-and-false true = refl
-and-false false = refl
-
-and-true : (a : Bool) → (a && true) ≡ a
-and-true true = refl
-and-true false = refl
 
 module _ (marks : Marks) where
   nullable-of_some_part : IsOfSomePart (λ c. nullable marks c ≡ true)
@@ -34,11 +25,12 @@ module _ (marks : Marks) where
     left = λ a b e. or_first (nullable marks a) (nullable marks b) e;
     right = λ a b e. or_second (nullable marks a) (nullable marks b) e;
     parts = λ a b e. either_true (nullable marks a) (nullable marks b) e;
+    alike = λ a b h e. sym (Alike-nullable marks h) ∙ e;
   }
 
   -- the builders
   pub nullable-plus : (a b : Contract) → nullable marks (plus a b) ≡ (nullable marks a || nullable marks b)
-  nullable-plus a b = same_truth (nullable marks (plus a b)) (nullable marks (Plus a b))
+  nullable-plus a b = both_ways (nullable marks (plus a b)) (nullable marks (Plus a b))
       (plus_out (λ c. nullable marks c ≡ true) nullable-of_some_part a b) (plus_in (λ c. nullable marks c ≡ true) nullable-of_some_part a b)
 
   pub nullable-par : (a b : Contract) → nullable marks (par a b) ≡ (nullable marks a && nullable marks b)
@@ -46,7 +38,7 @@ module _ (marks : Marks) where
   nullable-par a Failure = sym (and-false (nullable marks a))
   nullable-par Success b = refl
   nullable-par a Success = sym (and-true (nullable marks a))
-  nullable-par _ _ = refl
+  nullable-par a b = sym (Alike-nullable marks (Alike-regrouped (Par a b)))
 
   pub nullable-seq : (a b : Contract) → nullable marks (seq a b) ≡ (nullable marks a && nullable marks b)
   nullable-seq Failure b = refl

@@ -10,11 +10,13 @@ use Rattle.poets_syntax.specs.Plain.{Book}
 use Rattle.poets_syntax.specs.Marks.{Marks}
 use Rattle.poets_syntax.specs.Normal.{alternatives, plus, par, seq, send, folded, params_in, normal}
 use Rattle.poets_syntax.proofs.Choosing.{plus-keeps}
+use Rattle.poets_syntax.proofs.Regrouping.{par-keeps}
 use Rattle.poets_syntax.proofs.Replacing.{truth}
+use Rattle.poets_norm.specs.Choices.{regrouped}
 pub use Rattle.poets_syntax.proofs.Choosing.{All-distinct, All-choice}
 
--- the builders of `||` and `;` give a part, or join both
-par-failure : (a : Contract) → par a Failure ≡ Failure
+-- the builders of `||` and `;` give one of the two, or join both
+pub par-failure : (a : Contract) → par a Failure ≡ Failure
 par-failure Failure = refl
 par-failure _ = refl
 
@@ -22,12 +24,34 @@ seq-failure : (a : Contract) → seq a Failure ≡ Failure
 seq-failure Failure = refl
 seq-failure _ = refl
 
-pub par_is : (a b : Contract) → (par a b ≡ a) ⊎ (par a b ≡ b) ⊎ (par a b ≡ Par a b)
+-- a contract that is neither `Failure` nor `Success`
+abbrev pub IsProper : Contract → Type 0
+IsProper Failure = ⊥
+IsProper Success = ⊥
+IsProper _ = Unit {0}
+
+pub proper : (c : Contract) → (c ≡ Failure) ⊎ (c ≡ Success) ⊎ IsProper c
+proper Failure = inl refl
+proper Success = inr (inl refl)
+proper _ = inr (inr tt)
+
+-- both are proper, and their parts are joined
+abbrev pub AreJoined : Contract → Contract → Type 0
+AreJoined a b = (par a b ≡ regrouped (Par a b)) × IsProper a × IsProper b
+
+pub par_is : (a b : Contract) → (par a b ≡ a) ⊎ (par a b ≡ b) ⊎ AreJoined a b
 par_is Failure b = inl refl
 par_is a Failure = inr (inl (par-failure a))
 par_is Success b = inr (inl refl)
 par_is a Success = inl refl
-par_is _ _ = inr (inr refl)
+par_is _ _ = inr (inr (refl, tt, tt))
+
+pub par_joined : (a b : Contract) → IsProper a → IsProper b → par a b ≡ regrouped (Par a b)
+par_joined Failure b h k = absurd h
+par_joined a Failure h k = absurd k
+par_joined Success b h k = absurd h
+par_joined a Success h k = absurd k
+par_joined _ _ h k = refl
 
 pub seq_is : (a b : Contract) → (seq a b ≡ a) ⊎ (seq a b ≡ b) ⊎ (seq a b ≡ Seq a b)
 seq_is Failure b = inl refl
@@ -41,6 +65,12 @@ by_part : (P : Contract → Type 0) {a b c d : Contract} → (c ≡ a) ⊎ (c �
 by_part P (inl e) h k both = subst P (sym e) h
 by_part P (inr (inl e)) h k both = subst P (sym e) k
 by_part P (inr (inr e)) h k both = subst P (sym e) (both e)
+
+by_side : (P : Contract → Type 0) {a b : Contract} → (par a b ≡ a) ⊎ (par a b ≡ b) ⊎ AreJoined a b → P a → P b →
+    (IsProper a → IsProper b → P (regrouped (Par a b))) → P (par a b)
+by_side P (inl e) h k both = subst P (sym e) h
+by_side P (inr (inl e)) h k both = subst P (sym e) k
+by_side P (inr (inr j)) h k both = subst P (sym j.0) (both j.1 j.2)
 
 -- a choice, `||` or `;` has it exactly where both parts have it, and `Failure` has it
 pub record IsOfParts (P : Contract → Type 0) : Type 0 where
@@ -57,7 +87,7 @@ module _ (P : Contract → Type 0) (of : IsOfParts P) where
   kept_by_plus = plus-keeps P (record { failure = of.failure; plus = of.plus; plus_parts = of.plus_parts })
 
   pub kept_by_par : (a b : Contract) → P a → P b → P (par a b)
-  kept_by_par a b h k = by_part P (par_is a b) h k (λ e. of.par a b h k)
+  kept_by_par a b h k = par-keeps P (record { join = of.par; sides = of.par_parts }) a b h k
 
   pub kept_by_seq : (a b : Contract) → P a → P b → P (seq a b)
   kept_by_seq a b h k = by_part P (seq_is a b) h k (λ e. of.seq a b h k)
@@ -108,11 +138,11 @@ module _ (Q : Contract → Type 0) where
       each (Plus a b) h = All-append Q (alternatives a) (alternatives b) (each a (parts a b h).0) (each b (parts a b h).1)
       each c h = All-cons Q c [] h (All-nil Q)
 
-  pub FailureOr-par : ((a b : Contract) → Q a → Q b → par a b ≡ Par a b → Q (Par a b)) →
+  pub FailureOr-par : ((a b : Contract) → Q a → Q b → IsProper a → IsProper b → Q (regrouped (Par a b))) →
       (a b : Contract) → FailureOr Q a → FailureOr Q b → FailureOr Q (par a b)
   FailureOr-par both a b (inl e) k = inl (rw e refl)
   FailureOr-par both a b (inr h) (inl e) = inl (rw e (par-failure a))
-  FailureOr-par both a b (inr h) (inr k) = inr (by_part Q (par_is a b) h k (both a b h k))
+  FailureOr-par both a b (inr h) (inr k) = inr (by_side Q (par_is a b) h k (both a b h k))
 
   pub FailureOr-seq : ((a b : Contract) → Q a → Q b → seq a b ≡ Seq a b → Q (Seq a b)) →
       (a b : Contract) → FailureOr Q a → FailureOr Q b → FailureOr Q (seq a b)

@@ -1,20 +1,22 @@
 -- What a choice has where one of its parts has it, the choice of distinct alternatives has likewise.
-use Rattle.std.proofs.Common.{◌≡◌, Bool, false, not, List, [], ◌∷◌, ◌++◌, filter, fold, sym, ◌∙◌, ap, subst, ◌⊎◌, inl, inr}
+use Rattle.std.proofs.Common.{◌≡◌, Bool, false, not, List, [], ◌∷◌, ◌++◌, filter, fold, sym, ◌∙◌, ap, ◌⊎◌, inl, inr}
 use Rattle.poets_syntax.specs.Contract.{Contract, Failure, Plus}
-use Rattle.poets_syntax.specs.Same.{same_contract}
-use Rattle.poets_syntax.proofs.SameContracts.{contract_one}
+use Rattle.poets_syntax.specs.Alike.{Alike, alike}
+use Rattle.poets_syntax.proofs.AlikeTests.{alike_iff}
+use Rattle.poets_syntax.proofs.Multisets.{Alike-sym}
 use Rattle.poets_syntax.proofs.Replacing.{truth}
 use Rattle.poets_syntax.specs.Normal.{alternatives, distinct, choice, plus}
 
-not_same : (c x : Contract) → not (same_contract c x) ≡ false → c ≡ x
-not_same c x e = contract_one c x (elim (truth (same_contract c x)) [ inl k ↦ k | inr k ↦ absurd (let j : not false ≡ false = ap not (sym k) ∙ e in cc) ])
+not_other : (c x : Contract) → not (alike c x) ≡ false → Alike c x
+not_other c x e = (alike_iff c x).0 (elim (truth (alike c x)) [ inl k ↦ k | inr k ↦ absurd (let j : not false ≡ false = ap not (sym k) ∙ e in cc) ])
 
--- a choice has it exactly where one of its parts has it, and `Failure` has it not
+-- a choice has it exactly where one of its parts has it, `Failure` has it not, and what is alike has it likewise
 pub record IsOfSomePart (P : Contract → Type 0) : Type 0 where
   pub none : P Failure → ⊥
   pub left : (a b : Contract) → P a → P (Plus a b)
   pub right : (a b : Contract) → P b → P (Plus a b)
   pub parts : (a b : Contract) → P (Plus a b) → P a ⊎ P b
+  pub alike : (a b : Contract) → Alike a b → P a → P b
 
 -- some contract of the list has it
 data Some_of (P : Contract → Type 0) : List Contract → Type 0 where
@@ -55,12 +57,12 @@ module _ (P : Contract → Type 0) (of : IsOfSomePart P) where
   ]
   alternatives_out _ h = only h
 
-  kept : (p : Contract → Bool) (c : Contract) → ((x : Contract) → p x ≡ false → c ≡ x) → (xs : List Contract) →
+  kept : (p : Contract → Bool) (c : Contract) → ((x : Contract) → p x ≡ false → Alike c x) → (xs : List Contract) →
       Some_of P xs → Some_of P (filter p xs) ⊎ P c
   kept p c same [] h = elim h [ ]
   kept p c same (x ∷ xs) (Some_of.Here m) = elim (truth (p x)) [
     | inl e ↦ rw e (inl (Some_of.Here m))
-    | inr e ↦ inr (subst (λ y. P y) (sym (same x e)) m)
+    | inr e ↦ inr (of.alike x c (Alike-sym (same x e)) m)
   ]
   kept p c same (x ∷ xs) (Some_of.There h) = elim (kept p c same xs h) [
     | inl k ↦ elim (truth (p x)) [ inl e ↦ rw e (inl (Some_of.There k)) | inr e ↦ rw e (inl k) ]
@@ -77,7 +79,7 @@ module _ (P : Contract → Type 0) (of : IsOfSomePart P) where
   distinct_in : (cs : List Contract) → Some_of P cs → Some_of P (distinct cs)
   distinct_in [] h = elim h [ ]
   distinct_in (c ∷ cs) (Some_of.Here m) = Some_of.Here m
-  distinct_in (c ∷ cs) (Some_of.There h) = elim (kept (λ d. not (same_contract c d)) c (not_same c) (distinct cs) (distinct_in cs h)) [
+  distinct_in (c ∷ cs) (Some_of.There h) = elim (kept (λ d. not (alike c d)) c (not_other c) (distinct cs) (distinct_in cs h)) [
     | inl k ↦ Some_of.There k
     | inr m ↦ Some_of.Here m
   ]
@@ -85,7 +87,7 @@ module _ (P : Contract → Type 0) (of : IsOfSomePart P) where
   distinct_out : (cs : List Contract) → Some_of P (distinct cs) → Some_of P cs
   distinct_out [] h = h
   distinct_out (c ∷ cs) (Some_of.Here m) = Some_of.Here m
-  distinct_out (c ∷ cs) (Some_of.There h) = Some_of.There (distinct_out cs (unfiltered (λ d. not (same_contract c d)) (distinct cs) h))
+  distinct_out (c ∷ cs) (Some_of.There h) = Some_of.There (distinct_out cs (unfiltered (λ d. not (alike c d)) (distinct cs) h))
 
   first_in : (c : Contract) (cs : List Contract) → P c → P (fold Plus c cs)
   first_in c [] m = m

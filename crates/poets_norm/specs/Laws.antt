@@ -31,7 +31,8 @@ NormalHopeless = (book : Book) (marks : Marks) (c : Contract) →
 
 -- the normal form of a normal form is itself
 abbrev pub NormalTwice : Type 0
-NormalTwice = (book : Book) (marks : Marks) (c : Contract) → normal book marks (normal book marks c) ≡ normal book marks c
+NormalTwice = (book : Book) (marks : Marks) (c : Contract) →
+    normal book marks (normal book marks c) ≡ normal book marks c
 
 -- the normal form of a whole contract is whole
 abbrev pub NormalWhole : Type 0
@@ -49,9 +50,11 @@ NormalCountsFit = (book : Book) (marks : Marks) (c : Contract) → CountsFit boo
 -- the normal form of a typed contract is typed in the same scope, whatever the book and the marks are
 abbrev pub NormalTyped : Type 0
 NormalTyped = (book : Book) (reports : List Name) (marks : Marks) (scope : Scope) (c : Contract) →
-    IsUndeclaredScope book.declared scope → IsTyped book reports scope c → IsTyped book reports scope (normal book marks c)
+    IsUndeclaredScope book.declared scope → IsTyped book reports scope c →
+    IsTyped book reports scope (normal book marks c)
 
 -- in a book without templates the marks that say no are right, and so is each count
 abbrev pub PlainBooks : Type 0
-PlainBooks = (declared : Declared) → AreRight (without_templates declared) no_marks × AreWellFormed (without_templates declared)
+PlainBooks = (declared : Declared) →
+    AreRight (without_templates declared) no_marks × AreWellFormed (without_templates declared)
     × ((c : Contract) → CountsFit (without_templates declared) c)

@@ -2,3 +2,4 @@
 pub mod Applications
 pub mod Alternatives
 pub mod Entering
+pub mod Grouping

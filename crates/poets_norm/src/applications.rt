@@ -2,12 +2,11 @@
 ghost use Rattle.std.specs.Prelude.{◌+◌, ◌≤◌, IfOk, map};
 ghost use Rattle.poets_expr.specs.Expression.{expression_of};
 ghost use Rattle.poets_syntax.specs.InStudied.{app_in};
-ghost use Rattle.poets_syntax.specs.Results.{GivesContract};
-ghost use Rattle.poets_norm.specs.Asking.{to_ask, AsksWithin};
+ghost use Rattle.poets_norm.specs.Asking.{to_ask};
 ghost use Rattle.poets_norm.specs.code.Applications.{to_ask_of, IsFolded, AreFolded, Keeps, KeepsWithin};
 
 use poets_expr::{Asks, Decls, Expr, copy, fold_closed};
-use poets_syntax::{Param, Studied, Term};
+use poets_syntax::{Param, Studied};
 use poets_value::{List, Memory, Name, push};
 use std::alloc::Global;
 
@@ -73,25 +72,5 @@ pub(crate) fn kept_args<L>(
             Ok(Some(args))
         }
         _ => Ok(None),
-    }
-}
-
-/// An application of a template: `Failure` where the template is not hopeful.
-/// Each closed argument that is no literal is replaced by the literal of its value.
-pub fn app<L>(
-    alloc: Global,
-    studied: &Studied,
-    name: Name,
-    args: &[Expr],
-    asks: &mut Asks<L>,
-) -> Result<Term, Memory>
-    ensures app { GivesContract result (app_in studied.now name (map expression_of args.now)) }
-    ensures rises { asks.old ≤ asks.new }
-    ensures asks { asks.new ≤ asks.old + to_ask args.now }
-    ensures questions { AsksWithin result asks.new (asks.old + to_ask args.now) }
-{
-    match kept_args(alloc, studied, name, args, asks)? {
-        Some(args) => Ok(Term::App { name, args }),
-        None => Ok(Term::Failure),
     }
 }

@@ -1,5 +1,6 @@
 //! The laws of normal forms, each carried by a function that does nothing.
-ghost use Rattle.poets_norm.specs.Laws.{NormalAlike, NormalHopeless, NormalTwice, NormalWhole, NormalWellFormed, NormalCountsFit, NormalTyped, PlainBooks};
+ghost use Rattle.poets_norm.specs.Laws.{NormalAlike, NormalHopeless, NormalTwice, NormalWhole, PlainBooks};
+ghost use Rattle.poets_norm.specs.Laws.{NormalWellFormed, NormalCountsFit, NormalTyped};
 
 /// The normal form is performed as the contract is.
 pub fn normal_alike()

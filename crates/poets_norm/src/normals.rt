@@ -1,54 +1,127 @@
-//! Normal forms and their builders.
-ghost use Rattle.std.specs.Prelude.{◌+◌, ◌≤◌};
+//! Normal forms and their builders over contracts as trees. Each enters its contracts in a table of
+//! rows, calls the builder of rows, and gives the tree of the row back.
+ghost use Rattle.std.specs.Prelude.{◌+◌, ◌≤◌, ◌<◌, IfOk, length, map};
 ghost use Rattle.poets_expr.specs.Expression.{expression_of};
 ghost use Rattle.poets_syntax.specs.Arguments.{arguments};
 ghost use Rattle.poets_syntax.specs.Contract.{contract_of};
-ghost use Rattle.poets_syntax.specs.InStudied.{normal_in};
+ghost use Rattle.poets_syntax.specs.InStudied.{app_in, normal_in};
 ghost use Rattle.poets_syntax.specs.Normal as spec;
 ghost use Rattle.poets_syntax.specs.Results.{GivesContract};
 ghost use Rattle.poets_syntax.specs.Width.{size};
-ghost use Rattle.poets_norm.specs.Asking.{AsksWithin};
+ghost use Rattle.poets_cons.specs.Table.{Stands, contract_at};
+ghost use Rattle.poets_norm.specs.Asking.{to_ask, AsksWithin};
 ghost use Rattle.poets_norm.specs.Questions.{questions};
 
-use crate::applications::app;
-use crate::choices::merge;
+use crate::applications::kept_args;
+use crate::joining::{self, either};
+use crate::row_normals::{applied, normal_rows, send as send_row};
+use poets_cons::{Arena, enter, rows_at, to_term};
 use poets_expr::{Asks, Expr};
-use poets_syntax::{Binders, Studied, Term, build};
-use poets_value::Memory;
+use poets_syntax::{Binders, Studied, Term};
+use poets_value::{Memory, Name};
 use std::alloc::Global;
 
+// Two contracts in a table of rows.
+#[derive(Drop)]
+struct Entered {
+    arena: Arena,
+    first: usize,
+    second: usize,
+}
+
+// A table in which two contracts are entered.
+fn both(alloc: Global, a: &Term, b: &Term) -> Result<Entered, Memory>
+    ensures first { IfOk result (λ r. Stands r.arena r.first (contract_of a.now)) }
+    ensures second { IfOk result (λ r. Stands r.arena r.second (contract_of b.now)) }
+{
+    let mut arena = Arena::new(alloc);
+    let first = enter(alloc, &mut arena, a)?;
+    let second = enter(alloc, &mut arena, b)?;
+    Ok(Entered {
+        arena,
+        first,
+        second,
+    })
+}
+
+// The contract of a row of a table.
+fn tree_at(alloc: Global, arena: &Arena, place: usize) -> Result<Term, Memory>
+    requires { place < length arena.now }
+    ensures { GivesContract result (contract_at arena.now place) }
+{
+    let rows = rows_at(alloc, arena.nodes(), place)?;
+    to_term(alloc, &rows)
+}
+
+/// The choice of two contracts: the alternatives of the first, then those of the second; of alike
+/// ones the first is kept.
+pub fn plus(alloc: Global, a: Term, b: Term) -> Result<Term, Memory>
+    ensures { GivesContract result (spec.plus (contract_of a) (contract_of b)) }
+{
+    let Entered {
+        mut arena,
+        first,
+        second,
+    } = both(alloc, &a, &b)?;
+    let place = either(&mut arena, first, false, second, false)?;
+    tree_at(alloc, &arena, place)
+}
+
 /// Both contracts side by side: `Failure` where one is, and the other where one is `Success`.
+/// Otherwise the parts of the first and then those of the second, grouped to the left.
 pub fn par(alloc: Global, a: Term, b: Term) -> Result<Term, Memory>
     ensures { GivesContract result (spec.par (contract_of a) (contract_of b)) }
 {
-    match (a, b) {
-        (Term::Failure, _) | (_, Term::Failure) => Ok(Term::Failure),
-        (Term::Success, b) => Ok(b),
-        (a, Term::Success) => Ok(a),
-        (a, b) => build::par(alloc, a, b),
-    }
+    let Entered {
+        mut arena,
+        first,
+        second,
+    } = both(alloc, &a, &b)?;
+    let place = joining::par(&mut arena, first, second)?;
+    tree_at(alloc, &arena, place)
 }
 
 /// One contract and then the other: `Failure` where one is, and the other where one is `Success`.
 pub fn seq(alloc: Global, a: Term, b: Term) -> Result<Term, Memory>
     ensures { GivesContract result (spec.seq (contract_of a) (contract_of b)) }
 {
-    match (a, b) {
-        (Term::Failure, _) | (_, Term::Failure) => Ok(Term::Failure),
-        (Term::Success, b) => Ok(b),
-        (a, Term::Success) => Ok(a),
-        (a, b) => build::seq(alloc, a, b),
-    }
+    let Entered {
+        mut arena,
+        first,
+        second,
+    } = both(alloc, &a, &b)?;
+    let place = joining::seq(&mut arena, first, second)?;
+    tree_at(alloc, &arena, place)
 }
 
-/// A transmission before a contract: `Failure` where that is.
+/// A transmission before a contract: `Failure` where the contract is `Failure`.
 pub fn send(alloc: Global, binders: Binders, when: Expr, then: Term) -> Result<Term, Memory>
     ensures { GivesContract result (spec.send binders (expression_of when) (contract_of then)) }
 {
-    if matches!(&then, Term::Failure) {
-        return Ok(Term::Failure);
-    }
-    build::transmit(alloc, binders, when, then)
+    let mut arena = Arena::new(alloc);
+    let then = enter(alloc, &mut arena, &then)?;
+    let place = send_row(alloc, &mut arena, binders, when, then)?;
+    tree_at(alloc, &arena, place)
+}
+
+/// An application of a template: `Failure` where the template is not hopeful.
+/// Each closed argument that is no literal is replaced by the literal of its value.
+pub fn app<L>(
+    alloc: Global,
+    studied: &Studied,
+    name: Name,
+    args: &[Expr],
+    asks: &mut Asks<L>,
+) -> Result<Term, Memory>
+    ensures app { GivesContract result (app_in studied.now name (map expression_of args.now)) }
+    ensures rises { asks.old ≤ asks.new }
+    ensures asks { asks.new ≤ asks.old + to_ask args.now }
+    ensures questions { AsksWithin result asks.new (asks.old + to_ask args.now) }
+{
+    let mut arena = Arena::new(alloc);
+    let kept = kept_args(alloc, studied, name, args, asks)?;
+    let place = applied(alloc, &mut arena, name, kept)?;
+    tree_at(alloc, &arena, place)
 }
 
 /// The normal form of a contract. What it asks is answered in it and is not asked again.
@@ -65,33 +138,6 @@ pub fn normal<L>(
     ensures size { asks.new ≤ asks.old + size (contract_of term.now) }
     ensures arguments { asks.new ≤ asks.old + arguments (contract_of term.now) }
 {
-    match term {
-        Term::Success => Ok(Term::Success),
-        Term::Failure => Ok(Term::Failure),
-        Term::Transmit {
-            binders,
-            when,
-            then,
-        } => {
-            let then = normal(alloc, studied, then, asks)?;
-            let when = poets_expr::copy(alloc, when)?;
-            send(alloc, *binders, when, then)
-        }
-        Term::Plus(a, b) => {
-            let a = normal(alloc, studied, a, asks)?;
-            let b = normal(alloc, studied, b, asks)?;
-            merge(alloc, a, b)
-        }
-        Term::Par(a, b) => {
-            let a = normal(alloc, studied, a, asks)?;
-            let b = normal(alloc, studied, b, asks)?;
-            par(alloc, a, b)
-        }
-        Term::Seq(a, b) => {
-            let a = normal(alloc, studied, a, asks)?;
-            let b = normal(alloc, studied, b, asks)?;
-            seq(alloc, a, b)
-        }
-        Term::App { name, args } => app(alloc, studied, *name, args.as_slice(), asks),
-    }
+    let rows = normal_rows(alloc, studied, term, asks)?;
+    to_term(alloc, &rows)
 }

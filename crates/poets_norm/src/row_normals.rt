@@ -10,7 +10,7 @@ ghost use Rattle.poets_norm.specs.Asking.{AsksOnce};
 ghost use Rattle.poets_norm.specs.Questions.{questions};
 ghost use Rattle.poets_norm.specs.Rows.{Enters, GivesRows};
 ghost use Rattle.poets_norm.specs.code.Applications.{applied_to};
-ghost use Rattle.poets_norm.specs.code.Entering.{with_both, AskBothOnce, StandsNormal};
+ghost use Rattle.poets_norm.specs.code.Entering.{beside_normal, with_both, AskBothOnce, StandsNormal};
 ghost use Rattle.poets_cons.specs.Table.{contract_at, Extends};
 
 use crate::applications::kept_args;
@@ -32,6 +32,7 @@ pub fn normal_rows<L>(
     ensures normal { GivesRows result (normal_in studied.now (contract_of term.now)) }
     ensures rises { asks.old ≤ asks.new }
     ensures asks { asks.new ≤ asks.old + questions (contract_of term.now) }
+    ensures questions { OnOk result (AsksOnce studied.now (contract_of term.now) asks.old asks.new) }
     ensures size { asks.new ≤ asks.old + size (contract_of term.now) }
     ensures arguments { asks.new ≤ asks.old + arguments (contract_of term.now) }
 {
@@ -41,8 +42,8 @@ pub fn normal_rows<L>(
     rows_at(alloc, arena.nodes(), root)
 }
 
-/// The number of the row of the normal form of a contract, which is entered in the table. Equal
-/// alternatives are found by the numbers of their rows, and no two trees are compared.
+/// The number of the row of the normal form of a contract, which is entered in the table. Alike
+/// alternatives are found by the classes of their rows, and no two trees are compared.
 #[cycle(enter_normal)]
 pub fn enter_normal<L>(
     alloc: Global,
@@ -75,8 +76,8 @@ pub fn enter_normal<L>(
             merge(arena, a, b)
         }
         Term::Par(a, b) => {
-            let (a, b) = enter_both(alloc, studied, arena, a, b, asks)?;
-            par(arena, a, b)
+            let first = enter_normal(alloc, studied, arena, Box::into_inner(a), asks)?;
+            enter_beside(alloc, studied, arena, first, Box::into_inner(b), asks)
         }
         Term::Seq(a, b) => {
             let (a, b) = enter_both(alloc, studied, arena, a, b, asks)?;
@@ -90,7 +91,7 @@ pub fn enter_normal<L>(
 }
 
 // An application, or `Failure` where no arguments are kept.
-fn applied(
+pub(crate) fn applied(
     alloc: Global,
     arena: &mut Arena,
     name: Name,
@@ -107,7 +108,7 @@ fn applied(
 }
 
 // A transmission before a row: `Failure` where that is.
-fn send(
+pub(crate) fn send(
     alloc: Global,
     arena: &mut Arena,
     binders: Binders,
@@ -127,6 +128,37 @@ fn send(
         when,
         then,
     })
+}
+
+// The row beside the normal form of a contract, part by part from the left: each part is joined once.
+#[cycle(enter_normal)]
+fn enter_beside<L>(
+    alloc: Global,
+    studied: &Studied,
+    arena: &mut Arena,
+    first: usize,
+    term: Term,
+    asks: &mut Asks<L>,
+) -> Result<usize, Memory>
+    requires { first < length arena.old }
+    ensures grows { Extends arena.old arena.new }
+    ensures stands { Enters arena.new result (beside_normal studied.now arena.old first (contract_of term)) }
+    ensures rises { asks.old ≤ asks.new }
+    ensures asks { asks.new ≤ asks.old + questions (contract_of term) }
+    ensures questions { OnOk result (AsksOnce studied.now (contract_of term) asks.old asks.new) }
+    ensures size { asks.new ≤ asks.old + size (contract_of term) }
+    ensures arguments { asks.new ≤ asks.old + arguments (contract_of term) }
+{
+    match term {
+        Term::Par(a, b) => {
+            let front = enter_beside(alloc, studied, arena, first, Box::into_inner(a), asks)?;
+            enter_beside(alloc, studied, arena, front, Box::into_inner(b), asks)
+        }
+        other => {
+            let place = enter_normal(alloc, studied, arena, other, asks)?;
+            par(arena, first, place)
+        }
+    }
 }
 
 // The numbers of the rows of two normal forms.

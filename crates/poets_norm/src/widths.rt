@@ -1,14 +1,11 @@
-//! The width of contracts, which bounds the residuals that are kept.
+//! The width of contracts, cut at one more than the greatest spread that is kept.
 ghost use Rattle.std.specs.Prelude.{◌≡◌, ◌+◌, ◌&&◌, false};
 ghost use Rattle.poets_syntax.specs.Contract.{contract_of};
 ghost use Rattle.poets_syntax.specs.InStudied.{nullable_in, width_by_bodies, wide_in, CountsFitIn};
 ghost use Rattle.poets_syntax.specs.Width.{cut};
 ghost use Rattle.poets_syntax.specs.Width as spec;
 
-use poets_syntax::{Studied, Term, WIDEST, size};
-
-// One more than the greatest width that a kept residual has.
-const CUT: u64 = WIDEST + 1;
+use poets_syntax::{Studied, Term, WIDTH_CUT, size};
 
 // The width of a contract, cut, and whether the empty trace performs it.
 #[derive(Clone, Copy)]
@@ -23,7 +20,7 @@ fn unexposed(term: &Term) -> Measured
     ensures nullable { result.nullable ≡ false }
 {
     Measured {
-        wide: size(term).min(CUT),
+        wide: size(term).min(WIDTH_CUT),
         nullable: false,
     }
 }
@@ -32,7 +29,7 @@ fn unexposed(term: &Term) -> Measured
 fn node(a: u64, b: u64) -> u64
     ensures { result ≡ cut (1 + a + b) }
 {
-    a.saturating_add(b).saturating_add(1).min(CUT)
+    a.saturating_add(b).saturating_add(1).min(WIDTH_CUT)
 }
 
 // Two parts that must both be performed.
@@ -75,7 +72,7 @@ fn measure(studied: &Studied, term: &Term) -> Measured
         }
         Term::App { name, .. } => match studied.template(*name) {
             Some((_, mark)) => Measured {
-                wide: size(term).saturating_add(mark.wide).min(CUT),
+                wide: size(term).saturating_add(mark.wide).min(WIDTH_CUT),
                 nullable: mark.nullable,
             },
             None => unexposed(term),
@@ -83,7 +80,7 @@ fn measure(studied: &Studied, term: &Term) -> Measured
     }
 }
 
-/// The width of the contract, cut at one more than the greatest.
+/// The width of the contract, cut at one more than the greatest spread that is kept.
 pub fn wide(studied: &Studied, term: &Term) -> u64
     requires { CountsFitIn studied.now (contract_of term.now) }
     ensures { result ≡ wide_in studied.now (contract_of term.now) }

@@ -20,8 +20,8 @@ use Rattle.poets_syntax.specs.WellFormed.{IsWellFormed, IsDeclaredEvent, HaveDec
 use Rattle.poets_syntax.specs.Residual.{event_givens, argument_givens}
 use Rattle.poets_syntax.proofs.Granting.{May-Perf, Perf-May}
 use Rattle.poets_syntax.proofs.Inversions.{of_plus, of_par, of_seq}
-use Rattle.poets_syntax.proofs.Alike.{Alike, Alike-May, Alike-sym}
-use Rattle.poets_syntax.proofs.Replacing.{Alike-replace, Agrees-pairs}
+use Rattle.poets_syntax.proofs.Saying.{SaysSame, SaysSame-May, SaysSame-sym}
+use Rattle.poets_syntax.proofs.Replacing.{SaysSame-replace, Agrees-pairs}
 use Rattle.poets_syntax.proofs.Givens.{HaveDeclaredNames, AreDeclared-values, HaveDeclaredNames-event, HaveDeclaredNames-arguments, env_of-arguments}
 use Rattle.poets_syntax.proofs.WellFormedness.{IsWellFormed-replace, BindersAreUndeclared-of}
 use Rattle.poets_norm.proofs.Builders.{plus_in, plus_out, par_in, par_out, seq_in, seq_out}
@@ -42,20 +42,20 @@ first_event {e = e} {s = s} {s₁ = x ∷ s₁} {s₂ = s₂} q none some =
 
 module _ (book : Book) (marks : Marks) (right : AreRight book marks) (given : Givens) (c : Contract)
     (values : HaveDeclaredNames book.declared given) (formed : IsWellFormed book.declared c) where
-  alike : Alike book.declared [] (replace given c) (env_of given ++ []) c
-  alike = Alike-replace book.declared c [] given (env_of given ++ []) (BindersAreUndeclared-of book.declared c formed)
+  alike : SaysSame book.declared [] (replace given c) (env_of given ++ []) c
+  alike = SaysSame-replace book.declared c [] given (env_of given ++ []) (BindersAreUndeclared-of book.declared c formed)
       (AreDeclared-values book.declared given values) (Agrees-pairs book.declared [] (λ x k. refl) given (AreDeclared-values book.declared given values))
 
   -- the normal form of a contract with replaced names says what the contract says under their values
   pub replaced_in : {s : List Event} {n : ℕ} → May book (env_of given) c s n → May book [] (normal book marks (replace given c)) s n
   replaced_in {s} {n} m =
       normal_in book marks right (replace given c) (IsWellFormed-replace book.declared given values c formed) [] (λ x k. refl) s n
-      (Alike-May (Alike-sym alike) (subst (λ env. May book env c s n) (sym (append-nil (env_of given))) m))
+      (SaysSame-May (SaysSame-sym alike) (subst (λ env. May book env c s n) (sym (append-nil (env_of given))) m))
 
   pub replaced_out : {s : List Event} {n : ℕ} → May book [] (normal book marks (replace given c)) s n → May book (env_of given) c s n
   replaced_out {s} {n} m =
       subst (λ env. May book env c s n) (append-nil (env_of given))
-      (Alike-May alike (normal_out book marks right (replace given c) (IsWellFormed-replace book.declared given values c formed) [] (λ x k. refl) s n m))
+      (SaysSame-May alike (normal_out book marks right (replace given c) (IsWellFormed-replace book.declared given values c formed) [] (λ x k. refl) s n m))
 
 module _ (book : Book) (e : Event) where
   pub Follows-success : Follows book e C.Success C.Failure

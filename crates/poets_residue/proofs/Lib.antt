@@ -16,3 +16,7 @@ mod Ready
 mod Spending
 mod Asking
 mod ReadyArguments
+mod DifferentSums
+mod Exposing
+mod Counted
+mod Spreading

@@ -23,7 +23,8 @@ use Rattle.poets_residue.specs.Unfolding.{UnfoldsWithin, IsStudied}
 
 -- a book that was studied meets what the laws of residuals ask of a book
 abbrev pub StudiedBooks : Type 0
-StudiedBooks = (book : Book) (marks : List Mark) → IsStudiedBook book marks → IsStudied book (marks_in book.templates marks)
+StudiedBooks = (book : Book) (marks : List Mark) →
+    IsStudiedBook book marks → IsStudied book (marks_in book.templates marks)
 
 -- the residual is performed by what may follow the event
 abbrev pub ResidualFollows : Type 0
@@ -33,7 +34,8 @@ ResidualFollows = (book : Book) (marks : Marks) (e : Event) (c r : Contract) (s 
 
 -- there is one residual at most
 abbrev pub ResidualOne : Type 0
-ResidualOne = (book : Book) (marks : Marks) (e : Event) (c r r' : Contract) → After book marks e c r → After book marks e c r' → r ≡ r'
+ResidualOne = (book : Book) (marks : Marks) (e : Event) (c r r' : Contract) →
+    After book marks e c r → After book marks e c r' → r ≡ r'
 
 -- with enough unfoldings `after_at` gives the residual by the event
 abbrev pub ResidualIs : Type 0
@@ -55,12 +57,14 @@ ResidualOfApplication = (book : Book) (marks : Marks) (e : Event) (f : Name) (ar
 -- the residual of a well-formed contract by a declared event is well-formed
 abbrev pub ResidualWellFormed : Type 0
 ResidualWellFormed = (book : Book) (marks : Marks) (e : Event) (c r : Contract) →
-    AreWellFormed book → IsDeclaredEvent book.declared e → IsWellFormed book.declared c → After book marks e c r → IsWellFormed book.declared r
+    AreWellFormed book → IsDeclaredEvent book.declared e → IsWellFormed book.declared c →
+    After book marks e c r → IsWellFormed book.declared r
 
 -- with any number of unfoldings `after_at` gives of a well-formed contract, by a declared event, a well-formed one
 abbrev pub ResidualAtWellFormed : Type 0
 ResidualAtWellFormed = (d : ℕ) (book : Book) (marks : Marks) (e : Event) (c : Contract) →
-    AreWellFormed book → IsDeclaredEvent book.declared e → IsWellFormed book.declared c → IsWellFormed book.declared (after_at d book marks e c)
+    AreWellFormed book → IsDeclaredEvent book.declared e → IsWellFormed book.declared c →
+    IsWellFormed book.declared (after_at d book marks e c)
 
 -- where the numbers of arguments fit in a contract, they fit in what `after_at` gives of it
 abbrev pub ResidualAtCountsFit : Type 0
@@ -128,10 +132,12 @@ EnoughUnfoldings = (d : ℕ) (book : Book) (marks : Marks) (c : Contract) →
 abbrev pub ReadyUnfolds : Type 0
 ReadyUnfolds = (book : Book) (marks : Marks) (c : Contract) →
     AreRight book marks → IsGuarded book → BodiesCountsFit book → CountsFit book c →
-    ready book marks c ≡ ready_by (λ f args. ready book marks (body_of book marks (template_in book.templates f) args)) marks c
+    ready book marks c
+    ≡ ready_by (λ f args. ready book marks (body_of book marks (template_in book.templates f) args)) marks c
 
 -- what is ready in an application is itself, and what is ready in its body
 abbrev pub ReadyOfApplication : Type 0
 ReadyOfApplication = (book : Book) (marks : Marks) (f : Name) (args : List Expression) →
     AreRight book marks → IsGuarded book → BodiesCountsFit book → CountsFit book (App f args) →
-    ready book marks (App f args) ≡ App f args ∷ ready book marks (body_of book marks (template_in book.templates f) args)
+    ready book marks (App f args)
+    ≡ App f args ∷ ready book marks (body_of book marks (template_in book.templates f) args)

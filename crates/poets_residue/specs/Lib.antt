@@ -2,4 +2,5 @@ pub mod Unfolding
 pub mod Laws
 pub mod TypedLaws
 pub mod Once
+pub mod Limits
 pub mod code

@@ -22,13 +22,15 @@ ready_by unfolded marks Failure = []
 ready_by unfolded marks (Transmit b p c) = Transmit b p c ∷ []
 ready_by unfolded marks (Plus a b) = ready_by unfolded marks a ++ ready_by unfolded marks b
 ready_by unfolded marks (Par a b) = ready_by unfolded marks a ++ ready_by unfolded marks b
-ready_by unfolded marks (Seq a b) = ready_by unfolded marks a ++ (if nullable marks a then ready_by unfolded marks b else [])
+ready_by unfolded marks (Seq a b) =
+    ready_by unfolded marks a ++ (if nullable marks a then ready_by unfolded marks b else [])
 ready_by unfolded marks (App f args) = App f args ∷ unfolded f args
 
 -- with at most so many unfoldings in a row
 abbrev pub ready_at : ℕ → Book → Marks → Contract → List Contract
 ready_at zero book marks c = ready_by (λ _ _. []) marks c
-ready_at (suc d) book marks c = ready_by (λ f args. ready_at d book marks (body_of book marks (template_in book.templates f) args)) marks c
+ready_at (suc d) book marks c =
+    ready_by (λ f args. ready_at d book marks (body_of book marks (template_in book.templates f) args)) marks c
 
 -- in a guarded book no more unfoldings than templates stand in a row
 abbrev pub ready : Book → Marks → Contract → List Contract
@@ -41,7 +43,8 @@ asked_of book (Transmit b p c) = 1 + arguments c
 asked_of book (App f args) = sum_by operated args + body_in (template_in book.templates f) arguments
 asked_of book _ = 0
 
--- what a residual of the contract asks at most: the sum over the different transmits and applications in its unguarded positions
+-- what a residual of the contract asks at most: the sum over the different transmits and applications in its unguarded
+-- positions
 abbrev pub once : Book → Marks → Contract → ℕ
 once book marks c = sum_by (asked_of book) (unique_keys same_contract (ready book marks c))
 

@@ -5,3 +5,4 @@ pub mod Bodies
 pub mod Taking
 pub mod Sides
 pub mod InTables
+pub mod Limits

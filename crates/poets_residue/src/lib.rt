@@ -1,10 +1,11 @@
-//! Residuals of contracts by events.
+//! Residuals of contracts by events, and whether contracts are past the limit.
 #![tactic(auto)]
 
 mod bodies;
 mod derivation;
 mod endings;
 pub mod laws;
+mod limits;
 mod residuals;
 mod row_widths;
 mod shared;
@@ -12,6 +13,7 @@ mod transmits;
 
 pub use derivation::residual_rows;
 pub use endings::may_end;
+pub use limits::past_limit;
 pub use residuals::residual;
 pub use row_widths::wide_rows;
 pub use shared::may_end_rows;

@@ -2,16 +2,15 @@
 ghost use Rattle.std.specs.Prelude.{◌≡◌, ◌+◌, ◌-◌, ◌≤◌, ◌<◌, false, length, map};
 ghost use Rattle.poets_expr.specs.Expression.{expression_of};
 ghost use Rattle.poets_expr.specs.Size.{nodes_of_all};
+ghost use Rattle.poets_syntax.specs.Contract.{App};
 ghost use Rattle.poets_syntax.specs.InStudied.{nullable_in, width_by_bodies, wide_in, CountsFitIn};
 ghost use Rattle.poets_syntax.specs.Width.{size, widest};
 ghost use Rattle.poets_cons.specs.Table.{contract_at, contract_of_rows, IsTable};
 
 use poets_cons::{Node, Rows, node_at};
 use poets_expr::Expr;
-use poets_syntax::{Studied, WIDEST};
-
-// One more than the greatest width that a kept residual has.
-const CUT: u64 = WIDEST + 1;
+use poets_syntax::{Studied, WIDTH_CUT};
+use poets_value::Name;
 
 // What is left of a number when the width of a row is taken off; where something is, also
 // whether the empty trace performs the row.
@@ -22,7 +21,7 @@ struct Measured {
 }
 
 // What is left when the sizes of the expressions are taken off.
-fn less_args(args: &[Expr], left: u64) -> u64
+pub(crate) fn less_args(args: &[Expr], left: u64) -> u64
     ensures { result ≡ left - nodes_of_all (map expression_of args.now) }
 {
     let mut left = left;
@@ -33,7 +32,7 @@ fn less_args(args: &[Expr], left: u64) -> u64
 }
 
 // What is left when the size of a row is taken off.
-fn less_size(nodes: &[Node], place: usize, left: u64) -> u64
+pub(crate) fn less_size(nodes: &[Node], place: usize, left: u64) -> u64
     requires table { IsTable nodes.now }
     requires within { place < length nodes.now }
     ensures { result ≡ left - size (contract_at nodes.now place) }
@@ -68,7 +67,26 @@ fn unexposed(nodes: &[Node], place: usize, left: u64) -> Measured
     }
 }
 
-// Measures a row. The body of a template counts as its mark says.
+// Measures an application. The body of the template counts as its mark says.
+fn measure_application(studied: &Studied, name: Name, args: &[Expr], left: u64) -> Measured
+    requires cut { left ≤ 1 + widest }
+    ensures left { result.left ≡ left - width_by_bodies studied.now (App name (map expression_of args.now)) }
+    ensures nullable { result.nullable ≡ nullable_in studied.now (App name (map expression_of args.now)) }
+{
+    let left = less_args(args, left.saturating_sub(1));
+    match studied.template(name) {
+        Some((_, mark)) => Measured {
+            left: left.saturating_sub(mark.wide),
+            nullable: mark.nullable,
+        },
+        None => Measured {
+            left,
+            nullable: false,
+        },
+    }
+}
+
+// Measures a row.
 fn measure(studied: &Studied, nodes: &[Node], place: usize, left: u64) -> Measured
     requires table { IsTable nodes.now }
     requires within { place < length nodes.now }
@@ -108,23 +126,11 @@ fn measure(studied: &Studied, nodes: &[Node], place: usize, left: u64) -> Measur
             }
             unexposed(nodes, *b, first.left)
         }
-        Node::App { name, args } => {
-            let left = less_args(args.as_slice(), left - 1);
-            match studied.template(*name) {
-                Some((_, mark)) => Measured {
-                    left: left.saturating_sub(mark.wide),
-                    nullable: mark.nullable,
-                },
-                None => Measured {
-                    left,
-                    nullable: false,
-                },
-            }
-        }
+        Node::App { name, args } => measure_application(studied, *name, args.as_slice(), left),
     }
 }
 
-/// The width of the contract of the rows, cut at one more than the greatest.
+/// The width of the contract of the rows, cut at one more than the greatest spread that is kept.
 pub fn wide_rows(studied: &Studied, rows: &Rows) -> u64
     requires { CountsFitIn studied.now (contract_of_rows rows.now) }
     ensures { result ≡ wide_in studied.now (contract_of_rows rows.now) }
@@ -133,5 +139,5 @@ pub fn wide_rows(studied: &Studied, rows: &Rows) -> u64
     let _book = studied.book();
     let root = rows.root();
     let nodes = rows.nodes();
-    CUT - measure(studied, nodes, root, CUT).left
+    WIDTH_CUT - measure(studied, nodes, root, WIDTH_CUT).left
 }

@@ -125,9 +125,9 @@ fn alternatives(alloc: Global, first: &str) -> Result<String, Fail> {
     joined(alloc, &pieces)
 }
 
-// At most 200 brackets are open, a statement has at most 1,000 operators, and a contract is at most 1,000 wide.
+// At most 200 brackets are open, a statement has at most 1,000 operators, and a contract is of a size of at most 1,000.
 #[test]
-fn a_command_is_so_deep_and_so_wide(rt: HostRuntime) -> Result<(), Fail> {
+fn a_command_is_so_deep_and_so_large(rt: HostRuntime) -> Result<(), Fail> {
     let alloc = rt.alloc();
     let line = "1 1: register x = Success => registered 1\n";
     brackets_answered(&rt, alloc, 200, (0, 1, line))?;
@@ -136,10 +136,10 @@ fn a_command_is_so_deep_and_so_wide(rt: HostRuntime) -> Result<(), Fail> {
     replied(&rt, alloc, choices(alloc, 999)?.as_str(), "registered 1")?;
     let text = session(alloc, choices(alloc, 1_000)?.as_str())?;
     answered(&rt, alloc, ("1000 choices", text.as_str()), too_deep)?;
-    let narrow = alternatives(alloc, "amount(r) = 1")?;
-    replied(&rt, alloc, narrow.as_str(), "registered 1")?;
-    let wide = alternatives(alloc, "not amount(r) = 1")?;
-    replied(&rt, alloc, wide.as_str(), "too large")
+    let small = alternatives(alloc, "amount(r) = 1")?;
+    replied(&rt, alloc, small.as_str(), "registered 1")?;
+    let large = alternatives(alloc, "not amount(r) = 1")?;
+    replied(&rt, alloc, large.as_str(), "too large")
 }
 
 // A session has at most 16,777,216 bytes, 16 blanks to each piece.

@@ -2,7 +2,7 @@
 
 use crate::table::Line::{self, Row, Steps};
 
-pub(crate) const PERFORMED: [Line; 12] = [
+pub(crate) const PERFORMED: [Line; 16] = [
     Row("a contract takes what performs it"),
     Steps(
         "register c = transmit(a, b, r, t | kind(r) = Oil and amount(r) = 7). Success + Success => registered 1
@@ -42,6 +42,23 @@ transmit c ann bob 1 Oil @2006-01-01 => recorded 1, may end no
 show c => events 1, may end no, ended no, residual transmit(a, b, r, t | kind(r) = Oil). transmit(a, b, r, t | kind(r) = USD). Success + transmit(a, b, r, t | kind(r) = Oil). Success || transmit(a, b, r, t | kind(r) = USD). Success
 transmit c ann bob 1 USD @2006-01-01 => recorded 2, may end no
 show c => events 2, may end no, ended no, residual transmit(a, b, r, t | kind(r) = Oil). Success
+",
+    ),
+    Row("parallel parts are grouped to the left, in the order in which they are written"),
+    Steps(
+        "register c = transmit(a, b, r, t | kind(r) = Oil). Success || (transmit(a, b, r, t | kind(r) = USD). Success || transmit(a, b, r, t | kind(r) = Oil). Success) => registered 1
+show c => events 0, may end no, ended no, residual transmit(a, b, r, t | kind(r) = Oil). Success || transmit(a, b, r, t | kind(r) = USD). Success || transmit(a, b, r, t | kind(r) = Oil). Success
+transmit c ann bob 1 Oil @2006-01-01 => recorded 1, may end no
+show c => events 1, may end no, ended no, residual transmit(a, b, r, t | kind(r) = USD). Success || transmit(a, b, r, t | kind(r) = Oil). Success
+",
+    ),
+    Row("of alternatives that differ in the order of parallel parts the first is kept"),
+    Steps(
+        "register c = transmit(a, b, r, t | kind(r) = Oil). Success || transmit(a, b, r, t | kind(r) = USD). Success + transmit(a, b, r, t | kind(r) = USD). Success || transmit(a, b, r, t | kind(r) = Oil). Success => registered 1
+show c => events 0, may end no, ended no, residual transmit(a, b, r, t | kind(r) = Oil). Success || transmit(a, b, r, t | kind(r) = USD). Success
+transmit c ann bob 1 USD @2006-01-01 => recorded 1, may end no
+show c => events 1, may end no, ended no, residual transmit(a, b, r, t | kind(r) = Oil). Success
+transmit c ann bob 1 Oil @2006-01-01 => recorded 2, may end yes
 ",
     ),
     Row("a part that may end is passed over"),

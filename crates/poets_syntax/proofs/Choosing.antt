@@ -3,7 +3,7 @@ use Rattle.std.proofs.Common.{◌≡◌, not, List, [], ◌∷◌, ◌++◌, fil
 use Rattle.std.specs.List.{All}
 use Rattle.std.proofs.lemmas.List.Elements.{All-nil, All-cons, All-head, All-tail, All-append, All-filter}
 use Rattle.poets_syntax.specs.Contract.{Contract, Success, Failure, Transmit, Plus, Par, Seq, App}
-use Rattle.poets_syntax.specs.Same.{same_contract}
+use Rattle.poets_syntax.specs.Alike.{alike}
 use Rattle.poets_syntax.specs.Normal.{alternatives, distinct, choice, plus}
 
 -- the distinct ones of a list, and their choice
@@ -11,8 +11,8 @@ module _ (P : Contract → Type 0) where
   pub All-distinct : (cs : List Contract) → All P cs → All P (distinct cs)
   All-distinct [] h = h
   All-distinct (c ∷ cs) h =
-      All-cons P c (filter (λ d. not (same_contract c d)) (distinct cs)) (All-head P c cs h)
-      (All-filter (λ d. not (same_contract c d)) P (distinct cs) (All-distinct cs (All-tail P c cs h)))
+      All-cons P c (filter (λ d. not (alike c d)) (distinct cs)) (All-head P c cs h)
+      (All-filter (λ d. not (alike c d)) P (distinct cs) (All-distinct cs (All-tail P c cs h)))
 
   module _ (join : (a b : Contract) → P a → P b → P (Plus a b)) where
     joined_to : (c : Contract) (cs : List Contract) → P c → All P cs → P (fold Plus c cs)

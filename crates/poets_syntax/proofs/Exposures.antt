@@ -17,6 +17,8 @@ use Rattle.poets_syntax.specs.Residual.{argument_givens, body_of}
 use Rattle.poets_syntax.proofs.Replacing.{truth, args_count}
 use Rattle.poets_syntax.proofs.Nullability.{or_first, or_second, and_both, either_true}
 use Rattle.poets_syntax.proofs.Choosing.{plus-keeps}
+use Rattle.poets_syntax.proofs.AlikeMeasures.{Alike-nullable}
+use Rattle.poets_syntax.proofs.Regrouping.{Alike-regrouped, regrouped-keeps}
 
 pub length-folded : (declared : Declared) (params : List Param) (args : List Expression) → length (folded declared params args) ≡ length args
 length-folded declared [] [] = refl
@@ -51,7 +53,7 @@ module _ (marks : Marks) where
   nullable_par a Failure e = absurd cc
   nullable_par Success b e = (refl, e)
   nullable_par a Success e = (e, refl)
-  nullable_par a b e = both_true (nullable marks a) (nullable marks b) e
+  nullable_par a b e = both_true (nullable marks a) (nullable marks b) (Alike-nullable marks (Alike-regrouped (Par a b)) ∙ e)
 
   nullable_seq : (a b : Contract) → nullable marks (seq a b) ≡ true → (nullable marks a ≡ true) × (nullable marks b ≡ true)
   nullable_seq Failure b e = absurd cc
@@ -102,7 +104,7 @@ module _ (marks : Marks) where
     exposed_par a Failure h k = tt
     exposed_par Success b h k = k
     exposed_par a Success h k = h
-    exposed_par _ _ h k = (h, k)
+    exposed_par a b h k = regrouped-keeps (EachExposed Is marks) (record { join = λ c d l m. (l, m); sides = λ c d l. l }) (Par a b) (h, k)
 
     exposed_seq : (a b : Contract) → EachExposed Is marks a → (nullable marks a ≡ true → EachExposed Is marks b) → EachExposed Is marks (seq a b)
     exposed_seq Failure b h k = tt

@@ -1,7 +1,7 @@
 pub mod Lists
 pub mod Counting
 pub mod Granting
-pub mod Alike
+pub mod Saying
 pub mod Replacing
 pub mod SameContracts
 pub mod Arguments
@@ -24,3 +24,8 @@ pub mod Exposures
 pub mod Unfolded
 pub mod StudiedMarks
 pub mod Found
+pub mod Interleavings
+pub mod Multisets
+pub mod AlikeTests
+pub mod AlikeMeasures
+pub mod Regrouping

@@ -15,7 +15,7 @@ use Rattle.poets_syntax.specs.declared.term.Binders.{Binders}
 use Rattle.poets_syntax.specs.Contract.{Contract}
 use Rattle.poets_syntax.specs.Book.{BinderValues, bound}
 use Rattle.poets_syntax.specs.Replace.{binds, without, replace, AreUndeclared, BindersAreUndeclared, AreDeclared}
-use Rattle.poets_syntax.proofs.Alike.{Alike}
+use Rattle.poets_syntax.proofs.Saying.{SaysSame}
 
 -- one of four tests, or what comes after
 unfoldable pub first_of_four : {A : Type 0} → Bool → Bool → Bool → Bool → A → A → A → A → A → A
@@ -129,19 +129,19 @@ args_count given [] = refl
 args_count given (a ∷ args) = ap suc (args_count given args)
 
 -- where names agree, the replaced contract says what the contract says
-pub Alike-replace : (declared : Declared) (c : Contract) (env : Env) (given : Givens) (env' : Env) → BindersAreUndeclared declared c → AreDeclared declared given →
-    Agrees declared env given env' → Alike declared env (replace given c) env' c
-Alike-replace declared Contract.Success env given env' f h agrees = Alike.Success
-Alike-replace declared Contract.Failure env given env' f h agrees = Alike.Failure
-Alike-replace declared (Contract.Transmit b p c) env given env' f h agrees = Alike.Transmit
+pub SaysSame-replace : (declared : Declared) (c : Contract) (env : Env) (given : Givens) (env' : Env) → BindersAreUndeclared declared c → AreDeclared declared given →
+    Agrees declared env given env' → SaysSame declared env (replace given c) env' c
+SaysSame-replace declared Contract.Success env given env' f h agrees = SaysSame.Success
+SaysSame-replace declared Contract.Failure env given env' f h agrees = SaysSame.Failure
+SaysSame-replace declared (Contract.Transmit b p c) env given env' f h agrees = SaysSame.Transmit
     (λ v. val-subst declared (bound b v env) (without b given) (bound b v env') (Agrees-bound declared b v env given env' f.0 h agrees) p)
-    (λ v. Alike-replace declared c (bound b v env) (without b given) (bound b v env') f.1 (AreDeclared-without declared b given h)
+    (λ v. SaysSame-replace declared c (bound b v env) (without b given) (bound b v env') f.1 (AreDeclared-without declared b given h)
     (Agrees-bound declared b v env given env' f.0 h agrees))
-Alike-replace declared (Contract.Plus c d) env given env' f h agrees =
-    Alike.Plus (Alike-replace declared c env given env' f.0 h agrees) (Alike-replace declared d env given env' f.1 h agrees)
-Alike-replace declared (Contract.Par c d) env given env' f h agrees =
-    Alike.Par (Alike-replace declared c env given env' f.0 h agrees) (Alike-replace declared d env given env' f.1 h agrees)
-Alike-replace declared (Contract.Seq c d) env given env' f h agrees =
-    Alike.Seq (Alike-replace declared c env given env' f.0 h agrees) (Alike-replace declared d env given env' f.1 h agrees)
-Alike-replace declared (Contract.App g args) env given env' f h agrees =
-    Alike.App (args_count given args) (args-alike declared env given env' agrees args)
+SaysSame-replace declared (Contract.Plus c d) env given env' f h agrees =
+    SaysSame.Plus (SaysSame-replace declared c env given env' f.0 h agrees) (SaysSame-replace declared d env given env' f.1 h agrees)
+SaysSame-replace declared (Contract.Par c d) env given env' f h agrees =
+    SaysSame.Par (SaysSame-replace declared c env given env' f.0 h agrees) (SaysSame-replace declared d env given env' f.1 h agrees)
+SaysSame-replace declared (Contract.Seq c d) env given env' f h agrees =
+    SaysSame.Seq (SaysSame-replace declared c env given env' f.0 h agrees) (SaysSame-replace declared d env given env' f.1 h agrees)
+SaysSame-replace declared (Contract.App g args) env given env' f h agrees =
+    SaysSame.App (args_count given args) (args-alike declared env given env' agrees args)

@@ -1,5 +1,6 @@
 -- The test for equal contracts is right.
 use Rattle.std.proofs.Common.{◌≡◌, ◌↔◌, ℕ, true, ◌&&◌, nat_eq, IsTrue, List, [], ◌∷◌, refl, sym, ◌∙◌, ap, ap₂, eq-eqb}
+use Rattle.poets_value.specs.declared.value.Name.{Name}
 use Rattle.poets_expr.specs.Expression.{Expression}
 use Rattle.poets_expr.specs.Env.{same_name}
 use Rattle.poets_expr.specs.Same.{same}
@@ -48,6 +49,9 @@ contract_one _ _ e = absurd cc
 
 nat_itself : (n : ℕ) → nat_eq n n ≡ true
 nat_itself n = eq-eqb n n refl
+
+pub name_itself : (x : Name) → same_name x x ≡ true
+name_itself x = nat_itself x.id
 
 pub binders_itself : (b : Binders) → same_binders b b ≡ true
 binders_itself b = rw (nat_itself b.sender.id, nat_itself b.receiver.id, nat_itself b.what.id, nat_itself b.day.id) refl

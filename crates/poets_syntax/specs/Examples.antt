@@ -88,7 +88,10 @@ payment days = event bob ann 500 usd days
 abbrev pub paid : Expression → Expression → Expression → Contract
 paid buyer seller day =
     Transmit (binders 14)
-    (and (and (and (equals (named 14) buyer) (equals (named 15) seller)) (equals (Expression.Unary KindOf (named 16)) (Expression.Named usd)))
+    (and
+    (and
+    (and (equals (named 14) buyer) (equals (named 15) seller))
+    (equals (Expression.Unary KindOf (named 16)) (Expression.Named usd)))
     (Expression.Binary O.Le (named 17) (Expression.Binary O.Add day (number 30))))
     Success
 
@@ -98,10 +101,16 @@ paid buyer seller day =
 abbrev pub sale_template : Template
 sale_template = record {
   name = sale;
-  params = record { name = name 20; ty = T.Agent } ∷ record { name = name 21; ty = T.Agent } ∷ record { name = name 22; ty = T.Int } ∷ [];
+  params =
+      record { name = name 20; ty = T.Agent }
+      ∷ record { name = name 21; ty = T.Agent }
+      ∷ record { name = name 22; ty = T.Int }
+      ∷ [];
   body =
       Transmit (binders 10)
-      (and (and (equals (named 10) (named 20)) (equals (named 11) (named 21))) (equals (named 12) (Expression.Make (named 22) (Expression.Named oil))))
+      (and
+      (and (equals (named 10) (named 20)) (equals (named 11) (named 21)))
+      (equals (named 12) (Expression.Make (named 22) (Expression.Named oil))))
       (paid (named 21) (named 20) (named 13));
 }
 
@@ -145,6 +154,17 @@ beside = Par (of_kind oil Success) (of_kind oil (of_kind usd Success))
 abbrev pub beside_after_oil : Contract
 beside_after_oil = Plus (of_kind oil (of_kind usd Success)) (Par (of_kind oil Success) (of_kind usd Success))
 
+-- oil or currency first, on either side
+abbrev pub oil_or_usd : Contract
+oil_or_usd = Par (of_kind oil Success) (of_kind usd Success)
+
+abbrev pub usd_or_oil : Contract
+usd_or_oil = Par (of_kind usd Success) (of_kind oil Success)
+
+-- oil, and beside it currency and oil again
+abbrev pub three_parts : Contract
+three_parts = Par (of_kind oil Success) usd_or_oil
+
 abbrev pub some_oil : Event
 some_oil = event ann bob 1 oil 0
 
@@ -160,7 +180,11 @@ over = Seq (Plus Success (of_kind oil Success)) (of_kind usd Success)
 
 -- transmit(a, b, r, t | true). transmit(a, c, q, w | a = bob). Success
 abbrev pub inner : Contract
-inner = Transmit (record { sender = name 10; receiver = name 30; what = name 31; day = name 32 }) (equals (named 10) (Expression.Named bob)) Success
+inner =
+    Transmit
+    (record { sender = name 10; receiver = name 30; what = name 31; day = name 32 })
+    (equals (named 10) (Expression.Named bob))
+    Success
 
 abbrev pub rebound : Contract
 rebound = Transmit (binders 10) (Expression.Literal (V.Bool true)) inner

@@ -18,7 +18,8 @@ EachExposed Is marks (Par c₁ c₂) = EachExposed Is marks c₁ × EachExposed 
 EachExposed Is marks (Seq c₁ c₂) = EachExposed Is marks c₁ × (nullable marks c₁ ≡ true → EachExposed Is marks c₂)
 EachExposed Is marks (App f args) = Is f args
 
--- so many unfoldings in a row are enough: the exposed applications of templates fit them, and after so many there is none
+-- so many unfoldings in a row are enough: the exposed applications of templates fit them, and after so many there is
+-- none
 abbrev pub UnfoldsWithin : ℕ → Book → Marks → Contract → Type 0
 UnfoldsWithin zero book marks c = EachExposed (λ f args. template_in book.templates f ≡ None) marks c
 UnfoldsWithin (suc d) book marks c =

@@ -37,7 +37,7 @@ CountsFitIn s c = CountsFit (book_of s.book) c
 abbrev pub width_in : StudiedBook → Contract → ℕ
 width_in s c = width (book_of s.book) (marks_of s) c
 
--- how wide the contract is in a studied book, cut at one more than the greatest width
+-- how wide the contract is in a studied book, cut at one more than the greatest spread that is kept
 abbrev pub wide_in : StudiedBook → Contract → ℕ
 wide_in s c = cut (width_in s c)
 

@@ -57,7 +57,8 @@ NullableByMarks = (book : Book) (marks : Marks) (c : Contract) →
 
 -- a well-formed contract binds no declared name
 abbrev pub WellFormedBindsUndeclared : Type 0
-WellFormedBindsUndeclared = (declared : Declared) (c : Contract) → IsWellFormed declared c → BindersAreUndeclared declared c
+WellFormedBindsUndeclared =
+    (declared : Declared) (c : Contract) → IsWellFormed declared c → BindersAreUndeclared declared c
 
 -- a contract with its names replaced may be performed as the contract may be where the names have the values that they
 -- are replaced by
@@ -75,7 +76,8 @@ ReplacedPerformed = (book : Book) (given : Givens) (env : Env) (c : Contract) (s
 
 -- a whole contract stays whole where names are replaced by whole values
 abbrev pub ReplacedIsWhole : Type 0
-ReplacedIsWhole = (given : Givens) (c : Contract) → AreWholeGivens given → IsWholeContract c → IsWholeContract (replace given c)
+ReplacedIsWhole =
+    (given : Givens) (c : Contract) → AreWholeGivens given → IsWholeContract c → IsWholeContract (replace given c)
 
 -- a typed contract binds no declared name, and the literals in arguments of its applications are of declared kinds
 abbrev pub TypedIsWellFormed : Type 0

@@ -12,10 +12,13 @@ pub mod Whole
 pub mod Laws
 pub mod WellFormed
 pub mod Same
+pub mod Alike
 pub mod Normal
 pub mod Residual
 pub mod Exposed
 pub mod Width
+pub mod Subterms
+pub mod Spread
 pub mod Arguments
 pub mod NoTemplates
 pub mod TypeOf
@@ -28,6 +31,7 @@ pub mod Studied
 pub mod InStudied
 pub mod Results
 pub mod StudiedLaws
+pub mod AlikeLaws
 pub mod TypedLaws
 pub mod Examples
 pub mod code

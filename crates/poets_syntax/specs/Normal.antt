@@ -7,12 +7,12 @@ use Rattle.poets_expr.specs.Fold.{fold_closed}
 use Rattle.poets_syntax.specs.declared.term.Binders.{Binders}
 use Rattle.poets_syntax.specs.declared.term.Param.{Param}
 use Rattle.poets_syntax.specs.Contract.{Contract, Success, Failure, Transmit, Plus, Par, Seq, App}
-use Rattle.poets_syntax.specs.Same.{same_contract}
+use Rattle.poets_syntax.specs.Alike.{alike, parts}
 use Rattle.poets_syntax.specs.Plain.{Book, Template}
 use Rattle.poets_syntax.specs.Book.{template_in}
 use Rattle.poets_syntax.specs.Marks.{Marks}
 
--- the alternatives of a choice, from the left; `Failure` has none, and every other form is its own one
+-- the alternatives of a choice, from the left; `Failure` has none, and every other form is its own one alternative
 abbrev pub alternatives : Contract → List Contract
 alternatives (Plus a b) = alternatives a ++ alternatives b
 alternatives Failure = []
@@ -22,29 +22,35 @@ alternatives (Par a b) = Par a b ∷ []
 alternatives (Seq a b) = Seq a b ∷ []
 alternatives (App f args) = App f args ∷ []
 
--- of equal ones the first is kept
+-- of alike contracts the first is kept
 abbrev pub distinct : List Contract → List Contract
 distinct [] = []
-distinct (c ∷ cs) = c ∷ filter (λ d. not (same_contract c d)) (distinct cs)
+distinct (c ∷ cs) = c ∷ filter (λ d. not (alike c d)) (distinct cs)
 
--- the alternatives joined by `+`, grouped to the left; none is `Failure`
+-- alternatives joined by `+`, grouped to the left; no alternative gives `Failure`
 abbrev pub choice : List Contract → Contract
 choice [] = Failure
 choice (c ∷ cs) = fold Plus c cs
 
--- the choice of two contracts: the alternatives of both, each once
+-- the choice of two contracts: the alternatives of the first, then those of the second; of alike ones the first is kept
 abbrev pub plus : Contract → Contract → Contract
 plus a b = choice (distinct (alternatives a ++ alternatives b))
 
--- two contracts side by side: `Failure` where one is, and a `Success` leaves the other
+-- parts joined by `||`, grouped to the left; no part gives `Success`
+abbrev pub side_by_side : List Contract → Contract
+side_by_side [] = Success
+side_by_side (c ∷ cs) = fold Par c cs
+
+-- two contracts side by side: `Failure` where either is `Failure`, the other where one is `Success`, and otherwise the
+-- parts of the first, then those of the second, grouped to the left
 abbrev pub par : Contract → Contract → Contract
 par Failure b = Failure
 par a Failure = Failure
 par Success b = b
 par a Success = a
-par a b = Par a b
+par a b = side_by_side (parts a ++ parts b)
 
--- two contracts in sequence: `Failure` where one is, and a `Success` leaves the other
+-- two contracts in sequence: `Failure` where either is `Failure`, and the other where one is `Success`
 abbrev pub seq : Contract → Contract → Contract
 seq Failure b = Failure
 seq a Failure = Failure

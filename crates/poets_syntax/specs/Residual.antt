@@ -1,5 +1,7 @@
--- The residual of a closed contract in normal form by an event: as a function, with a depth of unfolding, and as a relation.
-use Rattle.std.specs.Prelude.{◌≡◌, ℕ, zero, suc, length, Bool, false, List, [], ◌∷◌, ◌++◌, fold, Option, Some, None, if◌then◌else◌}
+-- The residual of a closed contract in normal form by an event: as a function, with a depth of unfolding, and as a
+-- relation.
+use Rattle.std.specs.Prelude.{◌≡◌, ℕ, zero, suc, length, Bool, false, fold, Option, Some, None, if◌then◌else◌}
+use Rattle.std.specs.Prelude.{List, [], ◌∷◌, ◌++◌}
 use Rattle.poets_value.specs.declared.value.Name.{Name}
 use Rattle.poets_value.specs.declared.event.Event.{Event}
 use Rattle.poets_value.specs.declared.value.Value.{Value}
@@ -45,7 +47,8 @@ after_by unfold_at book marks e C.Success = C.Failure
 after_by unfold_at book marks e C.Failure = C.Failure
 after_by unfold_at book marks e (C.Transmit b p c) =
     if is_true (val book.declared (taken b e []) p) then normal book marks (replace (event_givens b e) c) else C.Failure
-after_by unfold_at book marks e (C.Plus a b) = plus (after_by unfold_at book marks e a) (after_by unfold_at book marks e b)
+after_by unfold_at book marks e (C.Plus a b) =
+    plus (after_by unfold_at book marks e a) (after_by unfold_at book marks e b)
 after_by unfold_at book marks e (C.Par a b) =
     plus (par (after_by unfold_at book marks e a) b) (par a (after_by unfold_at book marks e b))
 after_by unfold_at book marks e (C.Seq a b) =

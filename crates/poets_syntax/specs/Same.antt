@@ -8,7 +8,8 @@ use Rattle.poets_syntax.specs.Contract.{Contract, Success, Failure, Transmit, Pl
 
 -- the four names are the same
 abbrev pub same_binders : Binders → Binders → Bool
-same_binders a b = same_name a.sender b.sender && same_name a.receiver b.receiver && same_name a.what b.what && same_name a.day b.day
+same_binders a b =
+    same_name a.sender b.sender && same_name a.receiver b.receiver && same_name a.what b.what && same_name a.day b.day
 
 -- as many arguments, each equal to its counterpart
 abbrev pub same_args : List Expression → List Expression → Bool

@@ -12,9 +12,15 @@ pub data SameShape : Contract → Contract → Type 0 where
   Transmit :
       {b₁ b₂ : Binders} {p₁ p₂ : Expression} {c₁ c₂ : Contract} →
       SameShape c₁ c₂ → SameShape (Contract.Transmit b₁ p₁ c₁) (Contract.Transmit b₂ p₂ c₂)
-  Plus : {c₁ c₂ d₁ d₂ : Contract} → SameShape c₁ c₂ → SameShape d₁ d₂ → SameShape (Contract.Plus c₁ d₁) (Contract.Plus c₂ d₂)
-  Par : {c₁ c₂ d₁ d₂ : Contract} → SameShape c₁ c₂ → SameShape d₁ d₂ → SameShape (Contract.Par c₁ d₁) (Contract.Par c₂ d₂)
-  Seq : {c₁ c₂ d₁ d₂ : Contract} → SameShape c₁ c₂ → SameShape d₁ d₂ → SameShape (Contract.Seq c₁ d₁) (Contract.Seq c₂ d₂)
+  Plus :
+      {c₁ c₂ d₁ d₂ : Contract} → SameShape c₁ c₂ → SameShape d₁ d₂ →
+      SameShape (Contract.Plus c₁ d₁) (Contract.Plus c₂ d₂)
+  Par :
+      {c₁ c₂ d₁ d₂ : Contract} → SameShape c₁ c₂ → SameShape d₁ d₂ →
+      SameShape (Contract.Par c₁ d₁) (Contract.Par c₂ d₂)
+  Seq :
+      {c₁ c₂ d₁ d₂ : Contract} → SameShape c₁ c₂ → SameShape d₁ d₂ →
+      SameShape (Contract.Seq c₁ d₁) (Contract.Seq c₂ d₂)
   App :
       {f : Name} {args₁ args₂ : List Expression} →
       length args₁ ≡ length args₂ → SameShape (Contract.App f args₁) (Contract.App f args₂)

@@ -30,7 +30,8 @@ TypedCountsFit = (book : Book) (reports : List Name) (scope : Scope) (c : Contra
 
 -- the marks of a studied book are right
 abbrev pub StudiedMarksAreRight : Type 0
-StudiedMarksAreRight = (book : Book) (marks : List Mark) → IsStudiedBook book marks → AreRight book (marks_in book.templates marks)
+StudiedMarksAreRight =
+    (book : Book) (marks : List Mark) → IsStudiedBook book marks → AreRight book (marks_in book.templates marks)
 
 -- where each application is of a template with as many parameters, the numbers of arguments fit
 abbrev pub CountsFitWhereKnown : Type 0
@@ -46,4 +47,5 @@ WidthUnfolds = (book : Book) (marks : Marks) (c : Contract) →
 -- numbers of arguments fit
 abbrev pub EnoughDepth : Type 0
 EnoughDepth = (book : Book) (marks : Marks) (c : Contract) →
-    AreRight book marks → IsGuarded book → BodiesCountsFit book → CountsFit book c → UnfoldsWithin (length book.templates) book marks c
+    AreRight book marks → IsGuarded book → BodiesCountsFit book → CountsFit book c →
+    UnfoldsWithin (length book.templates) book marks c

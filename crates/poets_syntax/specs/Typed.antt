@@ -1,5 +1,6 @@
 -- Typed contracts, or the first fault.
-use Rattle.std.specs.Prelude.{nat_eq, Bool, ◌||◌, is_some, List, [], ◌∷◌, ◌++◌, length, map, Option, Some, None, if◌then◌else◌}
+use Rattle.std.specs.Prelude.{nat_eq, Bool, ◌||◌, is_some, length, map, Option, Some, None, if◌then◌else◌}
+use Rattle.std.specs.Prelude.{List, [], ◌∷◌, ◌++◌}
 use Rattle.std.specs.List.{list_any}
 use Rattle.poets_value.specs.declared.value.Name.{Name}
 use Rattle.poets_value.specs.declared.value.Ty.{Ty}
@@ -24,7 +25,8 @@ in_use book reports x = is_some (book.declared x) || is_some (template_in book.t
 -- the first name from the left that is in use, or stands earlier in the same list, is a fault
 abbrev pub check_new : (Name → Bool) → (earlier names : List Name) → Verdict (Unit {0})
 check_new used earlier [] = Passes tt
-check_new used earlier (x ∷ names) = if used x || is_among earlier x then Fails (Twice x) else check_new used (x ∷ earlier) names
+check_new used earlier (x ∷ names) =
+    if used x || is_among earlier x then Fails (Twice x) else check_new used (x ∷ earlier) names
 
 abbrev pub names_bound : Binders → List Name
 names_bound b = b.sender ∷ b.receiver ∷ b.what ∷ b.day ∷ []
@@ -75,4 +77,5 @@ check_contract book reports scope (Par c₁ c₂) = do
 check_contract book reports scope (Seq c₁ c₂) = do
   _ ← check_contract book reports scope c₁
   check_contract book reports scope c₂
-check_contract book reports scope (App f args) = check_application book.declared scope f (template_in book.templates f) args
+check_contract book reports scope (App f args) =
+    check_application book.declared scope f (template_in book.templates f) args

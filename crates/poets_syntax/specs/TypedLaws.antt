@@ -1,4 +1,5 @@
--- What checks of types say by the rules of typing, and what typing says of values and of replacing names, as statements.
+-- What checks of types say by the rules of typing, and what typing says of values and of replacing names, as
+-- statements.
 use Rattle.std.specs.Prelude.{◌≡◌, ◌↔◌, List, ◌++◌}
 use Rattle.poets_value.specs.declared.value.Name.{Name}
 use Rattle.poets_value.specs.declared.value.Ty.{Ty}
@@ -17,17 +18,20 @@ use Rattle.poets_syntax.specs.OfType.{IsOfType, IsTypedEnv, AreOfTypes, types_gi
 
 -- an expression passes with the type that it has by the rules, and with no other
 abbrev pub TypesByRules : Type 0
-TypesByRules = (declared : Declared) (scope : Scope) (e : Expression) (t : Ty) → type_of declared scope e ≡ Passes t ↔ Has declared scope e t
+TypesByRules =
+    (declared : Declared) (scope : Scope) (e : Expression) (t : Ty) →
+    type_of declared scope e ≡ Passes t ↔ Has declared scope e t
 
 -- a contract passes exactly where it is typed by the rules
 abbrev pub ContractsByRules : Type 0
 ContractsByRules = (book : Book) (reports : List Name) (scope : Scope) (c : Contract) →
     check_contract book reports scope c ≡ Passes tt ↔ IsTyped book reports scope c
 
--- the value of a typed expression, where the names in its scope have values of their types, is undefined or of the expression's
--- type, and its agents and kinds are declared
+-- the value of a typed expression, where the names in its scope have values of their types, is undefined or of the
+-- expression's type, and its agents and kinds are declared
 abbrev pub ValueIsOfType : Type 0
-ValueIsOfType = (declared : Declared) (scope : Scope) (env : Env) (e : Expression) (t : Ty) → IsTypedEnv declared scope env →
+ValueIsOfType =
+    (declared : Declared) (scope : Scope) (env : Env) (e : Expression) (t : Ty) → IsTypedEnv declared scope env →
     Has declared scope e t → IsOfType (val declared env e) t × HasDeclaredNames declared (val declared env e)
 
 -- folding a closed expression keeps its type

@@ -9,7 +9,8 @@ use Rattle.poets_value.specs.declared.day.Day.{Day}
 use Rattle.poets_value.specs.declared.value.Resource.{Resource}
 use Rattle.poets_expr.specs.declared.expr.Op.{Op}
 use Rattle.poets_expr.specs.declared.expr.Op.TheVariants as O
-use Rattle.poets_expr.specs.Expression.{Minus, Not, AmountOf, KindOf, Expression, Literal, Undefined, Named, Unary, Make, Binary, If}
+use Rattle.poets_expr.specs.Expression.{Minus, Not, AmountOf, KindOf}
+use Rattle.poets_expr.specs.Expression.{Expression, Literal, Undefined, Named, Unary, Make, Binary, If}
 use Rattle.poets_expr.specs.Env.{Declared}
 use Rattle.poets_syntax.specs.declared.term.Binders.{Binders}
 use Rattle.poets_syntax.specs.declared.term.Param.{Param}
@@ -60,11 +61,16 @@ pub data Has (declared : Declared) (scope : Scope) : Expression → Ty → Type 
   Denial : {a : Expression} → Has declared scope a T.Bool → Has declared scope (Unary Not a) T.Bool
   TheAmount : {a : Expression} → Has declared scope a T.Resource → Has declared scope (Unary AmountOf a) T.Int
   TheKind : {a : Expression} → Has declared scope a T.Resource → Has declared scope (Unary KindOf a) T.Kind
-  Made : {a b : Expression} → Has declared scope a T.Int → Has declared scope b T.Kind → Has declared scope (Make a b) T.Resource
+  Made :
+      {a b : Expression} → Has declared scope a T.Int → Has declared scope b T.Kind →
+      Has declared scope (Make a b) T.Resource
   Sum :
       {o : Op} {a b : Expression} {t : Ty} →
-      IsSum o → IsNumberOrDay t → Has declared scope a t → Has declared scope b T.Int → Has declared scope (Binary o a b) t
-  Days : {a b : Expression} → Has declared scope a T.Day → Has declared scope b T.Day → Has declared scope (Binary O.Sub a b) T.Int
+      IsSum o → IsNumberOrDay t → Has declared scope a t → Has declared scope b T.Int →
+      Has declared scope (Binary o a b) t
+  Days :
+      {a b : Expression} → Has declared scope a T.Day → Has declared scope b T.Day →
+      Has declared scope (Binary O.Sub a b) T.Int
   Product :
       {o : Op} {a b : Expression} →
       IsProduct o → Has declared scope a T.Int → Has declared scope b T.Int → Has declared scope (Binary o a b) T.Int
@@ -73,10 +79,12 @@ pub data Has (declared : Declared) (scope : Scope) : Expression → Ty → Type 
       IsEquality o → Has declared scope a t → Has declared scope b t → Has declared scope (Binary o a b) T.Bool
   Comparison :
       {o : Op} {a b : Expression} {t : Ty} →
-      IsComparison o → IsNumberOrDay t → Has declared scope a t → Has declared scope b t → Has declared scope (Binary o a b) T.Bool
+      IsComparison o → IsNumberOrDay t → Has declared scope a t → Has declared scope b t →
+      Has declared scope (Binary o a b) T.Bool
   Connective :
       {o : Op} {a b : Expression} →
-      IsConnective o → Has declared scope a T.Bool → Has declared scope b T.Bool → Has declared scope (Binary o a b) T.Bool
+      IsConnective o → Has declared scope a T.Bool → Has declared scope b T.Bool →
+      Has declared scope (Binary o a b) T.Bool
   Choice :
       {a b c : Expression} {t : Ty} →
       Has declared scope a T.Bool → Has declared scope b t → Has declared scope c t → Has declared scope (If a b c) t
@@ -100,12 +108,19 @@ pub data IsTyped (book : Book) (reports : List Name) : Scope → Contract → Ty
       {scope : Scope} {b : Binders} {p : Expression} {c : Contract} →
       AreNew (in_use book reports) [] (names_bound b) → Has book.declared (types_bound b ++ scope) p T.Bool →
       IsTyped book reports (types_bound b ++ scope) c → IsTyped book reports scope (Transmit b p c)
-  Chooses : {scope : Scope} {c₁ c₂ : Contract} → IsTyped book reports scope c₁ → IsTyped book reports scope c₂ → IsTyped book reports scope (Plus c₁ c₂)
-  Joins : {scope : Scope} {c₁ c₂ : Contract} → IsTyped book reports scope c₁ → IsTyped book reports scope c₂ → IsTyped book reports scope (Par c₁ c₂)
-  Follows : {scope : Scope} {c₁ c₂ : Contract} → IsTyped book reports scope c₁ → IsTyped book reports scope c₂ → IsTyped book reports scope (Seq c₁ c₂)
+  Chooses :
+      {scope : Scope} {c₁ c₂ : Contract} → IsTyped book reports scope c₁ → IsTyped book reports scope c₂ →
+      IsTyped book reports scope (Plus c₁ c₂)
+  Joins :
+      {scope : Scope} {c₁ c₂ : Contract} → IsTyped book reports scope c₁ → IsTyped book reports scope c₂ →
+      IsTyped book reports scope (Par c₁ c₂)
+  Follows :
+      {scope : Scope} {c₁ c₂ : Contract} → IsTyped book reports scope c₁ → IsTyped book reports scope c₂ →
+      IsTyped book reports scope (Seq c₁ c₂)
   Applies :
       {scope : Scope} {f : Name} {args : List Expression} {t : Template} →
-      template_in book.templates f ≡ Some t → Fit book.declared scope t.params args → IsTyped book reports scope (App f args)
+      template_in book.templates f ≡ Some t → Fit book.declared scope t.params args →
+      IsTyped book reports scope (App f args)
 
 -- a template: its parameters are new, and its body is typed under them
 pub record IsTypedTemplate (book : Book) (reports : List Name) (t : Template) : Type 0 where
@@ -114,4 +129,5 @@ pub record IsTypedTemplate (book : Book) (reports : List Name) (t : Template) : 
 
 -- each template in the book is typed
 abbrev pub IsTypedBook : Book → (reports : List Name) → Type 0
-IsTypedBook book reports = (f : Name) (t : Template) → template_in book.templates f ≡ Some t → IsTypedTemplate book reports t
+IsTypedBook book reports =
+    (f : Name) (t : Template) → template_in book.templates f ≡ Some t → IsTypedTemplate book reports t

@@ -1,4 +1,5 @@
--- What typing gives the laws: declared names are bound nowhere, and the literals in arguments of applications are of declared kinds.
+-- What typing gives the laws: declared names are bound nowhere, and the literals in arguments of applications are of
+-- declared kinds.
 use Rattle.std.specs.Prelude.{◌≡◌, List, [], ◌∷◌, Some}
 use Rattle.poets_value.specs.declared.value.Name.{Name}
 use Rattle.poets_value.specs.declared.event.Event.{Event}
@@ -34,4 +35,5 @@ pub record IsDeclaredEvent (declared : Declared) (e : Event) : Type 0 where
 
 -- the bodies of the templates are well-formed
 abbrev pub AreWellFormed : Book → Type 0
-AreWellFormed book = (f : Name) (t : Template) → template_in book.templates f ≡ Some t → IsWellFormed book.declared t.body
+AreWellFormed book =
+    (f : Name) (t : Template) → template_in book.templates f ≡ Some t → IsWellFormed book.declared t.body

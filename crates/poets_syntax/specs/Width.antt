@@ -1,4 +1,5 @@
--- The size of a contract, and its width: the size, where exposed applications count with the bodies of their templates.
+-- The size of a contract, and its width: the size, where applications in unguarded positions count with the bodies of
+-- their templates.
 use Rattle.std.specs.Prelude.{ℕ, zero, suc, ◌+◌, min, Option, Some, None, length, if◌then◌else◌}
 use Rattle.poets_value.specs.declared.value.Name.{Name}
 use Rattle.poets_expr.specs.Size.{nodes, nodes_of_all}
@@ -25,7 +26,8 @@ wide_by of_body marks Failure = 1
 wide_by of_body marks (Transmit b p c) = 1 + nodes p + size c
 wide_by of_body marks (Plus a b) = 1 + wide_by of_body marks a + wide_by of_body marks b
 wide_by of_body marks (Par a b) = 1 + wide_by of_body marks a + wide_by of_body marks b
-wide_by of_body marks (Seq a b) = 1 + wide_by of_body marks a + (if nullable marks a then wide_by of_body marks b else size b)
+wide_by of_body marks (Seq a b) =
+    1 + wide_by of_body marks a + (if nullable marks a then wide_by of_body marks b else size b)
 wide_by of_body marks (App f args) = 1 + nodes_of_all args + of_body f
 
 -- the measure of a template's body, or 0 where there is no template
@@ -42,7 +44,7 @@ wide_at (suc d) book marks c = wide_by (λ f. body_in (template_in book.template
 abbrev pub width : Book → Marks → Contract → ℕ
 width book marks c = wide_at (length book.templates) book marks c
 
--- the greatest width of a contract that is kept
+-- the greatest spread of a contract that is kept, past which widths are not told apart
 abbrev pub widest : ℕ
 widest = WIDEST
 

@@ -1,12 +1,14 @@
 //! Contracts worked by hand, each carried by a function that does nothing.
 ghost use Rattle.std.specs.Prelude.{◌≡◌, [], ◌∷◌};
-ghost use Rattle.poets_syntax.specs.Contract.{Contract, Success, Failure, Seq};
+ghost use Rattle.poets_syntax.specs.Contract.{Contract, Success, Failure, Plus, Par, Seq};
 ghost use Rattle.poets_syntax.specs.Perf.{Perf};
 ghost use Rattle.poets_syntax.specs.May.{May};
 ghost use Rattle.poets_syntax.specs.Marks.{AreRight};
+ghost use Rattle.poets_syntax.specs.Alike.{Alike};
 ghost use Rattle.poets_syntax.specs.Normal.{normal};
 ghost use Rattle.poets_syntax.specs.Width.{size, width};
-ghost use Rattle.poets_syntax.specs.Examples.{ann, bob, oil, usd, book, marks, left_of, ArePerformedAlike, again_with, sold, delivery, payment, payment_owed, beside, beside_after_oil, over, rebound, inner, amounts, of_kind, event, some_oil, some_usd, three_oil, too_great, undefined_int, number};
+ghost use Rattle.poets_syntax.specs.Spread.{spread};
+ghost use Rattle.poets_syntax.specs.Examples.{ann, bob, oil, usd, book, marks, left_of, ArePerformedAlike, again_with, sold, delivery, payment, payment_owed, beside, beside_after_oil, oil_or_usd, usd_or_oil, three_parts, over, rebound, inner, amounts, of_kind, event, some_oil, some_usd, three_oil, too_great, undefined_int, number};
 
 /// A sale is performed by the delivery and then the payment in time.
 pub fn a_sale()
@@ -25,6 +27,15 @@ pub fn side_by_side()
     ensures residual { left_of beside (some_oil ∷ []) ≡ beside_after_oil }
     ensures oil_again { left_of beside (some_oil ∷ some_oil ∷ []) ≡ of_kind usd Success }
     ensures then_usd { left_of beside (some_oil ∷ some_usd ∷ []) ≡ of_kind oil Success }
+{}
+
+/// Parallel parts are a multiset: they group to the left, and alternatives that differ in the order of
+/// such parts alone are one.
+pub fn parts_in_any_order()
+    ensures alike { Alike oil_or_usd usd_or_oil }
+    ensures grouped { normal book marks three_parts ≡ Par oil_or_usd (of_kind oil Success) }
+    ensures one { normal book marks (Plus oil_or_usd usd_or_oil) ≡ oil_or_usd }
+    ensures residual { left_of three_parts (some_oil ∷ []) ≡ usd_or_oil }
 {}
 
 /// An event passes a first part that is nullable.
@@ -59,4 +70,11 @@ pub fn sizes_and_widths()
     ensures width { width book marks (amounts 142) ≡ 1000 }
     ensures applied { size (again_with (number 3)) ≡ 2 }
     ensures unfolded { width book marks (again_with (number 3)) ≡ 13 }
+{}
+
+/// Spreads count equal subterms once, and the body of an application once for equal applications.
+pub fn spreads()
+    ensures transmits { spread book marks (amounts 2) ≡ 25 }
+    ensures equal { spread book marks (Par (again_with (number 3)) (again_with (number 3))) ≡ 16 }
+    ensures different { spread book marks (Par (again_with (number 3)) (again_with (number 4))) ≡ 29 }
 {}

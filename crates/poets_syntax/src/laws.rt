@@ -1,6 +1,11 @@
-//! The laws of `Perf` and `May`, and of checked, guarded and studied books, each carried by a function that does nothing.
+//! The laws of `Perf` and `May`, of checked, guarded and studied books, and of alike contracts, each carried by a
+//! function that does nothing.
 ghost use Rattle.poets_syntax.specs.Laws.{NothingGranted, RestGranted, AllGranted, GrantedAnywhere, GrantedByShape, NullableByShape, HopefulByShape, NullableByMarks, WellFormedBindsUndeclared, ReplacedAlike, ReplacedPerformed, ReplacedIsWhole, TypedIsWellFormed};
 ghost use Rattle.poets_syntax.specs.StudiedLaws.{TypedApplicationsFit, TypedBodiesFit, TypedCountsFit, StudiedMarksAreRight, CountsFitWhereKnown, WidthUnfolds, EnoughDepth};
+ghost use Rattle.std.specs.Prelude.{◌≡◌, ℕ, min};
+ghost use Rattle.poets_syntax.specs.Spread.{largest};
+ghost use Rattle.poets_syntax.specs.Width.{widest, cut};
+ghost use Rattle.poets_syntax.specs.AlikeLaws.{AlikeItself, AlikeBothWays, AlikeJoined, AlikeByTest, AlikeMay, AlikePerformed, AlikeNullable, AlikeSize};
 ghost use Rattle.poets_syntax.specs.TypedLaws.{TypesByRules, ContractsByRules, ValueIsOfType, FoldedHasType, ReplacedHasType, ReplacedIsTyped};
 
 /// With no granted step, what may be performed is what is performed.
@@ -108,4 +113,35 @@ pub fn width_unfolds()
 /// In a guarded book no more unfoldings stand in a row than there are templates.
 pub fn enough_depth()
     ensures { EnoughDepth }
+{}
+
+/// To be alike is an equivalence.
+pub fn alike_equivalence()
+    ensures itself { AlikeItself }
+    ensures both_ways { AlikeBothWays }
+    ensures joined { AlikeJoined }
+{}
+
+/// The test for alike contracts is right.
+pub fn alike_by_test()
+    ensures { AlikeByTest }
+{}
+
+/// Alike contracts say the same: the order of parallel parts says nothing.
+pub fn alike_performed()
+    ensures granted { AlikeMay }
+    ensures performed { AlikePerformed }
+{}
+
+/// Alike contracts are nullable together, and have one size.
+pub fn alike_measures()
+    ensures nullable { AlikeNullable }
+    ensures size { AlikeSize }
+{}
+
+/// The limits: the greatest size and the greatest spread of a contract that is kept, and where widths are cut.
+pub fn limits()
+    ensures largest { largest ≡ 1000 }
+    ensures widest { widest ≡ 4096 }
+    ensures cut { (n : ℕ) → cut n ≡ min n 4097 }
 {}

@@ -11,7 +11,7 @@ pub mod substitution;
 mod term;
 
 pub use equality::same;
-pub use sizes::{WIDEST, size};
+pub use sizes::{LARGEST, WIDEST, WIDTH_CUT, size};
 pub use studied::{Mark, Studied};
 pub use substitution::{copy, subst};
 pub use term::{Binders, Book, Param, Template, Term};

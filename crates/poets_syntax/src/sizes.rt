@@ -8,8 +8,14 @@ ghost use Rattle.poets_syntax.specs.Width as width;
 use crate::term::Term;
 use poets_expr::Expr;
 
-/// The greatest width of a contract that is kept.
-pub const WIDEST: u64 = 1000;
+/// The greatest size of a contract that is kept.
+pub const LARGEST: u64 = 1000;
+
+/// The greatest spread of a contract that is kept.
+pub const WIDEST: u64 = 4096;
+
+/// Where a width is cut: past the greatest spread no two are told apart.
+pub const WIDTH_CUT: u64 = WIDEST + 1;
 
 // One node and its two parts.
 fn node(a: u64, b: u64) -> u64

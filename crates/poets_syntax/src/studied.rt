@@ -20,7 +20,7 @@ pub struct Mark {
     pub nullable: bool,
     /// Some number of granted steps performs it.
     pub hopeful: bool,
-    /// Its width, cut at one more than the greatest.
+    /// Its width, cut at one more than the greatest spread.
     pub wide: u64,
 }
 

@@ -2,7 +2,8 @@
 
 use crate::contracts::{Made, is_made};
 use crate::sentences::contract;
-use poets_cons::{of_term, to_term};
+use poets_cons::{Arena, enter, of_term, to_term};
+use poets_syntax::Term;
 use poets_value::Memory;
 use std::alloc::Global;
 
@@ -26,6 +27,54 @@ fn equal_parts_are_one_row(rt: HostRuntime) -> Result<(), Memory> {
     for (text, count) in ROWS {
         let made = by_rows(rt.alloc(), text)?;
         assert!(rt; is_made(rt.alloc(), made, (text, count, 0))?, "{text}");
+    }
+    Ok(())
+}
+
+// A choice of two contracts that are the same but for the order of parallel parts, or are not.
+const ALIKE: [(&str, bool); 10] = [
+    ("f(1) || f(2) + f(2) || f(1)", true),
+    ("f(1) || (f(2) || f(3)) + f(3) || f(1) || f(2)", true),
+    // Each part is wanted as often as it stands there.
+    ("f(1) || f(1) || f(2) + f(1) || f(2) || f(2)", false),
+    ("f(1) || f(1) + f(1) || f(1) || f(1)", false),
+    // Parts that are alike and not equal.
+    (
+        "transmit(a, b, r, t | true). (f(1) || f(2)) || transmit(a, b, r, t | true). (f(2) || f(1))
++ transmit(a, b, r, t | true). (f(2) || f(1)) || transmit(a, b, r, t | true). (f(2) || f(1))",
+        true,
+    ),
+    // Other binders, and another predicate.
+    (
+        "transmit(a, b, r, t | true). (f(1) || f(2)) + transmit(a, b, r, n | true). (f(2) || f(1))",
+        false,
+    ),
+    (
+        "transmit(a, b, r, t | true). (f(1) || f(2)) + transmit(a, b, r, t | not true). (f(2) || f(1))",
+        false,
+    ),
+    ("(f(1) || f(2)) ; f(3) + (f(2) || f(1)) ; f(3)", true),
+    // A sequence and a choice have an order.
+    ("f(1) || f(2) ; f(3) + f(3) ; f(2) || f(1)", false),
+    ("f(1) || (f(2) + f(3)) + (f(3) + f(2)) || f(1)", false),
+];
+
+// Whether the choice is of two contracts that are alike.
+fn are_alike(alloc: Global, text: &str) -> Result<bool, Memory> {
+    let term = contract(alloc, text)?;
+    let Term::Plus(first, second) = &term else {
+        return Err(Memory);
+    };
+    let mut arena = Arena::new(alloc);
+    let first = enter(alloc, &mut arena, first)?;
+    let second = enter(alloc, &mut arena, second)?;
+    arena.alike(first, second)
+}
+
+#[test]
+fn rows_are_alike_but_for_the_order_of_parallel_parts(rt: HostRuntime) -> Result<(), Memory> {
+    for (text, wanted) in &ALIKE {
+        assert_eq!(rt; are_alike(rt.alloc(), text)?, *wanted, "{text}");
     }
     Ok(())
 }

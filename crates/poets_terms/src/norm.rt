@@ -1,17 +1,15 @@
 //! Builders of normal forms worked out by hand, and each called once with memory.
 
 use crate::sentences::contract;
-use poets_norm::{distinct_choice, merge, par, plus, send, seq};
+use poets_norm::{par, plus, send, seq};
 use poets_syntax::{Term, same};
 use poets_value::Memory;
 use std::alloc::Global;
 
-// What is built of two contracts. `Merge` is given the distinct alternatives of both, and `Send` has the binders and the
-// predicate of the first.
+// What is built of two contracts. `Send` has the binders and the predicate of the first.
 #[derive(Clone, Copy)]
 enum Builder {
     Plus,
-    Merge,
     Par,
     Seq,
     Send,
@@ -20,11 +18,6 @@ enum Builder {
 fn built(alloc: Global, builder: Builder, left: Term, right: Term) -> Result<Term, Memory> {
     match (builder, left) {
         (Builder::Plus, left) => plus(alloc, left, right),
-        (Builder::Merge, left) => {
-            let first = distinct_choice(alloc, left)?;
-            let second = distinct_choice(alloc, right)?;
-            merge(alloc, first, second)
-        }
         (Builder::Par, left) => par(alloc, left, right),
         (Builder::Seq, left) => seq(alloc, left, right),
         (Builder::Send, Term::Transmit { binders, when, .. }) => send(alloc, binders, when, right),
@@ -49,10 +42,24 @@ const EACH_ONCE: &str = "transmit(a, b, r, t | kind(r) = Oil). Success
 
 const SUCCESS_OR_OIL: &str = "Success + transmit(a, b, r, t | kind(r) = Oil). Success";
 
+const USD: &str = "transmit(a, b, r, t | kind(r) = USD). Success";
+
+// O || U
+const OIL_BESIDE_USD: &str =
+    "transmit(a, b, r, t | kind(r) = Oil). Success || transmit(a, b, r, t | kind(r) = USD). Success";
+
+// U || O
+const USD_BESIDE_OIL: &str =
+    "transmit(a, b, r, t | kind(r) = USD). Success || transmit(a, b, r, t | kind(r) = Oil). Success";
+
+// (O || U) || O
+const OIL_ON_BOTH_SIDES: &str = "transmit(a, b, r, t | kind(r) = Oil). Success
+|| transmit(a, b, r, t | kind(r) = USD). Success || transmit(a, b, r, t | kind(r) = Oil). Success";
+
 // What the row shows, the builder, two contracts, and what is built of them.
 type Row<'a> = (&'a str, Builder, &'a str, &'a str, &'a str);
 
-const BUILT: [Row; 9] = [
+const BUILT: [Row; 12] = [
     (
         "of equal alternatives the first is kept",
         Builder::Plus,
@@ -62,11 +69,32 @@ const BUILT: [Row; 9] = [
     ),
     ("a choice drops failure", Builder::Plus, "Failure", OIL, OIL),
     (
-        "choices of distinct alternatives are merged",
-        Builder::Merge,
+        "of alike alternatives the first is kept",
+        Builder::Plus,
+        OIL_BESIDE_USD,
+        USD_BESIDE_OIL,
+        OIL_BESIDE_USD,
+    ),
+    (
+        "alternatives of one size are kept",
+        Builder::Plus,
+        OIL,
+        USD,
+        OIL_OR_USD,
+    ),
+    (
+        "a choice in a choice is none of its own",
+        Builder::Plus,
         "Success + Success",
         OIL,
         SUCCESS_OR_OIL,
+    ),
+    (
+        "parallel parts group to the left",
+        Builder::Par,
+        OIL,
+        USD_BESIDE_OIL,
+        OIL_ON_BOTH_SIDES,
     ),
     (
         "a side that is over is left out",

@@ -10,7 +10,7 @@ use poets_syntax::{Mark, Studied, Term, same};
 use poets_value::Memory;
 use std::alloc::Global;
 
-// The normal form over trees, which is the plain program that the one over rows is compared with.
+// The normal form of a tree, as a tree.
 fn by_tree(alloc: Global, studied: &Studied, term: &Term) -> Result<Made, Memory> {
     let mut asks = Asks::new(());
     let made = normal(alloc, studied, term, &mut asks)?;
@@ -18,7 +18,7 @@ fn by_tree(alloc: Global, studied: &Studied, term: &Term) -> Result<Made, Memory
     Ok((made, rows.count(), asks.count()))
 }
 
-// The normal form over rows.
+// The normal form of a tree, as rows.
 fn by_rows(alloc: Global, studied: &Studied, term: &Term) -> Result<Made, Memory> {
     let mut asks = Asks::new(());
     let rows = normal_rows(alloc, studied, term, &mut asks)?;
@@ -106,19 +106,21 @@ const IS_ONE: &str = " = 1). Success";
 // What a contract begins with, what follows so many times, what ends it, and its width.
 type Width<'a> = (&'a str, &'a str, u32, &'a str, u64);
 
-const WIDTHS: [Width; 7] = [
+const WIDTHS: [Width; 8] = [
     // One node, the argument, and the three nodes of the body, as its mark says.
     ("f(2)", "", 0, "", 5),
     // One node, the argument, and the eleven nodes of the body, as its mark says.
     ("count(1)", "", 0, "", 13),
     // Seven nodes of O. Success, thirteen of O. U. Success, and their node.
     (BOTH_WANT_OIL, "", 0, "", 21),
-    // Five nodes, and two of each sum. The width is cut at 1001.
+    // Five nodes, and two of each sum.
     (ONE, " + 1", 497, IS_ONE, 999),
-    (ONE, " + 1", 500, IS_ONE, 1001),
+    (ONE, " + 1", 500, IS_ONE, 1005),
     // Seven nodes of each, and one less of those between them.
     (OIL, AND_OIL, 124, "", 999),
-    (OIL, AND_OIL, 125, "", 1001),
+    // Thirteen of each, and one less of those between them. The width is cut at 4097.
+    ("count(1)", " || count(1)", 291, "", 4087),
+    ("count(1)", " || count(1)", 292, "", 4097),
 ];
 
 // Whether the width is that of the row, by trees and by rows.

@@ -91,8 +91,9 @@ const STEPS: [Step; 9] = [
     ("count(1 + 1)", 2, ("count(3)", 1, 3)),
     // A refused event leaves failure: of each side the argument in the body is asked, and the predicate.
     ("count(1) || count(2)", 3, ("Failure", 1, 4)),
-    // Either side may take the event. The sides are equal, and asked once.
-    ("count(1) || count(1)", 1, (EITHER_COUNTED, 5, 2)),
+    // Either side may take the event, which leaves alike ways, of which the first is kept. The sides are equal, and asked
+    // once.
+    ("count(1) || count(1)", 1, ("count(2) || count(1)", 3, 2)),
     // An event passes a first part that may end: the argument in the body is asked, and both predicates.
     (FIRST_BEFORE_FIVE, 5, ("Success", 1, 3)),
     // The first part may go on, and as much is asked.

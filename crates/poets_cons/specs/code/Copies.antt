@@ -5,7 +5,8 @@ use Rattle.std.specs.declared.vec.Vec.{Vec}
 use Rattle.poets_cons.specs.declared.node.Node.{Node}
 use Rattle.poets_cons.specs.Notes.{noted}
 use Rattle.poets_cons.specs.Row.{Row, row_of, contract_by, IsPart, AreBelow}
-use Rattle.poets_cons.specs.Table.{rows_of, contract_at, IsTable, Reached, Stands, Extends, AddsReached, AddsReachedBoth}
+use Rattle.poets_cons.specs.Table.{rows_of, contract_at, IsTable, Reached, Stands, Extends}
+use Rattle.poets_cons.specs.Table.{AddsReached, AddsReachedBoth}
 
 -- the rows so far: each row that is noted for another stands for its contract, and each is noted for some row
 pub record AreCopies (from into : List Node) (copies : ℕ → Option ℕ) : Type 0 where
@@ -54,12 +55,16 @@ Notes = List (Option ℕ)
 
 -- the row was copied into the table with all that it reaches, and its copy is noted
 abbrev pub CopiesRow : List Node → (old new : Vec Node Global) → (before after : Notes) → (place copy : ℕ) → Type 0
-CopiesRow from old new before after place copy = IsCopied from old.items new.items (noted before) (noted after) place copy
+CopiesRow from old new before after place copy =
+    IsCopied from old.items new.items (noted before) (noted after) place copy
 
--- the parts of the row were copied into the table and noted, and the node is that of the row with the copies as its parts
+-- the parts of the row were copied into the table and noted, and the node is that of the row with the copies as its
+-- parts
 abbrev pub CopiesParts : List Node → (old new : Vec Node Global) → (before after : Notes) → ℕ → Node → Type 0
-CopiesParts from old new before after place node = ArePartsCopied from old.items new.items (noted before) (noted after) place (row_of node)
+CopiesParts from old new before after place node =
+    ArePartsCopied from old.items new.items (noted before) (noted after) place (row_of node)
 
 -- two rows were copied into the table with all that they reach, and these two are their copies
 abbrev pub CopiesBoth : List Node → (old new : Vec Node Global) → (before after : Notes) → (a b : ℕ) → ℕ × ℕ → Type 0
-CopiesBoth from old new before after a b p = AreBothCopied from old.items new.items (noted before) (noted after) a b p.0 p.1
+CopiesBoth from old new before after a b p =
+    AreBothCopied from old.items new.items (noted before) (noted after) a b p.0 p.1

@@ -1,5 +1,5 @@
--- What a row feeds to a hasher: the numbers of its parts, the template that it applies, and the names, literals and operators
--- between two expressions in it. Different rows may feed the same.
+-- What a row feeds to a hasher: the numbers of its parts, the template that it applies, and the names, literals and
+-- operators between two expressions in it. Different rows may feed the same.
 use Rattle.std.specs.Prelude.{List, [], ◌∷◌, ◌++◌}
 use Rattle.std.specs.Hash.{HashWrites, u8, u32, i64, usize}
 use Rattle.std.specs.Hash as fed

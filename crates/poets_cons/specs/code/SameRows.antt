@@ -7,7 +7,8 @@ use Rattle.poets_expr.specs.Env.{same_name}
 use Rattle.poets_expr.specs.Same.{same}
 use Rattle.poets_expr.proofs.SameTrees.{both_true, name_one, same_one, same_itself}
 use Rattle.poets_syntax.specs.Same.{same_binders, same_args, same_contract}
-use Rattle.poets_syntax.proofs.SameContracts.{binders_one, args_one, binders_itself, args_itself, contract_one, contract_itself}
+use Rattle.poets_syntax.proofs.SameContracts.{binders_one, args_one, binders_itself, args_itself}
+use Rattle.poets_syntax.proofs.SameContracts.{contract_one, contract_itself}
 use Rattle.poets_cons.specs.Row.{Row, Success, Failure, Transmit, Plus, Par, Seq, App}
 use Rattle.poets_cons.specs.Same.{same_row}
 use Rattle.poets_cons.specs.code.Hashing.{row_writes}
@@ -22,10 +23,18 @@ row_one (Transmit b p c) (Transmit d q f) e =
     let j = same_one p q k.1 in
     let l = eqb-true c f h.1 in
     cc
-row_one (Plus a b) (Plus c d) e = let h = both_true (nat_eq a c) (nat_eq b d) e in ap₂ Plus (eqb-true a c h.0) (eqb-true b d h.1)
-row_one (Par a b) (Par c d) e = let h = both_true (nat_eq a c) (nat_eq b d) e in ap₂ Par (eqb-true a c h.0) (eqb-true b d h.1)
-row_one (Seq a b) (Seq c d) e = let h = both_true (nat_eq a c) (nat_eq b d) e in ap₂ Seq (eqb-true a c h.0) (eqb-true b d h.1)
-row_one (App f xs) (App g ys) e = let h = both_true (same_name f g) (same_args xs ys) e in ap₂ App (name_one f g h.0) (args_one xs ys h.1)
+row_one (Plus a b) (Plus c d) e =
+    let h = both_true (nat_eq a c) (nat_eq b d) e in
+    ap₂ Plus (eqb-true a c h.0) (eqb-true b d h.1)
+row_one (Par a b) (Par c d) e =
+    let h = both_true (nat_eq a c) (nat_eq b d) e in
+    ap₂ Par (eqb-true a c h.0) (eqb-true b d h.1)
+row_one (Seq a b) (Seq c d) e =
+    let h = both_true (nat_eq a c) (nat_eq b d) e in
+    ap₂ Seq (eqb-true a c h.0) (eqb-true b d h.1)
+row_one (App f xs) (App g ys) e =
+    let h = both_true (same_name f g) (same_args xs ys) e in
+    ap₂ App (name_one f g h.0) (args_one xs ys h.1)
 row_one _ _ e = absurd cc
 
 nat_itself : (n : ℕ) → nat_eq n n ≡ true
@@ -41,7 +50,9 @@ row_itself (Seq a b) = rw (nat_itself a, nat_itself b) refl
 row_itself (App f args) = rw (nat_itself f.id, args_itself args) refl
 
 -- a test of equality is an equivalence
-equality-laws : {X : Type 0} (E : X → X → Bool) → ((x y : X) → E x y ≡ true → x ≡ y) → ((x : X) → E x x ≡ true) → IsEquivalence E
+pub equality-laws :
+    {X : Type 0} (E : X → X → Bool) → ((x y : X) → E x y ≡ true → x ≡ y) → ((x : X) → E x x ≡ true) →
+    IsEquivalence E
 equality-laws E one itself = record {
   refl = itself;
   symm = λ x y. both_ways (E x y) (E y x) (λ e. rw (one x y e) (itself y)) (λ e. rw (one y x e) (itself x));

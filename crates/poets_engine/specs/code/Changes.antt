@@ -28,7 +28,8 @@ abbrev pub AddsContract : Name → Arc Term Global → List Node → (old new : 
 AddsContract x original current old new = AddsRow (new_row x (arc_value original) current) old new
 
 -- the event is in the row with the number, of which the current contract is then owed, in the log, and in each watch
-pub record RecordsEvent (declared : Declared) (number : ℕ) (e : Event) (current : List Node) (old new : StoreView) : Type 0 where
+pub record RecordsEvent (declared : Declared) (number : ℕ) (e : Event) (current : List Node)
+    (old new : StoreView) : Type 0 where
   pub rows : new.rows ≡ changed_at (with_event e current) (number - 1) old.rows
   pub log : new.log ≡ old.log ++ (number, e) ∷ []
   pub changes : List Change
@@ -40,7 +41,8 @@ abbrev pub RecordsUnder : Decls → ℕ → Event → List Node → (old new : S
 RecordsUnder decls number e current old new = RecordsEvent (declared_of decls.names) number e current old new
 
 -- one watch more, which begins with the log
-pub record AddsWatch (declared : Declared) (report : Report) (args : List (Option Value)) (old new : StoreView) : Type 0 where
+pub record AddsWatch (declared : Declared) (report : Report) (args : List (Option Value))
+    (old new : StoreView) : Type 0 where
   pub begins : Begins declared report args old.log old.watches new.watches
   pub rows : new.rows ≡ old.rows
   pub log : new.log ≡ old.log

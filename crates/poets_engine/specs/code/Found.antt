@@ -17,5 +17,7 @@ abbrev pub AreNamesOf : Rules → Arc Decls Global → Type 0
 AreNamesOf rules decls = declared_of (arc_value decls).names ≡ (book_of_rules rules).declared
 
 -- of whatever reports these are copies, the copy that is found is that of the report with the name
-abbrev pub IsFoundAmong : {E : Type 0} → List (Arc Report Global) → Name → Result (Option (Arc Report Global)) E → Type 0
-IsFoundAmong copies x found = (reports : List plain.Report) → AreReports reports copies → IfOk found (λ o. IfSome o (IsReport reports x))
+abbrev pub IsFoundAmong :
+    {E : Type 0} → List (Arc Report Global) → Name → Result (Option (Arc Report Global)) E → Type 0
+IsFoundAmong copies x found = (reports : List plain.Report) →
+    AreReports reports copies → IfOk found (λ o. IfSome o (IsReport reports x))

@@ -1,5 +1,5 @@
 -- Which contracts are owed after a registration or a transmission.
-use Rattle.std.specs.Prelude.{◌≡◌, ◌≤◌, Bool, true, false, nat_lt, ℤ, Option, Some, None, List, All}
+use Rattle.std.specs.Prelude.{◌≡◌, Bool, true, false, ℤ, Option, Some, None, List, All}
 use Rattle.poets_value.specs.declared.event.Event.{Event}
 use Rattle.poets_syntax.specs.Contract.{Contract, Failure}
 use Rattle.poets_syntax.specs.declared.term.Term.{Term}
@@ -8,7 +8,6 @@ use Rattle.poets_syntax.specs.Plain.{Book}
 use Rattle.poets_syntax.specs.Book.{book_of}
 use Rattle.poets_syntax.specs.Studied.{StudiedBook, marks_of}
 use Rattle.poets_syntax.specs.Residual.{after}
-use Rattle.poets_syntax.specs.Width.{widest}
 use Rattle.poets_cons.specs.declared.node.Node.{Node}
 use Rattle.poets_cons.specs.Table.{contract_of_rows}
 use Rattle.poets_table.specs.TableView.{RowView, row_view}
@@ -17,7 +16,7 @@ use Rattle.poets_call.specs.Plain.{Reply}
 use Rattle.poets_call.specs.declared.call.Reply.{Reply as CodeReply}
 use Rattle.poets_call.specs.Calls.{reply_of}
 use Rattle.poets_call.specs.Ledger.{late_day}
-use Rattle.poets_syntax.specs.InStudied.{width_in}
+use Rattle.poets_residue.specs.Limits.{is_past_limit_in}
 use Rattle.poets_engine.specs.declared.judging.Decision.{Decision}
 use Rattle.poets_engine.specs.declared.judging.Decision.TheVariants as D
 
@@ -35,21 +34,21 @@ is_failure Failure = true
 is_failure _ = false
 
 abbrev pub judged : Reply → Bool → Bool → Contract → Judgement
-judged refusal true is_large c = Refused refusal
+judged refusal true is_past c = Refused refusal
 judged refusal false true c = Refused Reply.TooLarge
 judged refusal false false c = Owed c
 
--- a contract that no number of granted steps performs is refused, and one that is too large
+-- a contract that no number of granted steps performs is refused, and one that is past the limit
 abbrev pub judge : StudiedBook → Reply → Contract → Judgement
-judge s refusal c = judged refusal (is_failure c) (nat_lt widest (width_in s c)) c
+judge s refusal c = judged refusal (is_failure c) (is_past_limit_in s c) c
 
--- a contract that the rows hold is refused where no number of granted steps performs it, and where it is too large
+-- a contract that the rows hold is refused where no number of granted steps performs it, and where it is past the limit
 abbrev pub judge_rows : StudiedBook → CodeReply → List Node → Judgement
 judge_rows s refusal rows = judge s (reply_of refusal) (contract_of_rows rows)
 
--- a contract that is kept: the numbers of arguments fit in it, and it is not too large
+-- a contract that is kept: the numbers of arguments fit in it, and it is not past the limit
 abbrev pub IsKept : StudiedBook → Contract → Type 0
-IsKept s c = CountsFit (book_of s.book) c × (width_in s c ≤ widest)
+IsKept s c = CountsFit (book_of s.book) c × (is_past_limit_in s c ≡ false)
 
 -- the residual of each row is one
 abbrev pub AreKept : StudiedBook → List (RowView Term (List Node)) → Type 0

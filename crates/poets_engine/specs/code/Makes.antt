@@ -38,7 +38,8 @@ pub record Prepares (rules : Rules) (command : Command) (store : StoreView) (wor
   pub args : List Expression
   pub over : List Name
   pub asked : command ≡ Command.Portfolio report args over
-  pub holds : (l : Ledger) → IsLedger rules l store → HoldsPortfolio (book_of_rules rules) (reports_of_rules rules) l report args over work
+  pub holds : (l : Ledger) → IsLedger rules l store →
+      HoldsPortfolio (book_of_rules rules) (reports_of_rules rules) l report args over work
 
 -- the command was made, but for what the body still owes
 abbrev pub MakesBody : Rules → Command → StoreView → StoreView → Body → Type 0

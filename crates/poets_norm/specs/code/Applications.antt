@@ -21,11 +21,13 @@ to_ask_of arg = operated (expression_of arg)
 -- the second expression is the argument, folded where it has a parameter
 abbrev pub IsFolded : Decls → Option (Bor Param) → (arg made : Expr) → Type 0
 IsFolded decls param arg made =
-    expression_of made ≡ option_map_or (λ p. fold_closed (declared_of decls.names) (expression_of arg) p.now.ty) param (expression_of arg)
+    expression_of made
+    ≡ option_map_or (λ p. fold_closed (declared_of decls.names) (expression_of arg) p.now.ty) param (expression_of arg)
 
 -- the second expressions are the arguments, each folded to a literal of its parameter's type
 abbrev pub AreFolded : Decls → List Param → (args made : List Expr) → Type 0
-AreFolded decls params args made = map expression_of made ≡ folded (declared_of decls.names) params (map expression_of args)
+AreFolded decls params args made =
+    map expression_of made ≡ folded (declared_of decls.names) params (map expression_of args)
 
 -- the template applied to the arguments, or `Failure` where there are none
 abbrev pub applied : Name → Option (List Expression) → Contract
@@ -40,6 +42,7 @@ applied_to f kept = applied f (option_map (λ r. map expression_of r.items) kept
 abbrev pub Keeps : {E : Type 0} → Name → Result (Option (Listed Expr)) E → Contract → Type 0
 Keeps f result c = IfOk result (λ kept. applied_to f kept ≡ c)
 
--- where there is a result, the count of what was asked and what the kept arguments have to be asked stay within the limit
+-- where there is a result, the count of what was asked and what the kept arguments have to be asked stay within the
+-- limit
 abbrev pub KeepsWithin : {E : Type 0} → Name → Result (Option (Listed Expr)) E → (asks limit : ℕ) → Type 0
 KeepsWithin f result asks limit = IfOk result (λ kept. asks + questions (applied_to f kept) ≤ limit)

@@ -16,7 +16,8 @@ use Rattle.poets_norm.specs.Questions.{questions}
 
 -- the pairs are what the arguments give for the parameters, the newest last
 abbrev pub AreGivens : Decls → List Param → List Expr → Givens → Type 0
-AreGivens decls params args pairs = reverse pairs ≡ argument_givens (declared_of decls.names) params (map expression_of args)
+AreGivens decls params args pairs =
+    reverse pairs ≡ argument_givens (declared_of decls.names) params (map expression_of args)
 
 -- the template's body with its parameters replaced, in normal form
 abbrev pub unfolded : StudiedBook → Template → List Expr → Contract

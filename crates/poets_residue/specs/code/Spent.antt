@@ -20,9 +20,10 @@ IsNoted nodes memo c = (k : ℕ) × (v : ℕ) × (memo k ≡ Some v) × (contrac
 abbrev pub IsNotedBut : Contract → List Node → (ℕ → Option ℕ) → Contract → Type 0
 IsNotedBut c nodes memo d = (d ≡ c) ⊎ IsNoted nodes memo d
 
--- different transmits and applications that stand ready in the contract and were not noted before the call pay for what it asks;
--- where it has a result they are noted after it, beside those that were
-pub record IsSpent (book : Book) (marks : Marks) (c : Contract) (Before After : Contract → Type 0) (old new : ℕ) {E : Type 0} (r : Result ℕ E) : Type 0 where
+-- different transmits and applications that stand ready in the contract and were not noted before the call pay for what
+-- it asks; where it has a result they are noted after it, beside those that were
+pub record IsSpent (book : Book) (marks : Marks) (c : Contract) (Before After : Contract → Type 0) (old new : ℕ)
+    {E : Type 0} (r : Result ℕ E) : Type 0 where
   pub begun : List Contract
   pub different : IsDistinct same_contract begun
   pub standing : (d : Contract) → IsAmong d begun → IsAmong d (ready book marks c)
@@ -31,15 +32,19 @@ pub record IsSpent (book : Book) (marks : Marks) (c : Contract) (Before After : 
   pub kept : IfOk r (λ _. (d : Contract) → Before d → After d)
   pub asks : new ≤ old + sum_by (asked_of book) begun
 
--- what a call in a studied book asks for a contract of the old table is paid for by transmits and applications of it that the
--- old memo does not note, and the new one does
-abbrev pub Spends : {E : Type 0} → StudiedBook → (of : List Node → Contract) → (old : List Node) → (memo : List (Option ℕ)) →
+-- what a call in a studied book asks for a contract of the old table is paid for by transmits and applications of it
+-- that the old memo does not note, and the new one does
+abbrev pub Spends : {E : Type 0} → StudiedBook → (of : List Node → Contract) →
+    (old : List Node) → (memo : List (Option ℕ)) →
     (new : List Node) → (new_memo : List (Option ℕ)) → (asks new_asks : ℕ) → Result ℕ E → Type 0
 Spends s of old memo new new_memo asks new_asks result =
-    IsSpent (book_of s.book) (marks_of s) (of old) (IsNoted old (noted memo)) (IsNoted new (noted new_memo)) asks new_asks result
+    IsSpent (book_of s.book) (marks_of s) (of old) (IsNoted old (noted memo)) (IsNoted new (noted new_memo))
+    asks new_asks result
 
 -- what such a call asks is paid for so where the contract itself is yet to be noted
-abbrev pub SpendsAnew : {E : Type 0} → StudiedBook → (of : List Node → Contract) → (old : List Node) → (memo : List (Option ℕ)) →
+abbrev pub SpendsAnew : {E : Type 0} → StudiedBook → (of : List Node → Contract) →
+    (old : List Node) → (memo : List (Option ℕ)) →
     (new : List Node) → (new_memo : List (Option ℕ)) → (asks new_asks : ℕ) → Result ℕ E → Type 0
 SpendsAnew s of old memo new new_memo asks new_asks result =
-    IsSpent (book_of s.book) (marks_of s) (of old) (IsNoted old (noted memo)) (IsNotedBut (of old) new (noted new_memo)) asks new_asks result
+    IsSpent (book_of s.book) (marks_of s) (of old) (IsNoted old (noted memo)) (IsNotedBut (of old) new (noted new_memo))
+    asks new_asks result

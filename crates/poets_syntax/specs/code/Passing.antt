@@ -20,7 +20,9 @@ ContractPasses book reports scope c = check_contract book reports scope c ≡ Pa
 -- the parameters of the template, and its body under them
 abbrev pub TemplatePasses : Book → (reports : List Name) → Template → Type 0
 TemplatePasses book reports t =
-    (check_new (in_use book reports) [] (map (λ p. p.name) t.params) ≡ Passes tt) × ContractPasses book reports (scope_of t.params) t.body
+    (check_new (in_use book reports) [] (map (λ p. p.name) t.params) ≡ Passes tt)
+    × ContractPasses book reports (scope_of t.params) t.body
 
 abbrev pub BookPasses : Book → (reports : List Name) → Type 0
-BookPasses book reports = (f : Name) (t : Template) → template_in book.templates f ≡ Some t → TemplatePasses book reports t
+BookPasses book reports =
+    (f : Name) (t : Template) → template_in book.templates f ≡ Some t → TemplatePasses book reports t

@@ -1,4 +1,5 @@
 use Rattle.std.proofs.Common.{◌≡◌, ◌∙◌, List, None, false, length, sym, ap, subst}
+use Rattle.std.proofs.lemmas.Result.{IfOk-weaker}
 use Rattle.poets_value.specs.declared.event.Event.{Event}
 use Rattle.poets_syntax.specs.Applied.{CountsFit}
 use Rattle.poets_syntax.specs.Book.{book_of}
@@ -13,7 +14,7 @@ use Rattle.poets_residue.proofs.Studies.{IsStudied-book}
 use Rattle.poets_table.specs.TableView.{RowView, row_view}
 use Rattle.poets_call.specs.Plain.{Reply}
 use Rattle.poets_call.specs.Ledger.{late_day}
-use Rattle.poets_engine.specs.code.Judgements.{judgement_by, judge, unless_over}
+use Rattle.poets_engine.specs.code.Judgements.{judgement_by, judge, unless_over, IsJudgementBy}
 use Rattle.poets_engine.proofs.transmission.decide.Goals as goal
 
 -- where the contract runs on and the event is not late, what is left is judged
@@ -33,5 +34,6 @@ judge-requires g c =
 
 pub returns-clause-choice : goal.returns-clause-choice
 returns-clause-choice g c =
-    c.judge.ensures.choice
-    ∙ in_time c.args.studied.now (row_view c.args.row.now) c.args.event.now (contract_of_rows c.in_ok-next.next) c.if-row.false (sym c.in_default.ensures) c.in_ok-next.ensures.residual
+    let judged = in_time c.args.studied.now (row_view c.args.row.now) c.args.event.now (contract_of_rows c.in_ok-next.next) c.if-row.false (sym c.in_default.ensures)
+    c.in_ok-next.ensures.residual in
+    IfOk-weaker c.judge.result _ (IsJudgementBy c.args.studied.now c.args.row.now c.args.event.now) (λ d h. h ∙ judged) c.judge.ensures.choice

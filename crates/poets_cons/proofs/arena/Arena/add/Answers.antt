@@ -1,38 +1,31 @@
-use Rattle.std.proofs.Common.{◌≡◌, ◌∙◌, ap}
-use Rattle.indexmap.specs.IndexSet.{insert_key}
-use Rattle.poets_cons.specs.Row.{row_of}
-use Rattle.poets_cons.specs.Table.{rows_of, IsTable}
-use Rattle.poets_cons.proofs.Adding.{same_node, inserted_row, added_grows, added_table, added_reached, row_found}
-use Rattle.poets_cons.proofs.Standing.{stands_by}
+use Rattle.std.proofs.Common.{◌≡◌, ◌∙◌, ap, sym, subst, length}
+use Rattle.poets_cons.specs.Row.{row_of, AreBelow}
+use Rattle.poets_cons.specs.code.Adding.{with_form}
+use Rattle.poets_cons.specs.code.Forms.{AreForms, IsFormOf}
+use Rattle.poets_cons.specs.code.Classes.{shapes_of}
+use Rattle.poets_cons.specs.Notes.{noted}
+use Rattle.poets_cons.proofs.Alikeness.{as_many_forms, classes_later, forms_after}
 use Rattle.poets_cons.proofs.arena.Arena.add.Goals as goal
 
-pub returns-clause-row : goal.returns-clause-row
-returns-clause-row c =
-    let h = c.in-Ok.ensures.stored in
-    row_found c.insert_full.new.self.keys c.in-Ok.place c.args.node h.0 h.1 h.2
+pub form_of-form-requires : goal.form_of-form-requires
+form_of-form-requires c =
+    let i = rw c.self.view_is at c.self.invariant in
+    let n = as_many_forms c.args.self.now c.self.inside.forms.items i.1 in
+    let same : length c.as_slice.result.now ≡ length c.args.self.now = ap length (c.as_slice.ensures.value ∙ c.reserve.ensures.items) ∙ n in
+    subst (λ k. AreBelow k (row_of c.args.node)) (sym same) c.requires
 
 pub invariant_of-self-2 : goal.invariant_of-self-2
 invariant_of-self-2 c =
-    added_table c.self.inside.nodes.keys c.insert_full.new.self.keys c.args.node c.self.invariant
-    (rw c.self.view_is c.requires) c.in-Ok.ensures.keys c.insert_full.ensures.unique
-
-pub returns-clause-stands : goal.returns-clause-stands
-returns-clause-stands c =
-    let new = c.insert_full.new.self.keys in
-    let made : new ≡ insert_key same_node c.args.self.now c.args.node = rw c.self.view_is at c.in-Ok.ensures.keys in
-    let table : IsTable c.args.self.now = rw c.self.view_is at c.self.invariant in
-    let grows = added_grows c.args.self.now new c.args.node table c.requires made c.insert_full.ensures.unique in
-    let all = added_table c.args.self.now new c.args.node table c.requires made c.insert_full.ensures.unique in
-    stands_by c.args.self.now new grows all.earlier c.in-Ok.place (row_of c.args.node) (returns-clause-row c) c.requires
-
-pub returns-clause-reached : goal.returns-clause-reached
-returns-clause-reached c =
-    let new = c.insert_full.new.self.keys in
-    let made : new ≡ insert_key same_node c.args.self.now c.args.node = rw c.self.view_is at c.in-Ok.ensures.keys in
-    let table : IsTable c.args.self.now = rw c.self.view_is at c.self.invariant in
-    added_reached c.args.self.now new c.args.node table c.requires made c.insert_full.ensures.unique c.in-Ok.place (returns-clause-row c)
-
-pub returns-clause-rows : goal.returns-clause-rows
-returns-clause-rows c =
-    let made : c.insert_full.new.self.keys ≡ insert_key same_node c.args.self.now c.args.node = rw c.self.view_is at c.in-Ok.ensures.keys in
-    ap rows_of made ∙ inserted_row c.args.self.now c.args.node
+    let old = c.self.inside.nodes.keys in
+    let x = c.in_ok-place.ensures in
+    let kept = c.reserve.ensures.items in
+    let all : AreForms old c.reserve.new.self.items = kept ∙ c.self.invariant.1 in
+    let made : IsFormOf c.reserve.new.self.items c.args.node c.form_of-form.result =
+    subst (λ l. IsFormOf l c.args.node c.form_of-form.result) c.as_slice.ensures.value c.form_of-form.ensures in
+    let forms = forms_after old c.args.node c.reserve.new.self.items c.form_of-form.result c.in_ok-place.is_new all made in
+    let here : AreForms c.insert.new.nodes.keys (with_form c.in_ok-place.is_new c.form_of-form.result c.reserve.new.self.items) =
+    subst (λ l. AreForms l (with_form c.in_ok-place.is_new c.form_of-form.result c.reserve.new.self.items)) (sym x.inserted.nodes) forms in (
+      x.table,
+      c.keep.ensures ∙ here,
+      classes_later old c.insert.new.nodes.keys (shapes_of c.self.inside.classes) (noted c.self.inside.classes.classes) x.grows c.self.invariant.2,
+    )

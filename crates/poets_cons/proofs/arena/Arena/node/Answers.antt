@@ -5,9 +5,9 @@ use Rattle.poets_cons.proofs.arena.Arena.node.Goals as goal
 pub returns-clause-contract : goal.returns-clause-contract
 returns-clause-contract c =
     let here : slice_get c.args.self.now c.args.place ≡ Some c.in-Some.node.now = search rules in
-    node_contract c.args.self.now (rw c.self.view_is at c.self.invariant) c.args.place c.in-Some.node.now here
+    node_contract c.args.self.now (rw c.self.view_is at c.self.invariant.0) c.args.place c.in-Some.node.now here
 
 pub returns-clause-below : goal.returns-clause-below
 returns-clause-below c =
     let here : slice_get c.args.self.now c.args.place ≡ Some c.in-Some.node.now = search rules in
-    node_below c.args.self.now (rw c.self.view_is at c.self.invariant) c.args.place c.in-Some.node.now here
+    node_below c.args.self.now (rw c.self.view_is at c.self.invariant.0) c.args.place c.in-Some.node.now here
