@@ -7,9 +7,10 @@ valgrind counts them (`--tool=callgrind`), so that what else the machine does ma
 bench/sharing.py and bench/calculus.py, made small, may take 1.15 times the instructions of the older program, and print
 the same. Contracts that a hostile text might have may take three times as many: parallel parts of two kinds in turn, a
 choice of pairs side by side, and `||` in one another. Some are too large for the older program, which refuses them once
-it has made their normal forms; so what is printed of these is not compared. Of parts that are alike but for the order of
-what stands in them, and of two kinds in turn, so many contracts are made that there are as many parts in all: a contract
-of the most parts may take 1.3 times the instructions for each of them that one of the fewest takes.
+it has made their normal forms; so what is printed of these is not compared. Of some families so many contracts are made
+that there are as many parts in all: a contract of the most parts may take 1.3 times the instructions for each of them
+that one of the fewest takes. Such are parts that are alike but for the order of what stands in them, parts of two kinds
+in turn, and alike parts in turn with different ones, which the older program refuses.
 """
 import itertools
 import re
@@ -48,6 +49,14 @@ def two_kinds(parts, contracts, events=10):
     """Contracts of parts of two kinds in turn, each with transmissions that the parts of the first kind take."""
     book = TAKES.format("any", "true") + TAKES.format("none", "false")
     each = [f"{('any', 'none')[i % 2]}()" for i in range(parts)]
+    return session(book, "\n|| ".join(each), contracts, events)
+
+
+def among_others(parts, contracts, events=10):
+    """Contracts of alike parts in turn with different ones, each with transmissions that the alike ones take."""
+    kinds = range(parts // 2)
+    book = TAKES.format("any", "true") + "".join(TAKES.format(f"k{i}", f"amount(r) = {i + 2}") for i in kinds)
+    each = [part for i in kinds for part in ("any()", f"k{i}()")]
     return session(book, "\n|| ".join(each), contracts, events)
 
 
@@ -121,6 +130,8 @@ def main():
     kept.append(is_linear(program, "parts that are alike", alike_parts, (20, 40, 80)))
     kept.append(is_linear(program, "parts of two kinds in turn", lambda parts: two_kinds(parts, 4_000 // parts),
                           (125, 250, 500)))
+    kept.append(is_linear(program, "alike parts in turn with different ones",
+                          lambda parts: among_others(parts, 2_400 // parts), (60, 120, 200)))
     sys.exit(0 if all(kept) else 1)
 
 

@@ -2,10 +2,8 @@
 use Rattle.std.proofs.Common.{◌≡◌, ℕ, ◌<◌, true, false, arith, List, [], ◌∷◌, ◌++◌, length, get_or, slice_get, Some, map, refl, sym, ◌∙◌, ap, subst, inl, inr, append-nil, length-append, Bool, ◌||◌, option_map}
 use Rattle.std.specs.List.{IsDistinct, list_any, AllByRecursion}
 use Rattle.std.specs.Ordering.{on}
-use Rattle.std.proofs.lemmas.Bool.{cases_lt}
 use Rattle.std.proofs.lemmas.List.{length-map, map-append}
-use Rattle.std.proofs.lemmas.Option.{get_or_from_slice_get, slice_get_within, slice_get-get_or, slice_get-map}
-use Rattle.std.proofs.Math.ListN.{get_or-append}
+use Rattle.std.proofs.lemmas.Option.{slice_get_within, slice_get-get_or, slice_get-map}
 use Rattle.std.proofs.Math.Seq.{get_or-append_seam}
 use Rattle.indexmap.specs.IndexSet.{insert_key}
 use Rattle.poets_syntax.proofs.Replacing.{truth}
@@ -14,6 +12,7 @@ use Rattle.poets_cons.specs.Row.{Row, Success, row_of, contract_by, AreBelow}
 use Rattle.poets_cons.specs.Same.{same_row}
 use Rattle.poets_cons.specs.code.SameRows.{row_one}
 use Rattle.poets_cons.specs.Table.{rows_of, contract_at, AreEarlier, AreDistinct, IsTable, with_row, Reached, Extends, AddsReached}
+use Rattle.poets_cons.proofs.Built.{at_push, inserted}
 use Rattle.poets_cons.proofs.Places.{place_of_row, contract-at}
 
 -- the test of two nodes is that of their rows
@@ -31,17 +30,7 @@ distinct-map (n ∷ nodes) h = (apart-map (row_of n) nodes h.0, distinct-map nod
 
 -- at the end a new row
 pub earlier-push : (rows : List Row) (r : Row) → AreEarlier rows → AreBelow (length rows) r → AreEarlier (rows ++ r ∷ [])
-earlier-push rows r earlier h i s e =
-    let l = slice_get_within (rows ++ r ∷ []) i s e in
-    let v = get_or_from_slice_get (rows ++ r ∷ []) i s Success e in
-    elim (cases_lt i (length rows)) [
-      | inl k ↦ earlier i s (slice_get-get_or rows i Success k ∙ ap Some (sym (get_or-append rows (r ∷ []) Success i k) ∙ v))
-      | inr k ↦ (
-          let place : i ≡ length rows = omega (arith, l, k, length-append rows (r ∷ [])) in
-          let same : s ≡ r = sym v ∙ ap (λ j. get_or (rows ++ r ∷ []) j Success) place ∙ get_or-append_seam rows r [] Success in
-          rw place (subst (AreBelow (length rows)) (sym same) h)
-          )
-    ]
+earlier-push rows r earlier h i s e = elim (at_push rows r i s e) [ inl k ↦ earlier i s k | inr k ↦ rw k.0 (subst (AreBelow (length rows)) (sym k.1) h) ]
 
 any-rows : (r : Row) (nodes : List Node) → list_any (λ n. same_row r (row_of n)) nodes ≡ list_any (same_row r) (rows_of nodes)
 any-rows r [] = refl
@@ -58,21 +47,16 @@ inserted_row nodes node =
 
 module _ (old new : List Node) (node : Node) (table : IsTable old) (parts : AreBelow (length old) (row_of node))
     (made : new ≡ insert_key same_node old node) (unique : IsDistinct same_node new) where
-  pub added_grows : Extends old new
-  added_grows = elim (truth (list_any (same_node node) old)) [
-    | inl k ↦ ([], rw k at made ∙ sym (append-nil old))
-    | inr k ↦ (node ∷ [], rw k at made)
-  ]
+  -- what holds before, and with the node at the end, holds after
+  after : (P : List Node → Type 0) → P old → P (old ++ node ∷ []) → P new
+  after P h g = subst P (sym made) (inserted same_node old node P h g)
 
-  pub added_earlier : AreEarlier (rows_of new)
-  added_earlier = elim (truth (list_any (same_node node) old)) [
-    | inl k ↦ (let e : new ≡ old = rw k at made in subst (λ nodes. AreEarlier (rows_of nodes)) (sym e) table.earlier)
-    | inr k ↦ (
-        let e : new ≡ old ++ node ∷ [] = rw k at made in
-        let all : rows_of new ≡ rows_of old ++ row_of node ∷ [] = ap rows_of e ∙ map-append row_of old (node ∷ []) in
-        subst AreEarlier (sym all) (earlier-push (rows_of old) (row_of node) table.earlier (subst (λ n. AreBelow n (row_of node)) (sym (length-map old row_of)) parts))
-        )
-  ]
+  pub added_grows : Extends old new
+  added_grows = after (Extends old) ([], sym (append-nil old)) (node ∷ [], refl)
+
+  added_earlier : AreEarlier (rows_of new)
+  added_earlier = after (λ nodes. AreEarlier (rows_of nodes)) table.earlier (subst AreEarlier (sym (map-append row_of old (node ∷ [])))
+      (earlier-push (rows_of old) (row_of node) table.earlier (subst (λ n. AreBelow n (row_of node)) (sym (length-map old row_of)) parts)))
 
   pub added_table : IsTable new
   added_table = record { earlier = added_earlier; distinct = distinct-map new unique }

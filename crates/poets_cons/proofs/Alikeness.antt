@@ -1,5 +1,5 @@
 -- Which rows are alike, by what is kept of them.
-use Rattle.std.proofs.Common.{◌≡◌, ℕ, ◌<◌, Bool, true, false, ◌||◌, nat_eq, arith, List, [], ◌∷◌, ◌++◌, length, slice_get, Option, Some, None, not, refl, sym, ◌∙◌, ap, ap₂, subst, inl, inr, eq-eqb, eqb-true, if◌then◌else◌}
+use Rattle.std.proofs.Common.{◌≡◌, ℕ, ◌<◌, Bool, true, false, ◌||◌, nat_eq, arith, List, [], ◌∷◌, ◌++◌, length, slice_get, map, Some, None, not, refl, sym, ◌∙◌, ap, ap₂, subst, inl, inr, eq-eqb, eqb-true, if◌then◌else◌}
 use Rattle.std.specs.Prelude.{◌↔◌, IsTrue}
 use Rattle.std.proofs.lemmas.Bool.{false≢true}
 use Rattle.std.proofs.lemmas.List.{length-map}
@@ -8,21 +8,26 @@ use Rattle.poets_syntax.specs.Contract as C
 use Rattle.poets_syntax.specs.Alike.{Alike}
 use Rattle.poets_syntax.proofs.Replacing.{truth}
 use Rattle.poets_syntax.proofs.Multisets.{Alike-sym, Alike-trans}
+use Rattle.poets_cons.specs.declared.classes.Classes.{Classes}
 use Rattle.poets_cons.specs.declared.form.Form.{Form}
 use Rattle.poets_cons.specs.declared.node.Node.{Node}
 use Rattle.poets_cons.specs.Forms.{has_parallel}
+use Rattle.poets_cons.specs.Notes.{noted}
 use Rattle.poets_cons.specs.Row.{row_of}
 use Rattle.poets_cons.specs.Table.{rows_of, contracts_of, contract_at, AreAlikeAt, IsTable, Extends}
 use Rattle.poets_cons.specs.code.Adding.{with_form, may_be_alike}
-use Rattle.poets_cons.specs.code.Classes.{Shape, AreShapes, HasClass, AreClasses}
+use Rattle.poets_cons.specs.code.Classes.{shape_of, same_shape, shapes_of, AreShapes, HasClass, AreKnown}
+use Rattle.poets_cons.specs.code.Bags.{AreBags}
 use Rattle.poets_cons.specs.code.Forms.{weight, cut, form_of, AreForms, IsFormOf}
+use Rattle.poets_cons.proofs.Classing.{one_shape}
 use Rattle.poets_cons.proofs.Formed.{form_here, forms_push}
 use Rattle.poets_cons.proofs.Places.{one_place}
 use Rattle.poets_cons.proofs.ShapeTables.{one_class}
+use Rattle.poets_cons.proofs.Bags.{no_bags}
 use Rattle.poets_cons.proofs.Weights.{Alike-weight}
 use Rattle.poets_cons.proofs.Standing.{length-contracts, length-extends, contract_at-later}
 use Rattle.poets_cons.proofs.Adding.{same_node}
-use Rattle.std.specs.List.{list_any}
+use Rattle.std.specs.List.{list_any, IsDistinct}
 use Rattle.indexmap.specs.IndexSet.{insert_key}
 
 pub alike_parallel : {c d : Contract} → Alike c d → has_parallel c ≡ has_parallel d
@@ -74,10 +79,11 @@ module _ (nodes : List Node) (table : IsTable nodes) (a b : ℕ) (first : a < le
       ]
 
   -- rows by their classes
-  pub by_classes : (shapes : List Shape) → AreShapes shapes → (k l : ℕ) → HasClass shapes (contract_at nodes a) k → HasClass shapes (contract_at nodes b) l →
-      IsTrue (nat_eq k l) ↔ AreAlikeAt nodes a b
-  by_classes shapes all k l h g =
-      let e = one_class (λ c d x. Alike-sym x) (λ c d f x y. Alike-trans x y) shapes all (contract_at nodes a) (contract_at nodes b) k l h g in
+  pub by_classes : (known : Classes) → AreKnown nodes known → (k l : ℕ) → HasClass (shapes_of known) (contract_at nodes a) k →
+      HasClass (shapes_of known) (contract_at nodes b) l → IsTrue (nat_eq k l) ↔ AreAlikeAt nodes a b
+  by_classes known all k l h g =
+      let e = one_class (λ c d x. Alike-sym x) (λ c d f x y. Alike-trans x y) (shapes_of known) all.classes.right
+      (one_shape known.bags.keys known.shapes.keys all.classes.right all.bags all.distinct) (contract_at nodes a) (contract_at nodes b) k l h g in
       (λ t. e.0 (eqb-true k l t), λ x. eq-eqb k l (e.1 x))
 
 -- the forms of a table's rows after a node was inserted
@@ -92,23 +98,30 @@ pub as_many_forms : (nodes : List Node) (forms : List Form) → AreForms nodes f
 as_many_forms nodes forms all = ap length all ∙ length-map (contracts_of nodes) form_of ∙ length-contracts nodes
 
 -- the classes of rows stay where rows come at the end
-pub classes_later : (old new : List Node) (shapes : List Shape) (classes : ℕ → Option ℕ) → Extends old new → AreClasses old shapes classes → AreClasses new shapes classes
-classes_later old new shapes classes grows all = record {
-  right = all.right;
-  rows = λ i k e.
-      let h = all.rows i k e in
-      let longer = length-extends old new grows in
-      (omega (arith, h.0, longer), subst (λ d. HasClass shapes d k) (sym (contract_at-later old new grows i h.0)) h.1);
+pub classes_later : (old new : List Node) (known : Classes) → Extends old new → AreKnown old known → AreKnown new known
+classes_later old new known grows all = record {
+  bags = all.bags;
+  distinct = all.distinct;
+  classes = record {
+    right = all.classes.right;
+    rows = λ i k e.
+        let h = all.classes.rows i k e in
+        let longer = length-extends old new grows in
+        (omega (arith, h.0, longer), subst (λ d. HasClass (shapes_of known) d k) (sym (contract_at-later old new grows i h.0)) h.1);
+  };
 }
 
-no_shapes : AreShapes []
-no_shapes = record { each = λ i s e. absurd cc; one = λ i j s e f. absurd cc }
-
 -- before any row has a class
-pub no_classes : (nodes : List Node) (shapes : List Shape) (classes : ℕ → Option ℕ) → shapes ≡ [] → ((k : ℕ) → classes k ≡ None) → AreClasses nodes shapes classes
-no_classes nodes shapes classes e none = record {
-  right = subst AreShapes (sym e) no_shapes;
-  rows = λ i k f. let no : None ≡ Some k = sym (none i) ∙ f in absurd cc;
+pub no_classes : (nodes : List Node) (known : Classes) → known.bags.keys ≡ [] → known.shapes.keys ≡ [] → ((k : ℕ) → noted known.classes k ≡ None) →
+    AreKnown nodes known
+unfolding IsDistinct
+no_classes nodes known e f none = record {
+  classes = record {
+    right = subst (λ l. AreShapes (map (shape_of known.bags.keys) l)) (sym f) (λ i s g. absurd cc);
+    rows = λ i k g. let no : None ≡ Some k = sym (none i) ∙ g in absurd cc;
+  };
+  bags = subst AreBags (sym e) no_bags;
+  distinct = subst (IsDistinct same_shape) (sym f) tt;
 }
 
 -- no rows have no forms

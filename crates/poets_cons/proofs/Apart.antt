@@ -3,15 +3,14 @@ use Rattle.std.proofs.Common.{◌≡◌, ℕ, ◌+◌, ◌<◌, Bool, true, fals
 use Rattle.std.specs.List.{AllByRecursion}
 use Rattle.poets_syntax.specs.Contract.{Contract}
 use Rattle.poets_syntax.specs.Contract as C
-use Rattle.poets_cons.specs.declared.shape.Run.{Run}
 use Rattle.poets_syntax.specs.Between.{Between}
 use Rattle.poets_syntax.proofs.Multisets.{Alike-refl}
-use Rattle.poets_cons.specs.Row.{Success, Failure, Transmit, Plus, Par, Seq, App}
+use Rattle.poets_cons.specs.Row.{Transmit, Plus, Par, Seq}
 use Rattle.poets_syntax.specs.Alike.{Alike, AreAlike, parts}
-use Rattle.poets_cons.specs.code.Classes.{Shape, Single, Parallel, contract_of_shape, AreSingles, IsShapeAt}
-use Rattle.poets_cons.specs.code.Runs.{spelled, one_if, times, AreInOrder}
-use Rattle.poets_cons.proofs.Ordered.{times_cons, times_first, in_order_one}
-use Rattle.poets_cons.proofs.Shapes.{side_parts, singles_within, of_success, of_failure, of_transmit, of_plus, of_seq, of_app}
+use Rattle.poets_cons.specs.code.Classes.{Shape, Single, Parallel, contract_of_shape, IsShapeAt}
+use Rattle.poets_cons.specs.code.Bags.{one_if, times, AreSame}
+use Rattle.poets_cons.proofs.Bags.{times_cons, times_first}
+use Rattle.poets_cons.proofs.Shapes.{side_parts, singles_below, singles_within, of_success, of_failure, of_transmit, of_plus, of_seq, of_app}
 
 -- an interleaving with nothing
 nothing_between : {xs ys zs : List Contract} → Between xs ys zs → xs ≡ [] → zs ≡ ys
@@ -22,10 +21,6 @@ nothing_between (Between.Second {x = x} b) e = ap (λ l. x ∷ l) (nothing_betwe
 -- the numbers are below another
 abbrev AllBelow : ℕ → List ℕ → Type 0
 AllBelow n ks = AllByRecursion (λ k. k < n) ks
-
-singles_below : (shape : ℕ → Shape) (n : ℕ) (ks : List ℕ) → AreSingles shape n ks → AllBelow n ks
-singles_below shape n [] h = tt
-singles_below shape n (k ∷ ks) h = (h.0.0, singles_below shape n ks h.1)
 
 module _ (n : ℕ) (part : ℕ → Contract) where
   -- one of the numbers, taken out
@@ -70,38 +65,44 @@ module _ (n : ℕ) (part : ℕ → Contract) where
         counts = λ v. let p = times_cons v l ls in let q = times_cons v l t.others in omega (arith, p, q, t.counts v);
       }
 
+-- the shapes are one, but for the order of parallel parts
+abbrev pub AreOne : Shape → Shape → Type 0
+AreOne (Single r) (Single s) = r ≡ s
+AreOne (Parallel ks) (Parallel ls) = AreSame ks ls
+AreOne _ _ = ⊥
+
+one_itself : (s : Shape) → AreOne s s
+one_itself (Single r) = refl
+one_itself (Parallel ks) = λ n. refl
+
 module _ (n : ℕ) (part : ℕ → Contract) (shape : ℕ → Shape)
     (stands : (i : ℕ) → i < n → part i ≡ contract_of_shape part (shape i))
     (right : (i : ℕ) → i < n → IsShapeAt shape i (shape i))
-    (one_shape : (i j : ℕ) → i < n → j < n → shape i ≡ shape j → i ≡ j) where
+    (one_class : (i j : ℕ) → i < n → j < n → AreOne (shape i) (shape j) → i ≡ j) where
+  one_shape : (i j : ℕ) → i < n → j < n → shape i ≡ shape j → i ≡ j
+  one_shape i j l m e = one_class i j l m (subst (AreOne (shape i)) e (one_itself (shape i)))
+
   -- a class whose contract is a `||`
   record OfPar (i : ℕ) (a b : Contract) : Type 0 where
-    runs : List Run
-    is : shape i ≡ Parallel runs
-    below : AllBelow n (spelled runs)
-    in_order : AreInOrder runs
-    are_parts : parts (C.Par a b) ≡ map part (spelled runs)
+    classes : List ℕ
+    is : shape i ≡ Parallel classes
+    below : AllBelow n classes
+    are_parts : parts (C.Par a b) ≡ map part classes
 
   of_par : (i : ℕ) → i < n → (a b : Contract) → C.Par a b ≡ part i → OfPar i a b
   of_par i l a b e = by (shape i) refl (right i l)
     where
       by : (s : Shape) → shape i ≡ s → IsShapeAt shape i s → OfPar i a b
-      by (Single Success) f h = let g : C.Par a b ≡ C.Success = e ∙ stands i l ∙ ap (contract_of_shape part) f in absurd cc
-      by (Single Failure) f h = let g : C.Par a b ≡ C.Failure = e ∙ stands i l ∙ ap (contract_of_shape part) f in absurd cc
-      by (Single (Transmit x p c)) f h = let g : C.Par a b ≡ C.Transmit x p (part c) = e ∙ stands i l ∙ ap (contract_of_shape part) f in absurd cc
-      by (Single (Plus x y)) f h = let g : C.Par a b ≡ C.Plus (part x) (part y) = e ∙ stands i l ∙ ap (contract_of_shape part) f in absurd cc
       by (Single (Par x y)) f h = absurd h.0
-      by (Single (Seq x y)) f h = let g : C.Par a b ≡ C.Seq (part x) (part y) = e ∙ stands i l ∙ ap (contract_of_shape part) f in absurd cc
-      by (Single (App x args)) f h = let g : C.Par a b ≡ C.App x args = e ∙ stands i l ∙ ap (contract_of_shape part) f in absurd cc
-      by (Parallel runs) f h =
-          let all = singles_within shape i n (spelled runs) (omega arith) h.1 in
+      by (Parallel ks) f h =
+          let all = singles_within shape shape i n ks (omega arith) (λ k m. refl) h.1 in
           record {
-            runs = runs;
+            classes = ks;
             is = f;
-            below = singles_below shape n (spelled runs) all;
-            in_order = h.2;
-            are_parts = ap parts (e ∙ stands i l ∙ ap (contract_of_shape part) f) ∙ side_parts n part shape stands (spelled runs) all (omega (arith, h.0));
+            below = singles_below shape n ks all;
+            are_parts = ap parts (e ∙ stands i l ∙ ap (contract_of_shape part) f) ∙ side_parts n part shape stands ks all (omega (arith, h.0));
           }
+      by s f h = let g : C.Par a b ≡ contract_of_shape part s = e ∙ stands i l ∙ ap (contract_of_shape part) f in absurd cc
 
   mutual
     one : {c d : Contract} → Alike c d → (i j : ℕ) → i < n → j < n → c ≡ part i → d ≡ part j → i ≡ j
@@ -125,9 +126,8 @@ module _ (n : ℕ) (part : ℕ → Contract) (shape : ℕ → Shape)
     one (Alike.Par {a = a} {b = b} {c = c} {d = d} h) i j l m e f =
         let x = of_par i l a b e in
         let y = of_par j m c d f in
-        let same = in_order_one x.runs y.runs x.in_order y.in_order
-        (all_one h (spelled x.runs) (spelled y.runs) x.below y.below x.are_parts y.are_parts) in
-        one_shape i j l m (x.is ∙ ap Parallel same ∙ sym y.is)
+        let same = all_one h x.classes y.classes x.below y.below x.are_parts y.are_parts in
+        one_class i j l m (subst (AreOne (shape i)) (sym y.is) (subst (λ s. AreOne s (Parallel y.classes)) (sym x.is) same))
     one (Alike.Seq {a = a} {b = b} {c = c} {d = d} h k) i j l m e f =
         let x = of_seq part shape i (shape i) (right i l) a b (sym (stands i l) ∙ sym e) in
         let y = of_seq part shape j (shape j) (right j m) c d (sym (stands j m) ∙ sym f) in
@@ -139,7 +139,7 @@ module _ (n : ℕ) (part : ℕ → Contract) (shape : ℕ → Shape)
         ∙ sym (of_app part shape j (shape j) (right j m) g args (sym (stands j m) ∙ sym f)))
 
     all_one : {cs ds : List Contract} → AreAlike cs ds → (ks ls : List ℕ) → AllBelow n ks → AllBelow n ls → cs ≡ map part ks → ds ≡ map part ls →
-        (v : ℕ) → times v ks ≡ times v ls
+        AreSame ks ls
     all_one AreAlike.None [] [] p q e f v = refl
     all_one AreAlike.None [] (k ∷ ls) p q e f v = absurd cc
     all_one AreAlike.None (k ∷ ks) ls p q e f v = absurd cc
@@ -194,7 +194,7 @@ no_times [] h = refl
 no_times (l ∷ ls) h = absurd (omega (arith, h l, times_first l ls))
 
 -- contracts of classes are alike to those of the same classes in another order
-pub in_any_order : (part : ℕ → Contract) (ks ls : List ℕ) → ((v : ℕ) → times v ks ≡ times v ls) → AreAlike (map part ks) (map part ls)
+pub in_any_order : (part : ℕ → Contract) (ks ls : List ℕ) → AreSame ks ls → AreAlike (map part ks) (map part ls)
 in_any_order part [] ls e = subst (λ zs. AreAlike [] (map part zs)) (sym (no_times ls (λ v. sym (e v)))) AreAlike.None
 in_any_order part (k ∷ ks) ls e =
     let some = times_first k ks in

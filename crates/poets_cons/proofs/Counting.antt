@@ -39,11 +39,7 @@ or_one false y e = inr e
 in_itself : (c : Contract) → In c c
 in_itself C.Success = refl
 in_itself C.Failure = refl
-in_itself (C.Transmit b p c) = or_left _ _ (contract_itself (C.Transmit b p c))
-in_itself (C.Plus a b) = or_left _ _ (contract_itself (C.Plus a b))
-in_itself (C.Par a b) = or_left _ _ (contract_itself (C.Par a b))
-in_itself (C.Seq a b) = or_left _ _ (contract_itself (C.Seq a b))
-in_itself (C.App f args) = or_left _ _ (contract_itself (C.App f args))
+in_itself c = or_left _ _ (contract_itself c)
 
 in_two : (q a b : Contract) → In q a ⊎ In q b → list_any (same_contract q) (subterms a ++ subterms b) ≡ true
 in_two q a b m =
@@ -60,13 +56,11 @@ along : (part : ℕ → Contract) (q : Contract) (a b k : ℕ) → (k ≡ a) ⊎
 along part q a b k m h = elim m [ inl e ↦ inl (subst (λ x. In q (part x)) e h) | inr e ↦ inr (subst (λ x. In q (part x)) e h) ]
 
 in_part : (part : ℕ → Contract) (q : Contract) (r : Row) (k : ℕ) → IsPart r k → In q (part k) → In q (contract_by part r)
-in_part part q Success k m h = absurd m
-in_part part q Failure k m h = absurd m
 in_part part q (Transmit b p c) k m h = or_right _ _ (subst (λ x. In q (part x)) m h)
 in_part part q (Plus a b) k m h = or_right _ _ (in_two q (part a) (part b) (along part q a b k m h))
 in_part part q (Par a b) k m h = or_right _ _ (in_two q (part a) (part b) (along part q a b k m h))
 in_part part q (Seq a b) k m h = or_right _ _ (in_two q (part a) (part b) (along part q a b k m h))
-in_part part q (App f args) k m h = absurd m
+in_part part q _ k m h = absurd m
 
 module _ (nodes : List Node) (table : IsTable nodes) where
   -- what stands at a row that is reached

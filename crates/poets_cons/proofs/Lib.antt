@@ -1,4 +1,6 @@
 pub mod Folding
+pub mod Built
+pub mod Bags
 pub mod Growing
 pub mod Belows
 pub mod Places
@@ -9,7 +11,6 @@ pub mod Copied
 pub mod Rooting
 pub mod Counting
 mod Loading
-pub mod Ordered
 pub mod Shapes
 pub mod Apart
 pub mod ShapeTables

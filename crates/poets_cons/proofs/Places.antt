@@ -1,13 +1,12 @@
 -- No two rows of a table stand for one contract.
-use Rattle.std.proofs.Common.{◌≡◌, ℕ, zero, suc, ◌+◌, ◌<◌, false, arith, List, [], length, get_or, slice_get, Some, refl, sym, ◌∙◌, ap, ap₂, inl, inr}
-use Rattle.std.proofs.lemmas.Bool.{cases_order}
-use Rattle.std.proofs.lemmas.Option.{get_or_from_slice_get, slice_get_within, slice_get-get_or}
-use Rattle.std.proofs.lemmas.Map.Keys.{apart_from_distinct}
+use Rattle.std.proofs.Common.{◌≡◌, ℕ, zero, suc, ◌+◌, ◌<◌, arith, List, [], length, get_or, slice_get, Some, refl, sym, ◌∙◌, ap, ap₂, inl, inr}
+use Rattle.std.proofs.lemmas.Option.{slice_get-get_or}
 use Rattle.poets_syntax.specs.Contract.{Contract}
 use Rattle.poets_cons.specs.Row.{Row, Success, Failure, Transmit, Plus, Par, Seq, App, contract_by, IsPart}
 use Rattle.poets_cons.specs.Same.{same_row}
 use Rattle.poets_cons.specs.code.SameRows.{row_itself}
 use Rattle.poets_cons.specs.Table.{nth, grown, AreEarlier, AreDistinct}
+use Rattle.poets_cons.proofs.Built.{same_place}
 use Rattle.poets_cons.proofs.Belows.{part_below}
 use Rattle.poets_cons.proofs.Growing.{grown-at}
 
@@ -34,25 +33,9 @@ rows_alike part (Seq a b) (Seq c d) e h =
 rows_alike part (App f xs) (App g ys) e h = cc
 rows_alike part _ _ e h = absurd cc
 
-module _ (rows : List Row) (apart : AreDistinct rows) where
-  one_row : (i j : ℕ) (r : Row) → slice_get rows i ≡ Some r → slice_get rows j ≡ Some r → i < j → ⊥
-  one_row i j r a b l =
-      let x = get_or_from_slice_get rows i r Success a in
-      let y = get_or_from_slice_get rows j r Success b in
-      let n = apart_from_distinct same_row rows i j Success apart l (slice_get_within rows j r b) in
-      let t = row_itself r in
-      let u : same_row r r ≡ false = rw (x, y) at n in
-      absurd cc
-
-  -- equal rows stand at one place
-  pub place_of_row : (i j : ℕ) (r : Row) → slice_get rows i ≡ Some r → slice_get rows j ≡ Some r → i ≡ j
-  place_of_row i j r a b = elim (cases_order i j) [
-    | inl k ↦ k
-    | inr k ↦ elim k [
-      | inl m ↦ absurd (one_row i j r a b m)
-      | inr m ↦ absurd (one_row j i r b a m)
-    ]
-  ]
+-- equal rows stand at one place
+pub place_of_row : (rows : List Row) → AreDistinct rows → (i j : ℕ) (r : Row) → slice_get rows i ≡ Some r → slice_get rows j ≡ Some r → i ≡ j
+place_of_row rows apart i j r a b = same_place same_row rows apart i j r r a b (row_itself r) (row_itself r)
 
 module _ (rows : List Row) (earlier : AreEarlier rows) (apart : AreDistinct rows) where
   pub contract-at : (i : ℕ) (r : Row) → slice_get rows i ≡ Some r → nth (grown [] rows) i ≡ contract_by (nth (grown [] rows)) r

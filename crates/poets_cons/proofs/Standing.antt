@@ -8,15 +8,14 @@ use Rattle.poets_cons.specs.declared.node.Node.{Node}
 use Rattle.poets_cons.specs.Row.{Row, Success, row_of, contract_by, AreBelow}
 use Rattle.poets_cons.specs.Table.{nth, grown, rows_of, contracts_of, contract_at, AreEarlier, Stands, Extends}
 use Rattle.poets_cons.proofs.Belows.{part_below}
-use Rattle.poets_cons.proofs.Growing.{length-grown, grown-old, grown-append, grown-at, contract_by-alike}
+use Rattle.poets_cons.proofs.Growing.{length-grown, grown-later, grown-at, contract_by-alike}
 
 pub length-contracts : (nodes : List Node) → length (contracts_of nodes) ≡ length nodes
 length-contracts nodes = omega (arith, length-grown [] (rows_of nodes), length-map nodes row_of)
 
 pub contract_at-old : (old more : List Node) (i : ℕ) → i < length old → contract_at (old ++ more) i ≡ contract_at old i
 contract_at-old old more i h =
-    ap (λ cs. nth cs i) (ap (grown []) (map-append row_of old more) ∙ grown-append [] (rows_of old) (rows_of more))
-    ∙ grown-old (contracts_of old) (rows_of more) i (omega (arith, length-contracts old, h))
+    ap (λ rows. nth (grown [] rows) i) (map-append row_of old more) ∙ grown-later [] (rows_of old) (rows_of more) i (omega (arith, length-map old row_of, h))
 
 pub contract_at-later : (old new : List Node) → Extends old new → (i : ℕ) → i < length old → contract_at new i ≡ contract_at old i
 contract_at-later old new x i h = ap (λ nodes. contract_at nodes i) x.1 ∙ contract_at-old old x.0 i h

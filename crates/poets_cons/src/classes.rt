@@ -1,15 +1,16 @@
 //! Classes of rows: two rows have one class exactly where their contracts are alike.
-ghost use Rattle.std.specs.Prelude.{◌≡◌, ◌↔◌, ◌<◌, [], length, IfOk, IsTrue, OnOk, None, ℕ};
+ghost use Rattle.std.specs.Prelude.{◌≡◌, ◌↔◌, ◌<◌, [], length, map, IfOk, IsTrue, None, ℕ};
 ghost use Rattle.poets_cons.specs.Notes.{noted};
 ghost use Rattle.poets_cons.specs.Table.{contract_at, AreAlikeAt, IsTable};
-ghost use Rattle.poets_cons.specs.code.Classes.{shapes_of, AreKnown, Grows, HasClass};
-ghost use Rattle.poets_cons.specs.code.Classes.{AddsRuns, IsShapeOf, ListsRuns};
+ghost use Rattle.poets_cons.specs.code.Classes.{shape_of, shapes_of, AreKnown, AreShapes, HasClass};
+ghost use Rattle.poets_cons.specs.code.Classes.{IsBagOfClass, IsBagOfClasses, IsShapeOf};
+ghost use Rattle.poets_cons.specs.code.Bags.{AreBags, IsLonger};
 
 use crate::arena::node_at;
+use crate::bag::{Bag, join, unit};
 use crate::node::Node;
 use crate::notes::Notes;
-use crate::runs::in_order;
-use crate::shape::{Run, Shape};
+use crate::shape::Shape;
 use indexmap::IndexSet;
 use poets_value::Memory;
 use std::alloc::Global;
@@ -18,6 +19,8 @@ use std::sync::Arc;
 /// The classes of the rows that were asked for, each with its shape.
 #[derive(Drop)]
 pub(crate) struct Classes {
+    // Those that shapes name.
+    bags: IndexSet<Bag>,
     shapes: IndexSet<Shape>,
     classes: Notes,
 }
@@ -25,38 +28,56 @@ pub(crate) struct Classes {
 impl Classes {
     /// No row has a class yet.
     pub(crate) fn new(alloc: Global) -> Classes
-        ensures shapes { shapes_of result ≡ [] }
+        ensures bags { result.bags.keys ≡ [] }
+        ensures shapes { result.shapes.keys ≡ [] }
         ensures classes { (k : ℕ) → noted result.classes k ≡ None }
     {
         Classes {
+            bags: IndexSet::new(alloc),
             shapes: IndexSet::new(alloc),
             classes: Notes::new(alloc),
         }
     }
 }
 
-// Adds the runs of a class.
-fn add_runs(known: &Classes, class: usize, runs: &mut Vec<Run>) -> Result<(), Memory>
-    requires { class < length (shapes_of known.now) }
-    ensures { OnOk result (AddsRuns (shapes_of known.now) class runs.old.items runs.new.items) }
+// The bag of the parallel parts of a class.
+fn bag_of_class(
+    bags: &mut IndexSet<Bag>,
+    shapes: &IndexSet<Shape>,
+    class: usize,
+) -> Result<usize, Memory>
+    requires bags { AreBags bags.old.keys }
+    requires shapes { AreShapes (map (shape_of bags.old.keys) shapes.now.keys) }
+    requires class { class < length shapes.now.keys }
+    ensures bags { AreBags bags.new.keys }
+    ensures grows { IsLonger bags.old.keys bags.new.keys }
+    ensures bag { IfOk result (IsBagOfClass bags.old.keys bags.new.keys shapes.now.keys class) }
 {
-    let Some(shape) = known.shapes.get_index(class) else {
-        unreachable!()
-    };
-    match shape {
-        Shape::Single(_) => {
-            let Ok(()) = runs.push(Run { class, count: 1 }) else {
-                return Err(Memory);
-            };
-            Ok(())
-        }
-        Shape::Parallel(more) => {
-            let Ok(()) = runs.extend_from_slice(more.as_slice()) else {
-                return Err(Memory);
-            };
-            Ok(())
-        }
+    match shapes.get_index(class) {
+        Some(Shape::Single(_)) => unit(bags, class),
+        Some(Shape::Parallel(bag)) => Ok(*bag),
+        None => unreachable!(),
     }
+}
+
+// The bag of the parallel parts of two classes.
+fn bag_of_both(
+    bags: &mut IndexSet<Bag>,
+    shapes: &IndexSet<Shape>,
+    a: usize,
+    b: usize,
+) -> Result<usize, Memory>
+    requires bags { AreBags bags.old.keys }
+    requires shapes { AreShapes (map (shape_of bags.old.keys) shapes.now.keys) }
+    requires first { a < length shapes.now.keys }
+    requires second { b < length shapes.now.keys }
+    ensures bags { AreBags bags.new.keys }
+    ensures grows { IsLonger bags.old.keys bags.new.keys }
+    ensures bag { IfOk result (IsBagOfClasses bags.old.keys bags.new.keys shapes.now.keys a b) }
+{
+    let first = bag_of_class(bags, shapes, a)?;
+    let second = bag_of_class(bags, shapes, b)?;
+    join(bags, first, second)
 }
 
 /// Whether two rows have one class: whether their contracts are the same but for the order of parallel parts.
@@ -91,59 +112,13 @@ fn class_of(
     requires within { place < length nodes.now }
     requires known { AreKnown nodes.now known.old }
     ensures known { AreKnown nodes.now known.new }
-    ensures grows { Grows known.old known.new }
+    ensures bags { IsLonger known.old.bags.keys known.new.bags.keys }
+    ensures shapes { IsLonger (shapes_of known.old) (shapes_of known.new) }
     ensures class { IfOk result (HasClass (shapes_of known.new) (contract_at nodes.now place)) }
 {
     if let Some(class) = known.classes.get(place) {
         return Ok(class);
     }
-    find_beginning(alloc, nodes, known, place)?;
-    find_class(alloc, nodes, known, place)
-}
-
-// Finds the class of what stands left of the last part, where that is itself a `||`, so that the next question about a
-// longer chain begins from there. Where the class of its own left part is known, that is near enough.
-#[cycle(class_of)]
-fn find_beginning(
-    alloc: Global,
-    nodes: &[Node],
-    known: &mut Classes,
-    place: usize,
-) -> Result<(), Memory>
-    requires table { IsTable nodes.now }
-    requires within { place < length nodes.now }
-    requires known { AreKnown nodes.now known.old }
-    ensures known { AreKnown nodes.now known.new }
-    ensures grows { Grows known.old known.new }
-{
-    let Node::Par(left, _) = node_at(nodes, place) else {
-        return Ok(());
-    };
-    let Node::Par(before, _) = node_at(nodes, *left) else {
-        return Ok(());
-    };
-    if known.classes.get(*left).is_some() || known.classes.get(*before).is_some() {
-        return Ok(());
-    }
-    let _class = find_class(alloc, nodes, known, *left)?;
-    Ok(())
-}
-
-// Finds the class of a row.
-#[cycle(class_of)]
-fn find_class(
-    alloc: Global,
-    nodes: &[Node],
-    known: &mut Classes,
-    place: usize,
-) -> Result<usize, Memory>
-    requires table { IsTable nodes.now }
-    requires within { place < length nodes.now }
-    requires known { AreKnown nodes.now known.old }
-    ensures known { AreKnown nodes.now known.new }
-    ensures grows { Grows known.old known.new }
-    ensures class { IfOk result (HasClass (shapes_of known.new) (contract_at nodes.now place)) }
-{
     let shape = shape_of(alloc, nodes, known, place)?;
     let Ok((class, _)) = known.shapes.insert_full(shape) else {
         return Err(Memory);
@@ -163,7 +138,8 @@ fn shape_of(
     requires within { place < length nodes.now }
     requires known { AreKnown nodes.now known.old }
     ensures known { AreKnown nodes.now known.new }
-    ensures grows { Grows known.old known.new }
+    ensures bags { IsLonger known.old.bags.keys known.new.bags.keys }
+    ensures shapes { IsLonger (shapes_of known.old) (shapes_of known.new) }
     ensures shape { IfOk result (IsShapeOf nodes.now known.new place) }
 {
     match node_at(nodes, place) {
@@ -188,11 +164,10 @@ fn shape_of(
             Ok(Shape::Single(Node::Plus(a, b)))
         }
         Node::Par(a, b) => {
-            let mut runs = Vec::new(alloc);
-            list_runs(alloc, nodes, known, *a, &mut runs)?;
-            list_runs(alloc, nodes, known, *b, &mut runs)?;
-            let runs = in_order(alloc, runs)?;
-            Ok(Shape::Parallel(runs))
+            let a = class_of(alloc, nodes, known, *a)?;
+            let b = class_of(alloc, nodes, known, *b)?;
+            let bag = bag_of_both(&mut known.bags, &known.shapes, a, b)?;
+            Ok(Shape::Parallel(bag))
         }
         Node::Seq(a, b) => {
             let a = class_of(alloc, nodes, known, *a)?;
@@ -202,37 +177,6 @@ fn shape_of(
         Node::App { name, args } => {
             let args = Arc::try_clone(args)?;
             Ok(Shape::Single(Node::App { name: *name, args }))
-        }
-    }
-}
-
-// Adds the runs of the parallel parts of a row. Those of a class that is known are taken from its shape.
-#[cycle(class_of)]
-fn list_runs(
-    alloc: Global,
-    nodes: &[Node],
-    known: &mut Classes,
-    place: usize,
-    runs: &mut Vec<Run>,
-) -> Result<(), Memory>
-    requires table { IsTable nodes.now }
-    requires within { place < length nodes.now }
-    requires known { AreKnown nodes.now known.old }
-    ensures known { AreKnown nodes.now known.new }
-    ensures grows { Grows known.old known.new }
-    ensures runs { OnOk result (ListsRuns nodes.now known.new place runs.old.items runs.new.items) }
-{
-    if let Some(class) = known.classes.get(place) {
-        return add_runs(known, class, runs);
-    }
-    match node_at(nodes, place) {
-        Node::Par(a, b) => {
-            list_runs(alloc, nodes, known, *a, runs)?;
-            list_runs(alloc, nodes, known, *b, runs)
-        }
-        _ => {
-            let class = class_of(alloc, nodes, known, place)?;
-            add_runs(known, class, runs)
         }
     }
 }

@@ -2,6 +2,7 @@
 #![tactic(auto)]
 
 mod arena;
+mod bag;
 mod classes;
 mod copying;
 mod entering;
@@ -12,7 +13,6 @@ mod node;
 mod notes;
 mod replacing;
 mod rows;
-mod runs;
 mod shape;
 
 pub use arena::{Arena, node_at};

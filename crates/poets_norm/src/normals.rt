@@ -8,14 +8,15 @@ ghost use Rattle.poets_syntax.specs.InStudied.{app_in, normal_in};
 ghost use Rattle.poets_syntax.specs.Normal as spec;
 ghost use Rattle.poets_syntax.specs.Results.{GivesContract};
 ghost use Rattle.poets_syntax.specs.Width.{size};
-ghost use Rattle.poets_cons.specs.Table.{Stands, contract_at};
+ghost use Rattle.poets_cons.specs.Table.{contract_at, Extends, Stands};
 ghost use Rattle.poets_norm.specs.Asking.{to_ask, AsksWithin};
 ghost use Rattle.poets_norm.specs.Questions.{questions};
+ghost use Rattle.poets_norm.specs.Rows.{Enters};
 
 use crate::applications::kept_args;
 use crate::joining::{self, either};
-use crate::row_normals::{applied, normal_rows, send as send_row};
-use poets_cons::{Arena, enter, rows_at, to_term};
+use crate::row_normals::{applied, normal_rows, rows_from, send as send_row};
+use poets_cons::{Arena, enter, to_term};
 use poets_expr::{Asks, Expr};
 use poets_syntax::{Binders, Studied, Term};
 use poets_value::{Memory, Name};
@@ -29,14 +30,22 @@ struct Entered {
     second: usize,
 }
 
+// The row of a contract, which is entered in a table and let go.
+fn enter_owned(alloc: Global, arena: &mut Arena, term: Term) -> Result<usize, Memory>
+    ensures grows { Extends arena.old arena.new }
+    ensures stands { Enters arena.new result (contract_of term) }
+{
+    enter(alloc, arena, &term)
+}
+
 // A table in which two contracts are entered.
-fn both(alloc: Global, a: &Term, b: &Term) -> Result<Entered, Memory>
-    ensures first { IfOk result (λ r. Stands r.arena r.first (contract_of a.now)) }
-    ensures second { IfOk result (λ r. Stands r.arena r.second (contract_of b.now)) }
+fn both(alloc: Global, a: Term, b: Term) -> Result<Entered, Memory>
+    ensures first { IfOk result (λ r. Stands r.arena r.first (contract_of a)) }
+    ensures second { IfOk result (λ r. Stands r.arena r.second (contract_of b)) }
 {
     let mut arena = Arena::new(alloc);
-    let first = enter(alloc, &mut arena, a)?;
-    let second = enter(alloc, &mut arena, b)?;
+    let first = enter_owned(alloc, &mut arena, a)?;
+    let second = enter_owned(alloc, &mut arena, b)?;
     Ok(Entered {
         arena,
         first,
@@ -44,12 +53,12 @@ fn both(alloc: Global, a: &Term, b: &Term) -> Result<Entered, Memory>
     })
 }
 
-// The contract of a row of a table.
-fn tree_at(alloc: Global, arena: &Arena, place: usize) -> Result<Term, Memory>
-    requires { place < length arena.now }
-    ensures { GivesContract result (contract_at arena.now place) }
+// The contract of a row of a table, which is let go.
+fn tree_at(alloc: Global, arena: Arena, place: usize) -> Result<Term, Memory>
+    requires { place < length arena }
+    ensures { GivesContract result (contract_at arena place) }
 {
-    let rows = rows_at(alloc, arena.nodes(), place)?;
+    let rows = rows_from(alloc, arena, place)?;
     to_term(alloc, &rows)
 }
 
@@ -62,9 +71,9 @@ pub fn plus(alloc: Global, a: Term, b: Term) -> Result<Term, Memory>
         mut arena,
         first,
         second,
-    } = both(alloc, &a, &b)?;
+    } = both(alloc, a, b)?;
     let place = either(&mut arena, first, false, second, false)?;
-    tree_at(alloc, &arena, place)
+    tree_at(alloc, arena, place)
 }
 
 /// Both contracts side by side: `Failure` where one is, and the other where one is `Success`.
@@ -76,9 +85,9 @@ pub fn par(alloc: Global, a: Term, b: Term) -> Result<Term, Memory>
         mut arena,
         first,
         second,
-    } = both(alloc, &a, &b)?;
+    } = both(alloc, a, b)?;
     let place = joining::par(&mut arena, first, second)?;
-    tree_at(alloc, &arena, place)
+    tree_at(alloc, arena, place)
 }
 
 /// One contract and then the other: `Failure` where one is, and the other where one is `Success`.
@@ -89,9 +98,9 @@ pub fn seq(alloc: Global, a: Term, b: Term) -> Result<Term, Memory>
         mut arena,
         first,
         second,
-    } = both(alloc, &a, &b)?;
+    } = both(alloc, a, b)?;
     let place = joining::seq(&mut arena, first, second)?;
-    tree_at(alloc, &arena, place)
+    tree_at(alloc, arena, place)
 }
 
 /// A transmission before a contract: `Failure` where the contract is `Failure`.
@@ -99,9 +108,9 @@ pub fn send(alloc: Global, binders: Binders, when: Expr, then: Term) -> Result<T
     ensures { GivesContract result (spec.send binders (expression_of when) (contract_of then)) }
 {
     let mut arena = Arena::new(alloc);
-    let then = enter(alloc, &mut arena, &then)?;
+    let then = enter_owned(alloc, &mut arena, then)?;
     let place = send_row(alloc, &mut arena, binders, when, then)?;
-    tree_at(alloc, &arena, place)
+    tree_at(alloc, arena, place)
 }
 
 /// An application of a template: `Failure` where the template is not hopeful.
@@ -121,7 +130,7 @@ pub fn app<L>(
     let mut arena = Arena::new(alloc);
     let kept = kept_args(alloc, studied, name, args, asks)?;
     let place = applied(alloc, &mut arena, name, kept)?;
-    tree_at(alloc, &arena, place)
+    tree_at(alloc, arena, place)
 }
 
 /// The normal form of a contract. What it asks is answered in it and is not asked again.

@@ -36,10 +36,18 @@ pub fn normal_rows<L>(
     ensures size { asks.new ≤ asks.old + size (contract_of term.now) }
     ensures arguments { asks.new ≤ asks.old + arguments (contract_of term.now) }
 {
-    let mut arena = Arena::new(alloc);
     let copied = copy(alloc, term)?;
+    let mut arena = Arena::new(alloc);
     let root = enter_normal(alloc, studied, &mut arena, copied, asks)?;
-    rows_at(alloc, arena.nodes(), root)
+    rows_from(alloc, arena, root)
+}
+
+// The rows of the contract of a row of a table, which is let go.
+pub(crate) fn rows_from(alloc: Global, arena: Arena, place: usize) -> Result<Rows, Memory>
+    requires { place < length arena }
+    ensures { GivesRows result (contract_at arena place) }
+{
+    rows_at(alloc, arena.nodes(), place)
 }
 
 /// The number of the row of the normal form of a contract, which is entered in the table. Alike

@@ -1,23 +1,17 @@
 -- What the rows of a contract count is what its different subterms count.
-use Rattle.std.proofs.Common.{◌≡◌, ℕ, ◌+◌, ◌-◌, ◌<◌, ◌≤◌, Bool, true, false, ◌||◌, nat_lt, nat_eq, arith, List, [], ◌∷◌, ◌++◌, length, map, get_or, take, refl, sym, ◌∙◌, ap, sum_by, inl, inr}
-use Rattle.std.specs.List.{All, IsDistinct, list_any}
-use Rattle.std.specs.Cmp.{IsEquivalence}
+use Rattle.std.proofs.Common.{◌≡◌, ℕ, ◌+◌, ◌-◌, ◌<◌, ◌≤◌, true, false, ◌||◌, nat_lt, nat_eq, arith, List, [], ◌∷◌, ◌++◌, length, get_or, take, refl, sym, ◌∙◌, ap, sum_by}
 use Rattle.std.proofs.lemmas.List.{take_more, map-append}
-use Rattle.std.proofs.lemmas.List.Sums.{sum_by_push, sum_by-cons, sum_by_more}
+use Rattle.std.proofs.lemmas.List.Sums.{sum_by_push, sum_by-cons}
 use Rattle.std.proofs.lemmas.Bool.Decides.{nat_tests}
 use Rattle.poets_syntax.specs.Contract.{Contract}
-use Rattle.poets_syntax.specs.Same.{same_contract}
-use Rattle.poets_syntax.specs.Width.{size, widest}
-use Rattle.poets_syntax.proofs.SameContracts.{contract_one}
-use Rattle.poets_syntax.proofs.Replacing.{truth}
-use Rattle.poets_syntax.specs.Spread.{largest}
+use Rattle.poets_syntax.specs.Width.{widest}
+use Rattle.poets_syntax.specs.Spread.{own_count, largest}
 use Rattle.poets_cons.specs.declared.node.Node.{Node}
 use Rattle.poets_cons.specs.Row.{Row, Success, Failure, Transmit, Plus, Par, Seq, App, row_of, contract_by}
 use Rattle.poets_cons.specs.Table.{nth, grown, rows_of, contracts_of}
-use Rattle.poets_syntax.specs.Spread.{own_count}
 use Rattle.poets_residue.specs.code.Limits.{row_count}
 
--- what a row counts does not depend on what its parts are
+-- what a row counts does not depend on what stands below it
 pub row_counts : (part : ℕ → Contract) (r : Row) → own_count (contract_by part r) ≡ row_count r
 row_counts part Success = refl
 row_counts part Failure = refl

@@ -1,6 +1,5 @@
 -- The rows of applications in unguarded positions, noted one after the other.
-use Rattle.std.proofs.Common.{◌≡◌, ◌<◌, ℕ, Bool, true, false, ◌||◌, nat_eq, cond, arith, List, [], ◌∷◌, ◌++◌, length, map, refl, sym, ◌∙◌, ap, subst, if◌then◌else◌, append-nil, eqb-true, inl, inr}
-use Rattle.std.specs.Prelude.{Result, Ok, Err, OnOk}
+use Rattle.std.proofs.Common.{◌≡◌, ◌<◌, ℕ, Bool, true, false, ◌||◌, nat_eq, arith, List, [], ◌∷◌, ◌++◌, length, map, refl, sym, ◌∙◌, ap, if◌then◌else◌, append-nil, eqb-true, inl, inr}
 use Rattle.std.specs.List.{All, list_any}
 use Rattle.std.proofs.lemmas.Bool.{or_left, or_right}
 use Rattle.std.proofs.lemmas.List.{map-append}
@@ -9,14 +8,15 @@ use Rattle.std.proofs.lemmas.List.Folds.{list_any-append}
 use Rattle.indexmap.specs.IndexSet.{insert_key}
 use Rattle.poets_value.specs.declared.value.Name.{Name}
 use Rattle.poets_expr.specs.Expression.{Expression}
-use Rattle.poets_syntax.specs.Contract.{Contract, Seq, App}
+use Rattle.poets_syntax.specs.Contract.{Contract, App}
 use Rattle.poets_syntax.specs.Marks.{nullable}
 use Rattle.poets_syntax.specs.Same.{same_contract}
+use Rattle.poets_syntax.specs.Spread.{exposed}
 use Rattle.poets_syntax.specs.Studied.{StudiedBook, marks_of}
 use Rattle.poets_syntax.proofs.Replacing.{truth}
 use Rattle.poets_cons.specs.declared.node.Node.{Node}
+use Rattle.poets_cons.specs.Row.{row_of, contract_by}
 use Rattle.poets_cons.specs.Table.{contract_at}
-use Rattle.poets_syntax.specs.Spread.{exposed}
 use Rattle.poets_residue.specs.code.Limits.{stands_among, AddsExposed}
 
 or_not : (x : Bool) → (x || false) ≡ x
@@ -37,10 +37,20 @@ module _ (s : StudiedBook) (nodes : List Node) where
   abbrev exposed_at : ℕ → List Contract
   exposed_at place = exposed (marks_of s) (contract_at nodes place)
 
-  pub both_exposed : {T E : Type 0} (result : Result T E) (place a b : ℕ) (old mid new : List ℕ) → exposed_at place ≡ exposed_at a ++ exposed_at b →
-      AddsExposed s nodes a old mid → OnOk result (AddsExposed s nodes b mid new) → OnOk result (AddsExposed s nodes place old new)
-  both_exposed (Err r) place a b old mid new e x y = tt
-  both_exposed (Ok r) place a b old mid new e x y = record {
+  -- what is exposed in a row, from its node
+  pub node_exposed : (place : ℕ) {node form : Node} → contract_at nodes place ≡ contract_by (contract_at nodes) (row_of node) → node ≡ form →
+      exposed_at place ≡ exposed (marks_of s) (contract_by (contract_at nodes) (row_of form))
+  node_exposed place e is = ap (exposed (marks_of s)) (e ∙ ap (λ n. contract_by (contract_at nodes) (row_of n)) is)
+
+  -- the second of two in sequence stands in an unguarded position where the first may end
+  pub seq_exposed : (place a b : ℕ) {v : Bool} →
+      exposed_at place ≡ exposed_at a ++ (if nullable (marks_of s) (contract_at nodes a) then exposed_at b else []) →
+      nullable (marks_of s) (contract_at nodes a) ≡ v → exposed_at place ≡ exposed_at a ++ (if v then exposed_at b else [])
+  seq_exposed place a b e h = e ∙ ap (λ w. exposed_at a ++ (if w then exposed_at b else [])) h
+
+  pub both_exposed : {place a b : ℕ} {old mid new : List ℕ} → exposed_at place ≡ exposed_at a ++ exposed_at b →
+      AddsExposed s nodes a old mid → AddsExposed s nodes b mid new → AddsExposed s nodes place old new
+  both_exposed {place} {a} {b} {old} {mid} {new} e x y = record {
     within = λ h. y.within (x.within h);
     among = λ c.
         let first = list_any (same_contract c) (exposed_at a) in
@@ -51,21 +61,14 @@ module _ (s : StudiedBook) (nodes : List Node) where
         ∙ ap (λ v. stands_among nodes old c || v) (sym whole);
   }
 
-  module _ (place a b : ℕ) (is : contract_at nodes place ≡ Seq (contract_at nodes a) (contract_at nodes b)) where
-    -- the second of two in sequence stands in an unguarded position where the first may end
-    exposed_seq : (v : Bool) → nullable (marks_of s) (contract_at nodes a) ≡ v → exposed_at place ≡ exposed_at a ++ (if v then exposed_at b else [])
-    exposed_seq v h = ap (exposed (marks_of s)) is ∙ ap (λ w. exposed_at a ++ (if w then exposed_at b else [])) h
-
-    pub seq_exposed : nullable (marks_of s) (contract_at nodes a) ≡ true → exposed_at place ≡ exposed_at a ++ exposed_at b
-    seq_exposed h = exposed_seq true h
-
-    pub first_exposed : (old new : List ℕ) → nullable (marks_of s) (contract_at nodes a) ≡ false → AddsExposed s nodes a old new → AddsExposed s nodes place old new
-    first_exposed old new h x = record {
-      within = x.within;
-      among = λ c.
-          x.among c
-          ∙ ap (λ ds. stands_among nodes old c || list_any (same_contract c) ds) (sym (append-nil (exposed_at a)) ∙ sym (exposed_seq false h));
-    }
+  pub first_exposed : {place a : ℕ} {old new : List ℕ} → exposed_at place ≡ exposed_at a ++ [] →
+      AddsExposed s nodes a old new → AddsExposed s nodes place old new
+  first_exposed {place} {a} {old} {new} e x = record {
+    within = x.within;
+    among = λ c.
+        x.among c
+        ∙ ap (λ ds. stands_among nodes old c || list_any (same_contract c) ds) (sym (append-nil (exposed_at a)) ∙ sym e);
+  }
 
   -- a row that is there stands among the rows
   there_among : (places : List ℕ) (place : ℕ) (c : Contract) → list_any (nat_eq place) places ≡ true → same_contract c (contract_at nodes place) ≡ true →

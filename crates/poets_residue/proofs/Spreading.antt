@@ -1,11 +1,10 @@
 -- The spread of a contract, from its rows.
-use Rattle.std.proofs.Common.{◌≡◌, ℕ, zero, ◌+◌, ◌-◌, ◌<◌, Bool, true, false, ◌||◌, nat_eq, nat_lt, arith, List, [], ◌∷◌, length, map, refl, sym, ◌∙◌, ap, subst, sum_by, eq-eqb, inl, inr}
-use Rattle.std.specs.List.{All, AllByRecursion, IsDistinct, list_any}
+use Rattle.std.proofs.Common.{◌≡◌, ℕ, ◌+◌, ◌-◌, ◌<◌, false, nat_eq, arith, List, [], ◌∷◌, length, map, refl, sym, ◌∙◌, ap, sum_by, eq-eqb, inl, inr}
+use Rattle.std.specs.List.{All, AllByRecursion, IsDistinct}
 use Rattle.std.proofs.lemmas.Bool.{false≢true}
 use Rattle.std.proofs.lemmas.List.{length-map}
 use Rattle.std.proofs.lemmas.List.Elements.{All-head, All-tail}
 use Rattle.std.proofs.lemmas.List.Sums.{sum_by-cons}
-use Rattle.poets_syntax.specs.Contract.{Contract}
 use Rattle.poets_syntax.specs.Book.{book_of}
 use Rattle.poets_syntax.specs.Same.{same_contract}
 use Rattle.poets_syntax.specs.Spread.{own_count, exposed, body_width, spread}
@@ -19,7 +18,7 @@ use Rattle.poets_cons.specs.Row.{row_of}
 use Rattle.poets_cons.specs.Table.{rows_of, contracts_of, contract_at, contract_of_rows, IsTable, IsRooted}
 use Rattle.poets_cons.proofs.Counting.{contracts_apart, contracts_member}
 use Rattle.poets_cons.proofs.Places.{one_place}
-use Rattle.poets_residue.specs.code.Limits.{rows_count, body_width_at, body_widths_at, AddsExposed}
+use Rattle.poets_residue.specs.code.Limits.{rows_count, body_widths_at, AddsExposed}
 use Rattle.poets_residue.proofs.Counted.{contracts_count}
 use Rattle.poets_residue.proofs.DifferentSums.{sum_by-different}
 

@@ -1,21 +1,22 @@
 //! Whether contracts as rows are past the limit of what is kept.
 ghost use Rattle.std.specs.Prelude.{◌≡◌, ◌-◌, ◌+◌, ◌≤◌, ◌<◌, All, IfOk, OnErr, OnOk, length};
+ghost use Rattle.poets_syntax.specs.InStudied.{nullable_in};
 ghost use Rattle.poets_syntax.specs.Spread.{largest};
 ghost use Rattle.poets_syntax.specs.Width.{size, widest};
 ghost use Rattle.poets_cons.specs.Row.{row_of};
-ghost use Rattle.poets_cons.specs.Table.{contract_of_rows, IsTable};
+ghost use Rattle.poets_cons.specs.Table.{contract_at, contract_of_rows, IsTable};
 ghost use Rattle.poets_residue.specs.Limits.{is_past_limit_in};
 ghost use Rattle.poets_residue.specs.code.Limits.{row_count, rows_count, body_width_at, body_widths_at, AddsExposed};
 
+use crate::endings::is_marked;
 use crate::row_widths::{less_args, less_size};
-use crate::shared::may_end_at;
 use indexmap::IndexSet;
 use poets_cons::{Node, Rows, node_at};
 use poets_syntax::{LARGEST, Studied, WIDTH_CUT};
 use poets_value::Memory;
 use std::alloc::Global;
 
-// What is left when what a row counts without its parts is taken off.
+// What is left when what a row counts by itself is taken off.
 fn less_own(node: &Node, left: u64) -> u64
     ensures { result ≡ left - row_count (row_of node.now) }
 {
@@ -29,7 +30,7 @@ fn less_own(node: &Node, left: u64) -> u64
     }
 }
 
-// What is left when what all rows count without their parts is taken off.
+// What is left when what all rows count by themselves is taken off.
 fn less_rows(nodes: &[Node], left: u64) -> u64
     ensures { result ≡ left - rows_count nodes.now }
 {
@@ -40,39 +41,43 @@ fn less_rows(nodes: &[Node], left: u64) -> u64
     left
 }
 
-// Notes the applications in unguarded positions of a row.
+// Notes the applications in unguarded positions of a row. The same walk tells whether the row may end, as `may_end_at` does.
 fn expose(
     studied: &Studied,
     nodes: &[Node],
     place: usize,
     found: &mut IndexSet<usize>,
-) -> Result<(), Memory>
+) -> Result<bool, Memory>
     requires table { IsTable nodes.now }
     requires within { place < length nodes.now }
-    ensures { OnOk result (AddsExposed studied.now nodes.now place found.old.keys found.new.keys) }
+    ensures may_end { IfOk result (λ b. b ≡ nullable_in studied.now (contract_at nodes.now place)) }
+    ensures found { OnOk result (AddsExposed studied.now nodes.now place found.old.keys found.new.keys) }
 {
     match node_at(nodes, place) {
-        Node::Success | Node::Failure | Node::Transmit { .. } => Ok(()),
+        Node::Success => Ok(true),
+        Node::Failure | Node::Transmit { .. } => Ok(false),
         Node::Plus(a, b) => {
-            expose(studied, nodes, *a, found)?;
-            expose(studied, nodes, *b, found)
+            let first = expose(studied, nodes, *a, found)?;
+            let second = expose(studied, nodes, *b, found)?;
+            Ok(first || second)
         }
         Node::Par(a, b) => {
-            expose(studied, nodes, *a, found)?;
-            expose(studied, nodes, *b, found)
+            let first = expose(studied, nodes, *a, found)?;
+            let second = expose(studied, nodes, *b, found)?;
+            Ok(first && second)
         }
         Node::Seq(a, b) => {
-            expose(studied, nodes, *a, found)?;
-            if !may_end_at(studied, nodes, *a) {
-                return Ok(());
+            let first = expose(studied, nodes, *a, found)?;
+            if !first {
+                return Ok(false);
             }
             expose(studied, nodes, *b, found)
         }
-        Node::App { .. } => {
+        Node::App { name, .. } => {
             let Ok(_) = found.insert(place) else {
                 return Err(Memory);
             };
-            Ok(())
+            Ok(is_marked(studied, *name))
         }
     }
 }
@@ -107,7 +112,7 @@ fn less_bodies(studied: &Studied, nodes: &[Node], places: &[usize], left: u64) -
     left
 }
 
-/// Whether the contract of the rows is past the limit. Memory is wanted only of a contract that is small enough.
+/// Whether the contract of the rows is past the limit. Where its size is, no memory is taken.
 pub fn past_limit(alloc: Global, studied: &Studied, rows: &Rows) -> Result<bool, Memory>
     ensures told { IfOk result (λ r. r ≡ is_past_limit_in studied.now (contract_of_rows rows.now)) }
     ensures small { OnErr result (size (contract_of_rows rows.now) ≤ largest) }

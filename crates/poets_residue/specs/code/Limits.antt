@@ -10,7 +10,7 @@ use Rattle.poets_cons.specs.declared.node.Node.{Node}
 use Rattle.poets_cons.specs.Row.{Row, contract_by}
 use Rattle.poets_cons.specs.Table.{rows_of, contract_at}
 
--- what the contract of a row counts without its parts, whatever they are
+-- what the contract of a row counts by itself, whatever stands below it
 abbrev pub row_count : Row → ℕ
 row_count r = own_count (contract_by (λ _. Failure) r)
 

@@ -48,7 +48,7 @@ returns-clause-told c =
     let small : size (contract_of_rows rows) ≤ largest = omega (arith, size_is, c.if-less_size-eq0.false) in
     let places = c.expose.new.found.keys in
     let added = from_nothing s nodes (length nodes - 1) c.new-found.result.keys places c.new-found.ensures.len
-    (subst (λ k. AddsExposed s nodes k c.new-found.result.keys places) last c.in_ok-expose.ensures) in
+    (subst (λ k. AddsExposed s nodes k c.new-found.result.keys places) last c.in_ok-expose.ensures.found) in
     let within = added.within (All-nil (λ k. k < length nodes)) in
     let counted = spread_counted nodes table s rooted places within c.as_slice.ensures.unique added in
     let left = c.less_bodies.ensures ∙ ap (λ l. c.less_rows-left.result - body_widths_at s nodes l) c.as_slice.ensures.keys

@@ -2,8 +2,6 @@ use Rattle.std.proofs.Common.{◌≡◌, ◌∙◌, ap, sym, subst, length}
 use Rattle.poets_cons.specs.Row.{row_of, AreBelow}
 use Rattle.poets_cons.specs.code.Adding.{with_form}
 use Rattle.poets_cons.specs.code.Forms.{AreForms, IsFormOf}
-use Rattle.poets_cons.specs.code.Classes.{shapes_of}
-use Rattle.poets_cons.specs.Notes.{noted}
 use Rattle.poets_cons.proofs.Alikeness.{as_many_forms, classes_later, forms_after}
 use Rattle.poets_cons.proofs.arena.Arena.add.Goals as goal
 
@@ -27,5 +25,5 @@ invariant_of-self-2 c =
     subst (λ l. AreForms l (with_form c.in_ok-place.is_new c.form_of-form.result c.reserve.new.self.items)) (sym x.inserted.nodes) forms in (
       x.table,
       c.keep.ensures ∙ here,
-      classes_later old c.insert.new.nodes.keys (shapes_of c.self.inside.classes) (noted c.self.inside.classes.classes) x.grows c.self.invariant.2,
+      classes_later old c.insert.new.nodes.keys c.self.inside.classes x.grows c.self.invariant.2,
     )
