@@ -5,7 +5,8 @@ Usage: bench/clerks.py [PROGRAM] [ROUNDS]   (PROGRAM: crates/poets/out/poets, ma
 
 First so many sessions of 64 clerks with 1,024 commands each, on shared contracts: on one processor, on two or on all of
 them, and some of them stopped and continued as they run. Of each history that is printed, each clerk's commands must be
-his script in order, and `poets replay` must print the same lines of its calls.
+his script in order, and `poets replay` must print the same lines of its calls. Then as many sessions of eight clerks
+with 400 commands each, of which a quarter are withdrawals.
 
 Then what clerks cost beside one clerk who makes the same commands, on two processors: eight clerks with the commands of
 the demonstration, `poets demo 1000` itself, and 64 clerks with 1,024 commands each. They may take 2.5 times his seconds
@@ -23,10 +24,13 @@ from measuring import ANY, COMMANDS, HEAD, PROGRAM, ROUNDS, Case, told
 
 CLERKS = 64
 CONTRACTS = 8
+WITHDRAWING = 8
+WITHDRAWALS_AMONG = 400
 MOST_SECONDS = 2.5
 MOST_MEMORY = 1.2
 SALES = 1_000
-BOOK = HEAD + ANY + "report moved(): Int = fold x = 0 with (s, v, r, t) in x + amount(r);;\n"
+STEP = "fold x = 0 with (s, v, r, t) in x + amount(r)"
+BOOK = HEAD + ANY + f"report moved(): Int = {STEP};;\nreport daily(): Int = {STEP} by t;;\n"
 CALL = re.compile(r"^\d+ ((\d+): .*?) => ", re.MULTILINE)
 
 
@@ -44,6 +48,20 @@ def script(rng):
         else:
             commands.append("watch moved()")
     return [*commands, f"end c{rng.randint(1, CONTRACTS)}"]
+
+
+def withdrawing_script(rng):
+    """The commands of one clerk of eight, who record on two contracts, and withdraw events that may be another's."""
+    commands = ["register c1 = any()", "register c2 = any()", "watch moved()", "watch daily()"]
+    while len(commands) < WITHDRAWALS_AMONG - 4:
+        name, chance = f"c{rng.randint(1, 2)}", rng.random()
+        if chance < 0.25:
+            commands.append(f"void {name} {rng.randint(0, len(commands) // 4)}")
+        elif chance < 0.9:
+            commands.append(f"transmit {name} ann bob {rng.randint(1, 99)} Oil @2006-01-{1 + len(commands) // 100:02}")
+        else:
+            commands.append(rng.choice([f"show {name}", "read 1", "read 2", "portfolio moved() over c1, c2"]))
+    return [*commands, "tally moved()", "tally daily()", "show c1", f"end c{rng.randint(1, 2)}"]
 
 
 def session(scripts):
@@ -93,20 +111,22 @@ def is_right(history, scripts, program, processors):
     return own_commands(history) == dict(enumerate(scripts, 1)) and is_replayed(history, program, processors)
 
 
-def try_histories(program, rounds):
-    """Tries so many sessions. Answers whether all were right."""
+def try_histories(program, rounds, clerks, one_script):
+    """Tries so many sessions of so many clerks. Answers whether all were right."""
     every = sorted(os.sched_getaffinity(0))
-    right, seen = 0, set()
+    right, seen, withdrawn = 0, set(), set()
     for seed in range(rounds):
         rng = random.Random(seed)
-        scripts = [script(rng) for _ in range(CLERKS)]
+        scripts = [one_script(rng) for _ in range(clerks)]
         processors = [every[:1], every[:2], every][seed % 3]
         history = printed(program, "run", session(scripts), processors, rng if seed % 2 else None)
         right += is_right(history, scripts, program, every)
-        clerks = [clerk for _, clerk in CALL.findall(history)]
-        seen.add(sum(a != b for a, b in zip(clerks, clerks[1:])))
-    print(f"histories of {CLERKS} clerks with {COMMANDS // CLERKS} commands each: {right} of {rounds} right;"
-          f" turns that went to another clerk: {min(seen)} to {max(seen)}", flush=True)
+        callers = [clerk for _, clerk in CALL.findall(history)]
+        seen.add(sum(a != b for a, b in zip(callers, callers[1:])))
+        withdrawn.add(history.count(" => voided, "))
+    print(f"histories of {clerks} clerks with {len(scripts[0])} commands each: {right} of {rounds} right;"
+          f" turns that went to another clerk: {min(seen)} to {max(seen)};"
+          f" events withdrawn: {min(withdrawn)} to {max(withdrawn)}", flush=True)
     return right == rounds
 
 
@@ -154,7 +174,9 @@ def compare(program, about, case, one):
 
 def main():
     program = sys.argv[1] if len(sys.argv) > 1 else str(PROGRAM)
-    right = try_histories(program, int(sys.argv[2]) if len(sys.argv) > 2 else 20)
+    rounds = int(sys.argv[2]) if len(sys.argv) > 2 else 20
+    right = try_histories(program, rounds, CLERKS, script)
+    right = try_histories(program, rounds, WITHDRAWING, withdrawing_script) and right
     os.sched_setaffinity(0, sorted(os.sched_getaffinity(0))[:2])
     sold, shared = demonstration(1), clerks(1)
     kept = [

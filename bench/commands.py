@@ -1,6 +1,6 @@
 #!/usr/bin/env python3
-"""Times the built program on long sessions: transmissions under watches, portfolios, looks at a large residual, a
-journal, and registrations.
+"""Times the built program on long sessions: transmissions under watches, withdrawals, portfolios, looks at a large
+residual, a journal, and registrations.
 
 Usage: bench/commands.py [PROGRAM]      (PROGRAM: crates/poets/out/poets, made by `rt run` in crates/poets)
 
@@ -16,6 +16,10 @@ from measuring import ANY, COMMANDS, GROWTH, HEAD, Case, check, measure_growth
 WATCHES = 16
 KEYED_WATCHES = 4
 KEYS = 10_000
+# Withdrawals take one of that many last events. The past whose first event is withdrawn has FIRST_OF events.
+NEAR = 16
+FIRST_OF = 600
+FIRSTS = 500
 PORTFOLIOS = 300
 CONTRACTS = 200
 EVENTS = 100
@@ -61,14 +65,20 @@ def recorded(name, amount, number, clerk=1):
     return Call(f"transmit {name} ann bob {amount} Oil @2006-01-01", f"recorded {number}, may end yes", clerk)
 
 
-def watched(report, watches, amounts, answer, units):
-    """Transmissions of these amounts under watches of the report, and then a read of each watch, with its answer."""
+def under_watches(report, watches, changes, answer, units):
+    """The changes of a contract under watches of the report, and then a read of each watch, with its answer."""
     numbers = range(1, watches + 1)
     calls = [registered("c", 1)]
     calls += [Call(f"watch {report}({number})", f"watching {number}") for number in numbers]
-    calls += [recorded("c", amount, number) for number, amount in enumerate(amounts, 1)]
+    calls += changes
     calls += [Call(f"read {number}", answer(number)) for number in numbers]
     return session(calls, units)
+
+
+def watched(report, watches, amounts, answer, units):
+    """Transmissions of these amounts under watches of the report."""
+    changes = [recorded("c", amount, number) for number, amount in enumerate(amounts, 1)]
+    return under_watches(report, watches, changes, answer, units)
 
 
 def watches_without_key(share):
@@ -76,6 +86,48 @@ def watches_without_key(share):
     count = int((COMMANDS - 1 - 2 * WATCHES) * share)
     amounts = range(count)
     return watched("moved", WATCHES, amounts, lambda number: f"value {number * sum(amounts)}", count)
+
+
+class Past:
+    """The amounts that are recorded on a contract and not withdrawn, and the calls that led to them."""
+
+    def __init__(self):
+        self.amounts, self.calls = [], []
+
+    def record(self, amount):
+        self.amounts.append(amount)
+        self.calls.append(recorded("c", amount, len(self.amounts)))
+
+    def withdraw(self, place):
+        del self.amounts[place - 1]
+        self.calls.append(Call(f"void c {place}", f"voided, events {len(self.amounts)}, may end yes"))
+
+    def session(self, units):
+        """The session of these calls under 16 watches of a report without a key."""
+        return under_watches(
+            "moved", WATCHES, self.calls, lambda number: f"value {number * sum(self.amounts)}", units)
+
+
+def withdrawals_near_the_end(share):
+    """Up to 65,536 commands under 16 watches: of each three two record, and one withdraws one of the last 16 events."""
+    count = int((COMMANDS - 1 - 2 * WATCHES) * share) // 3
+    past = Past()
+    for turn in range(count):
+        past.record(2 * turn)
+        past.record(2 * turn + 1)
+        past.withdraw(len(past.amounts) - turn % min(NEAR, len(past.amounts)))
+    return past.session(3 * count)
+
+
+def withdrawals_of_the_first(share):
+    """Up to 500 withdrawals of the first of 600 events under 16 watches, each with a transmission that comes last."""
+    count = int(FIRSTS * share)
+    past = Past()
+    for amount in range(FIRST_OF + count):
+        if len(past.amounts) == FIRST_OF:
+            past.withdraw(1)
+        past.record(amount)
+    return past.session(count)
 
 
 def watches_with_key(share):
@@ -149,7 +201,9 @@ def registrations(share):
     return session(calls, count)._replace(most_memory=21)
 
 
-FAMILIES = (watches_without_key, watches_with_key, portfolios, looks, replayed, registrations)
+FAMILIES = (
+    watches_without_key, watches_with_key, withdrawals_near_the_end, withdrawals_of_the_first, portfolios, looks,
+    replayed, registrations)
 
 if __name__ == "__main__":
     check(FAMILIES)

@@ -1,7 +1,7 @@
 #!/usr/bin/env python3
 """Tries the program, compiled with checks, with an allocation refused in a journal of every command.
 
-Usage: bench/hostile_checked.py [N..]   (200 and 201; each takes some minutes)
+Usage: bench/hostile_checked.py [N..]   (231 and 232; each takes some minutes)
 
 For each N `rt try` compiles the program so that it stops at an index out of bounds, an overflow, a failed unwrap or a
 bad access, and refuses its Nth allocation. It is run on 141 journals. Each has one name more than the one before, so
@@ -24,6 +24,8 @@ journal;;
 1: register c = any();;
 2: watch count();;
 1: transmit c ann bob 3 Oil @2006-01-01;;
+2: void c 1;;
+1: transmit c ann bob 3 Oil @2006-01-01;;
 2: read 1;;
 1: show c;;
 2: tally moved();;
@@ -33,11 +35,13 @@ journal;;
 WHOLE = """1 1: register c = any() => registered 1
 2 2: watch count() => watching 1
 3 1: transmit c ann bob 3 Oil @2006-01-01 => recorded 1, may end yes
-4 2: read 1 => value 1
-5 1: show c => events 1, may end yes, ended no, residual Success
-6 2: tally moved() => rows {Oil: 3}
-7 2: portfolio count() over c => portfolio c 1, total 1
-8 1: end c => ended now
+4 2: void c 1 => voided, events 0, may end no
+5 1: transmit c ann bob 3 Oil @2006-01-01 => recorded 1, may end yes
+6 2: read 1 => value 1
+7 1: show c => events 1, may end yes, ended no, residual Success
+8 2: tally moved() => rows {Oil: 3}
+9 2: portfolio count() over c => portfolio c 1, total 1
+10 1: end c => ended now
 """
 # A journal's name, what was printed of it, and the rest of what is told.
 ANSWER = re.compile(r"\d+\n((?:.*\n)*?)(allocations: (?:.*\n)*)")
@@ -69,7 +73,7 @@ def is_right(answer):
 
 def main():
     all_right = True
-    for number in map(int, sys.argv[1:] or (200, 201)):
+    for number in map(int, sys.argv[1:] or (231, 232)):
         told = answers(number)
         wrong = [answer for answer in told if not is_right(answer)]
         whole = sum("run=ended status=0 " in answer for answer in told)

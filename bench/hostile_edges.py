@@ -389,7 +389,8 @@ def edges():
 
 UNKNOWN = {
     "end zz": "no contract zz", "show zz": "no contract zz", "transmit zz ann bob 1 Oil @2006-01-01": "no contract zz",
-    "portfolio taken(7) over zz": "no contract zz", "read 9": "no watch 9", "read 0": "no watch 0",
+    "void zz 1": "no contract zz", "void zz 0": "no contract zz", "portfolio taken(7) over zz": "no contract zz",
+    "read 9": "no watch 9", "read 0": "no watch 0",
     "register c = zz()": None, "tally zz()": None, "watch zz(1)": None, "portfolio zz() over c": None,
     "transmit c zz bob 1 Oil @2006-01-01": None, "transmit c ann zz 1 Oil @2006-01-01": None,
     "transmit c ann bob 1 zz @2006-01-01": None}

@@ -35,12 +35,14 @@ and w <= @2006-05-03 + 30). Success
 DEMO = b"demo 1: entries 48, registered 8, recorded 16, ended 8, refused 8, paid 24\n"
 AUDIT = (EXAMPLES / "audit.poets").read_bytes()
 AUDITED = (EXAMPLES / "audit.out").read_bytes()
+DELIVERED = (EXAMPLES / "withdrawal.poets").read_bytes()
+WITHDRAWN = (EXAMPLES / "withdrawal.out").read_bytes()
 
 # Every command, by four clerks on contracts that they share.
 SCRIPTS = [
-    ["register c = any()", "transmit c ann bob 1 Oil @2006-01-01", "show c", "end c"],
+    ["register c = any()", "transmit c ann bob 1 Oil @2006-01-01", "show c", "void c 1", "end c"],
     ["register d = any()", "tally moved()", "portfolio moved() over c, d", "transmit d bob ann 2 USD @2006-01-02"],
-    ["watch moved()", "transmit c ann bob 3 Oil @2006-01-02", "read 1", "end d", "show d"],
+    ["watch moved()", "transmit c ann bob 3 Oil @2006-01-02", "read 1", "void d 1", "end d", "show d"],
     ["register c = Success", "register e = transmit(a, b, r, t | kind(r) = Oil). Success",
      "transmit e ann bob 4 Oil @2006-01-01", "show e", "end e", "transmit e ann bob 4 Oil @2006-01-01"],
 ]
@@ -57,6 +59,7 @@ WIDELY = f"""1 1: register c = any() => registered 1
 SESSIONS = {
     "a sale": ("run", SALE, SOLD),
     "an audit": ("replay", AUDIT, AUDITED),
+    "a withdrawal": ("run", DELIVERED, WITHDRAWN),
     "four clerks": ("run", clerks.session(SCRIPTS).encode(), None),
     "demo 1": ("demo 1", b"", DEMO),
     "a book": ("check", (EXAMPLES / "book.poets").read_bytes(), (EXAMPLES / "book.out").read_bytes()),

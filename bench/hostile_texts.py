@@ -10,6 +10,7 @@ TEXTS = {"a sale": ("run", SALE, SOLD), "an audit": ("replay", AUDIT, AUDITED)}
 LINE = re.compile(r"(\d+) (\d+): (.*) => (.*)")
 REPLY = re.compile(
     r"registered \d+|name taken by \d+|hopeless|too large|recorded \d+, may end (yes|no)|no contract \w+|ended"
+    r"|voided, events \d+, may end (yes|no)|no event \d+"
     r"|late \d{4}-\d\d-\d\d|unmatched|ended now|already ended|not performed|no watch \d+|watching \d+|value .+"
     r"|events \d+, may end (yes|no), ended (yes|no), residual .+|rows \{.*\}|portfolio .+")
 TWICE = 8

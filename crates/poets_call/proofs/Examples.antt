@@ -1,5 +1,5 @@
 -- Worked histories: their replies were written by hand, and each is the right one.
-use Rattle.std.proofs.Common.{◌≡◌, ℕ, zero, suc, ◌+◌, Bool, true, false, nat_lt, List, [], ◌∷◌, Some, None, if◌then◌else◌, take, refl, sym, ◌∙◌, subst, inl, inr}
+use Rattle.std.proofs.Common.{arith, ◌≡◌, ℕ, zero, suc, ◌+◌, Bool, true, false, nat_lt, List, [], ◌∷◌, Some, None, if◌then◌else◌, take, refl, sym, ◌∙◌, subst, inl, inr}
 use Rattle.std.specs.Prelude.{ℤ, pos, IsTrue, ◌↔◌}
 use Rattle.poets_value.specs.declared.value.Name.{Name}
 use Rattle.poets_value.specs.declared.event.Event.{Event}
@@ -25,11 +25,11 @@ use Rattle.poets_report.specs.Reports.{folded, key_on, with_key}
 use Rattle.poets_report.specs.Keyed.{row_at}
 use Rattle.poets_report.proofs.FoldsByKey.{if_any, rows_by_key}
 use Rattle.poets_call.specs.Plain.{Command, Reply, Entry}
-use Rattle.poets_call.specs.Gathered.{recorded}
+use Rattle.poets_call.specs.Gathered.{log_of}
 use Rattle.poets_call.specs.Frame.{Frame}
 use Rattle.poets_call.specs.NoTemplates.{frame_without_templates}
 use Rattle.std.proofs.lemmas.Bool.{false≢true}
-use Rattle.poets_call.specs.Replies.{Legal}
+use Rattle.poets_call.specs.Replies.{Replies, Legal, HasPlace, GrowsTooLarge}
 
 abbrev name : ℕ → Name
 name n = record { id = n }
@@ -125,16 +125,16 @@ no e = absurd cc
 
 pub first_day_is_legal : Legal frame first_day
 first_day_is_legal =
-    let h₁ : Legal frame (take 1 first_day) = Legal.More _ Legal.Empty (inr ((0, May.Done), inr (is_not_too_large refl, refl))) in
-    let h₂ : Legal frame (take 2 first_day) = Legal.More _ h₁ refl in
-    let h₃ : Legal frame (take 3 first_day) = Legal.More _ h₂ (inr (no, inl (λ m. success_is_over m.1, refl))) in
-    let h₄ : Legal frame (take 4 first_day) = Legal.More _ h₃ (true, success_is_performed, refl) in
-    let h₅ : Legal frame (take 5 first_day) = Legal.More _ h₄ (inr (no, inr (Perf.Done, refl))) in
-    let h₆ : Legal frame (take 6 first_day) = Legal.More _ h₅ (inl (refl, refl)) in
-    let h₇ : Legal frame (take 7 first_day) = Legal.More _ h₆ (inl (refl, refl)) in
-    let h₈ : Legal frame (take 8 first_day) = Legal.More _ h₇ (true, success_is_performed, refl) in
-    let h₉ : Legal frame (take 9 first_day) = Legal.More _ h₈ (inl (λ m. failure_is_hopeless m.1, refl)) in
-    Legal.More _ h₉ refl
+    let h₁ : Legal frame (take 1 first_day) = Legal.More _ Legal.Empty (Replies.Registered refl (0, May.Done) (is_not_too_large refl)) in
+    let h₂ : Legal frame (take 2 first_day) = Legal.More _ h₁ (Replies.NameTaken refl) in
+    let h₃ : Legal frame (take 3 first_day) = Legal.More _ h₂ (Replies.Unmatched ((refl, no), refl) (λ m. success_is_over m.1)) in
+    let h₄ : Legal frame (take 4 first_day) = Legal.More _ h₃ (Replies.Shown refl success_is_performed) in
+    let h₅ : Legal frame (take 5 first_day) = Legal.More _ h₄ (Replies.EndedNow (refl, no) Perf.Done) in
+    let h₆ : Legal frame (take 6 first_day) = Legal.More _ h₅ (Replies.AlreadyEnded refl refl) in
+    let h₇ : Legal frame (take 7 first_day) = Legal.More _ h₆ (Replies.TransmitToEnded refl refl) in
+    let h₈ : Legal frame (take 8 first_day) = Legal.More _ h₇ (Replies.Shown refl success_is_performed) in
+    let h₉ : Legal frame (take 9 first_day) = Legal.More _ h₈ (Replies.Hopeless refl (λ m. failure_is_hopeless m.1)) in
+    Legal.More _ h₉ (Replies.ShowOfNone refl)
 
 -- two events are recorded, though not out of order, and told by a watch, a tally and a portfolio
 abbrev trade : List Entry
@@ -186,36 +186,78 @@ seven_moved k = at_oil (same_key k (Some (V.Kind oil))) refl
 
 pub trade_is_legal : Legal frame trade
 trade_is_legal =
-    let h₁ : Legal frame (take 1 trade) = Legal.More _ Legal.Empty (inr ((2, May.Granted (May.Granted May.Done)), inr (is_not_too_large refl, refl))) in
-    let h₂ : Legal frame (take 2 trade) = Legal.More _ h₁ (inr ((0, May.Done), inr (is_not_too_large refl, refl))) in
-    let h₃ : Legal frame (take 3 trade) = Legal.More _ h₂ refl in
+    let h₁ : Legal frame (take 1 trade) = Legal.More _ Legal.Empty
+    (Replies.Registered refl (2, May.Granted (May.Granted May.Done)) (is_not_too_large refl)) in
+    let h₂ : Legal frame (take 2 trade) = Legal.More _ h₁ (Replies.Registered refl (0, May.Done) (is_not_too_large refl)) in
+    let h₃ : Legal frame (take 3 trade) = Legal.More _ h₂ Replies.Watching in
     let h₄ : Legal frame (take 4 trade) = Legal.More _ h₃
-    (inr (no, inr ((1, May.Taken refl (May.Granted May.Done)), inr (is_not_too_large refl, (false, is_not, refl))))) in
-    let h₅ : Legal frame (take 5 trade) = Legal.More _ h₄ (inr (no, refl)) in
-    let h₆ : Legal frame (take 6 trade) = Legal.More _ h₅ (false, is_not, refl) in
-    let h₇ : Legal frame (take 7 trade) = Legal.More _ h₆ (inr (no, inl (one_is_too_few, refl))) in
+    (Replies.Recorded ((refl, no), refl) (1, May.Taken refl (May.Granted May.Done)) (is_not_too_large refl) is_not) in
+    let h₅ : Legal frame (take 5 trade) = Legal.More _ h₄ (Replies.Late (refl, no) refl) in
+    let h₆ : Legal frame (take 6 trade) = Legal.More _ h₅ (Replies.Shown refl is_not) in
+    let h₇ : Legal frame (take 7 trade) = Legal.More _ h₆ (Replies.NotPerformed (refl, no) one_is_too_few) in
     let h₈ : Legal frame (take 8 trade) = Legal.More _ h₇
-    (inr (no, inr ((0, May.Taken refl (May.Taken refl May.Done)), inr (is_not_too_large refl, (true, (λ _. two_are_enough, λ _. refl), refl))))) in
+    (Replies.Recorded ((refl, no), refl) (0, May.Taken refl (May.Taken refl May.Done)) (is_not_too_large refl) (λ _. two_are_enough, λ _. refl)) in
     let h₉ : Legal frame (take 9 trade) = Legal.More _ h₈
-    (moved, refl, (Answer.Rows ((Some (V.Kind oil), Some (V.Int (pos 7))) ∷ []), rows_by_key declared moved [] _ _ _ tt seven_moved, refl)) in
-    let h₁₀ : Legal frame (take 10 trade) = Legal.More _ h₉ refl in
-    let h₁₁ : Legal frame (take 11 trade) = Legal.More _ h₁₀ refl in
-    let h₁₂ : Legal frame (take 12 trade) = Legal.More _ h₁₁ (sum, refl, (Answer.Single (Some (V.Int (pos 7))), refl, refl)) in
-    let h₁₃ : Legal frame (take 13 trade) = Legal.More _ h₁₂ (
-      sum,
-      refl,
-      (
-        (c, Answer.Single (Some (V.Int (pos 7)))) ∷ (a, Answer.Single (Some (V.Int (pos 0)))) ∷ (c, Answer.Single (Some (V.Int (pos 7)))) ∷ [],
-        ((refl, refl), ((refl, refl), ((refl, refl), tt))),
-        refl,
-      ),
-    ) in
-    let h₁₄ : Legal frame (take 14 trade) = Legal.More _ h₁₃ refl in
-    Legal.More _ h₁₄ (inr (no, inr (two_are_enough, refl)))
+    (Replies.Read refl (moved, refl, rows_by_key declared moved [] _ _ _ tt seven_moved)) in
+    let h₁₀ : Legal frame (take 10 trade) = Legal.More _ h₉ (Replies.NoWatch refl) in
+    let h₁₁ : Legal frame (take 11 trade) = Legal.More _ h₁₀ (Replies.NoWatch refl) in
+    let h₁₂ : Legal frame (take 12 trade) = Legal.More _ h₁₁ (Replies.Tallied (sum, refl, refl)) in
+    let h₁₃ : Legal frame (take 13 trade) = Legal.More _ h₁₂
+    (Replies.Folio refl refl ((refl, refl), ((refl, refl), ((refl, refl), tt)))) in
+    let h₁₄ : Legal frame (take 14 trade) = Legal.More _ h₁₃ (Replies.PortfolioOfNone refl) in
+    Legal.More _ h₁₄ (Replies.EndedNow (refl, no) two_are_enough)
 
 -- both events are of the first contract
-pub trade_recorded : recorded trade ≡ (1, moves (pos 5) 2) ∷ (1, moves (pos 2) 2) ∷ []
+pub trade_recorded : log_of trade ≡ (1, moves (pos 5) 2) ∷ (1, moves (pos 2) 2) ∷ []
 trade_recorded = refl
+
+-- an event is withdrawn, and then one of an earlier day is recorded
+abbrev withdrawal : List Entry
+withdrawal =
+    by 1 (Command.Register c (oil_then (oil_then Contract.Success))) (Reply.Registered 1)
+    ∷ by 1 (Command.Transmit c (moves (pos 5) 2)) (Reply.Recorded 1 false)
+    ∷ by 2 (Command.Void c 2) (Reply.NoEvent 2)
+    ∷ by 2 (Command.Void d 1) (Reply.NoContract d)
+    ∷ by 2 (Command.Void c 1) (Reply.Voided 0 false)
+    ∷ by 1 (Command.Transmit c (moves (pos 2) 1)) (Reply.Recorded 1 false)
+    ∷ by 2 (Command.Tally sum.name []) (Reply.Answered (Answer.Single (Some (V.Int (pos 2)))))
+    ∷ []
+
+none_is_too_few : Perf (without_templates declared) [] (oil_then (oil_then Contract.Success)) [] → ⊥
+none_is_too_few p = elim p [ ]
+
+another_is_too_few : Perf (without_templates declared) [] (oil_then (oil_then Contract.Success)) (moves (pos 2) 1 ∷ []) → ⊥
+another_is_too_few (Perf.Taken h p) = later p
+  where
+    later : {env : Env} → Perf (without_templates declared) env (oil_then Contract.Success) [] → ⊥
+    later p = elim p [ ]
+
+no_second : HasPlace (moves (pos 5) 2 ∷ []) 2 → ⊥
+no_second h = omega (arith, h.1)
+
+never_too_large : GrowsTooLarge frame (oil_then (oil_then Contract.Success)) [] → ⊥
+never_too_large (zero, large) = is_not_too_large refl large
+never_too_large (suc n, large) = is_not_too_large refl large
+
+pub withdrawal_is_legal : Legal frame withdrawal
+withdrawal_is_legal =
+    let h₁ : Legal frame (take 1 withdrawal) = Legal.More _ Legal.Empty
+    (Replies.Registered refl (2, May.Granted (May.Granted May.Done)) (is_not_too_large refl)) in
+    let h₂ : Legal frame (take 2 withdrawal) = Legal.More _ h₁
+    (Replies.Recorded ((refl, no), refl) (1, May.Taken refl (May.Granted May.Done)) (is_not_too_large refl) is_not) in
+    let h₃ : Legal frame (take 3 withdrawal) = Legal.More _ h₂ (Replies.NoEvent (refl, no) no_second) in
+    let h₄ : Legal frame (take 4 withdrawal) = Legal.More _ h₃ (Replies.VoidOfNone refl) in
+    let h₅ : Legal frame (take 5 withdrawal) = Legal.More _ h₄
+    (Replies.Voided ((refl, no), (omega arith, omega arith)) never_too_large (2, May.Granted (May.Granted May.Done))
+    (λ e. absurd (no e), λ p. absurd (none_is_too_few p))) in
+    let h₆ : Legal frame (take 6 withdrawal) = Legal.More _ h₅
+    (Replies.Recorded ((refl, no), refl) (1, May.Taken refl (May.Granted May.Done)) (is_not_too_large refl)
+    (λ e. absurd (no e), λ p. absurd (another_is_too_few p))) in
+    Legal.More _ h₆ (Replies.Tallied (sum, refl, refl))
+
+-- the event that was withdrawn is none of the contract's
+pub withdrawal_leaves : log_of withdrawal ≡ (1, moves (pos 2) 1) ∷ []
+withdrawal_leaves = refl
 
 -- transmit(s, v, r, t | kind(r) = USD). Success
 abbrev usd_then_success : Contract
@@ -246,16 +288,11 @@ pub either_side_is_legal : Legal frame either_side
 either_side_is_legal =
     let first : Between (moves (pos 1) 1 ∷ []) [] (moves (pos 1) 1 ∷ []) = Between.First Between.Empty in
     let h₁ : Legal frame (take 1 either_side) = Legal.More _ Legal.Empty
-    (inr ((3, May.Beside Between.Empty refl (May.Granted May.Done) (May.Granted (May.Granted May.Done))), inr (is_not_too_large refl, refl))) in
+    (Replies.Registered refl (3, May.Beside Between.Empty refl (May.Granted May.Done) (May.Granted (May.Granted May.Done))) (is_not_too_large refl)) in
     let h₂ : Legal frame (take 2 either_side) = Legal.More _ h₁
-    (inr (
-      no,
-      inr (
-        (2, May.Beside first refl (May.Taken refl May.Done) (May.Granted (May.Granted May.Done))),
-        inr (is_not_too_large refl, (false, not_both, refl)),
-      ),
-    )) in
-    Legal.More _ h₂ (false, not_both, refl)
+    (Replies.Recorded ((refl, no), refl) (2, May.Beside first refl (May.Taken refl May.Done) (May.Granted (May.Granted May.Done)))
+    (is_not_too_large refl) not_both) in
+    Legal.More _ h₂ (Replies.Shown refl not_both)
 
 -- a predicate with so many nodes above its literal
 abbrev nots : ℕ → Expression
@@ -274,8 +311,8 @@ at_the_limit =
 
 pub at_the_limit_is_legal : Legal frame at_the_limit
 at_the_limit_is_legal =
-    let h₁ : Legal frame (take 1 at_the_limit) = Legal.More _ Legal.Empty (inr ((1, May.Granted May.Done), inl (refl, refl))) in
-    Legal.More _ h₁ (inr ((1, May.Granted May.Done), inr (is_not_too_large refl, refl)))
+    let h₁ : Legal frame (take 1 at_the_limit) = Legal.More _ Legal.Empty (Replies.RegisterTooLarge refl (1, May.Granted May.Done) refl) in
+    Legal.More _ h₁ (Replies.Registered refl (1, May.Granted May.Done) (is_not_too_large refl))
 
 -- template filled(n: Int) = transmit(s, v, r, t | ..). Success, of size 1000
 abbrev filled : Name
@@ -339,5 +376,5 @@ far_spread =
 
 pub far_spread_is_legal : Legal one_frame far_spread
 far_spread_is_legal =
-    let h₁ : Legal one_frame (take 1 far_spread) = Legal.More _ Legal.Empty (inr (five_hopeful 1 2 3 4 5, inl (refl, refl))) in
-    Legal.More _ h₁ (inr (five_hopeful 1 1 2 3 4, inr (is_not_too_large refl, refl)))
+    let h₁ : Legal one_frame (take 1 far_spread) = Legal.More _ Legal.Empty (Replies.RegisterTooLarge refl (five_hopeful 1 2 3 4 5) refl) in
+    Legal.More _ h₁ (Replies.Registered refl (five_hopeful 1 1 2 3 4) (is_not_too_large refl))

@@ -1,6 +1,7 @@
 pub mod OneReplies
 pub mod Histories
 pub mod Gathering
+pub mod Accepting
 pub mod OneFrames
 pub mod Examples
 pub mod TypingRules

@@ -22,13 +22,51 @@ marks_one book marks marks' h h' = λ i. record {
   hopeful = λ f. one_by (marks.hopeful f) (marks'.hopeful f) (h.hopeful f) (h'.hopeful f) i;
 }
 
+-- no rule asks why the marks are right
+with_right : (f : Frame) (j : AreRight f.book f.marks) {l : Ledger} {command : Command} {r : Reply} → Replies f l command r →
+    Replies (record { book = f.book; reports = f.reports; marks = f.marks; right = j }) l command r
+with_right f j h = replies_right h
+  where
+    g : Frame
+    g = record { book = f.book; reports = f.reports; marks = f.marks; right = j }
+
+    replies_right : {l : Ledger} {command : Command} {r : Reply} → Replies f l command r → Replies g l command r
+    replies_right (Replies.NameTaken a) = Replies.NameTaken a
+    replies_right (Replies.Hopeless a b) = Replies.Hopeless a b
+    replies_right (Replies.RegisterTooLarge a b c) = Replies.RegisterTooLarge a b c
+    replies_right (Replies.Registered a b c) = Replies.Registered a b c
+    replies_right (Replies.TransmitToNone a) = Replies.TransmitToNone a
+    replies_right (Replies.TransmitToEnded a b) = Replies.TransmitToEnded a b
+    replies_right (Replies.Late a b) = Replies.Late a b
+    replies_right (Replies.Unmatched a b) = Replies.Unmatched a b
+    replies_right (Replies.TransmitTooLarge a b c) = Replies.TransmitTooLarge a b c
+    replies_right (Replies.Recorded a b c d) = Replies.Recorded a b c d
+    replies_right (Replies.VoidOfNone a) = Replies.VoidOfNone a
+    replies_right (Replies.VoidOfEnded a b) = Replies.VoidOfEnded a b
+    replies_right (Replies.NoEvent a b) = Replies.NoEvent a b
+    replies_right (Replies.VoidTooLarge a b) = Replies.VoidTooLarge a b
+    replies_right (Replies.VoidUnmatched a b c) = Replies.VoidUnmatched a b c
+    replies_right (Replies.Voided a b c d) = Replies.Voided a b c d
+    replies_right (Replies.EndOfNone a) = Replies.EndOfNone a
+    replies_right (Replies.AlreadyEnded a b) = Replies.AlreadyEnded a b
+    replies_right (Replies.NotPerformed a b) = Replies.NotPerformed a b
+    replies_right (Replies.EndedNow a b) = Replies.EndedNow a b
+    replies_right (Replies.ShowOfNone a) = Replies.ShowOfNone a
+    replies_right (Replies.Shown a b) = Replies.Shown a b
+    replies_right (Replies.Tallied a) = Replies.Tallied a
+    replies_right (Replies.PortfolioOfNone a) = Replies.PortfolioOfNone a
+    replies_right (Replies.Folio a b c) = Replies.Folio a b c
+    replies_right Replies.Watching = Replies.Watching
+    replies_right (Replies.NoWatch a) = Replies.NoWatch a
+    replies_right (Replies.Read a b) = Replies.Read a b
+
 -- a reply for a frame is one for each frame with the same book and reports
 pub replies_same : (f : Frame) (l : Ledger) (command : Command) (r : Reply) (book : Book) (reports : List Report) (marks : Marks) (right : AreRight book marks) →
     f.book ≡ book → f.reports ≡ reports → Replies f l command r → Replies (record { book = book; reports = reports; marks = marks; right = right }) l command r
 replies_same f l command r book reports marks right b q h =
     path_j (λ c _. (m : Marks) (k : AreRight c m) → Replies (record { book = c; reports = reports; marks = m; right = k }) l command r)
     (λ m k. path_j (λ n _. (j : AreRight f.book n) → Replies (record { book = f.book; reports = reports; marks = n; right = j }) l command r)
-    (λ j. path_j (λ t _. Replies (record { book = f.book; reports = t; marks = f.marks; right = j }) l command r) h q)
+    (λ j. path_j (λ t _. Replies (record { book = f.book; reports = t; marks = f.marks; right = j }) l command r) (with_right f j h) q)
     (marks_one f.book f.marks m f.right k) k)
     b marks right
 

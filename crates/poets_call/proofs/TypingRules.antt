@@ -120,6 +120,7 @@ asks_pass book reports x args a = rw (a.found) (arguments_pass book.declared [] 
 pub command_typed : (book : Book) (reports : List Report) (command : Command) → check_command book reports command ≡ Passes tt → R.IsTypedCommand book reports command
 command_typed book reports (plain.Register x c) h = R.Registers (contract_typed book (report_names reports) [] c h)
 command_typed book reports (plain.Transmit x e) h = R.Delivers (event_typed book.declared e h)
+command_typed book reports (plain.Void x k) h = R.Withdraws
 command_typed book reports (plain.End x) h = R.Ends
 command_typed book reports (plain.Show x) h = R.Looks
 command_typed book reports (plain.Tally x args) h = R.Tallies (asks book reports x args h)
@@ -130,6 +131,7 @@ command_typed book reports (plain.Read n) h = R.Reads
 pub command_passes : (book : Book) (reports : List Report) (command : Command) → R.IsTypedCommand book reports command → check_command book reports command ≡ Passes tt
 command_passes book reports (plain.Register x c) (R.Registers h) = contract_passes book (report_names reports) [] c h
 command_passes book reports (plain.Transmit x e) (R.Delivers h) = event_passes book.declared e h
+command_passes book reports (plain.Void x k) R.Withdraws = refl
 command_passes book reports (plain.End x) R.Ends = refl
 command_passes book reports (plain.Show x) R.Looks = refl
 command_passes book reports (plain.Tally x args) (R.Tallies h) = asks_pass book reports x args h

@@ -17,6 +17,7 @@ use Rattle.poets_call.specs.declared.call.Entry.{Entry}
 abbrev pub command_of : Command → plain.Command
 command_of (C.Register x term) = plain.Register x (contract_of (arc_value term))
 command_of (C.Transmit x e) = plain.Transmit x e
+command_of (C.Void x place) = plain.Void x place
 command_of (C.End x) = plain.End x
 command_of (C.Show x) = plain.Show x
 command_of (C.Tally q args) = plain.Tally q (map expression_of args.items)
@@ -35,6 +36,8 @@ reply_of (R.NameTaken n) = plain.NameTaken n
 reply_of R.Hopeless = plain.Hopeless
 reply_of R.TooLarge = plain.TooLarge
 reply_of (R.Recorded n may_end) = plain.Recorded n may_end
+reply_of (R.Voided n may_end) = plain.Voided n may_end
+reply_of (R.NoEvent n) = plain.NoEvent n
 reply_of (R.NoContract x) = plain.NoContract x
 reply_of R.Ended = plain.Ended
 reply_of (R.Late d) = plain.Late d

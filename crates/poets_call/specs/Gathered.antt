@@ -1,12 +1,12 @@
 -- The ledger's four lists, each gathered from the history itself.
-use Rattle.std.specs.Prelude.{◌≡◌, ℕ, List, [], ◌∷◌, Option, Some, None, map}
+use Rattle.std.specs.Prelude.{◌≡◌, ℕ, List, [], ◌∷◌, ◌++◌, Option, Some, None, fold, map}
 use Rattle.std.specs.List.{filter_map}
 use Rattle.poets_value.specs.declared.value.Name.{Name}
 use Rattle.poets_value.specs.declared.event.Event.{Event}
 use Rattle.poets_expr.specs.Expression.{Expression}
 use Rattle.poets_syntax.specs.Contract.{Contract}
 use Rattle.poets_call.specs.Plain.{Command, Reply, Entry}
-use Rattle.poets_call.specs.Ledger.{ledger_of, contract_from, number_in}
+use Rattle.poets_call.specs.Ledger.{ledger_of, contract_from, number_in, without}
 
 -- the name and the original of an accepted registration
 abbrev pub registration : Command → Reply → Option (Name × Contract)
@@ -26,14 +26,16 @@ abbrev pub with_before : List Entry → List (List Entry × Entry)
 with_before [] = []
 with_before (e ∷ h) = ([], e) ∷ map (λ p. (e ∷ p.0, p.1)) (with_before h)
 
--- the contract's number and the event of an accepted transmission
-abbrev pub transmission : List Entry → Command → Reply → Option (ℕ × Event)
-transmission before (Command.Transmit x e) (Reply.Recorded count may_end) = Some (number_after before x, e)
-transmission before _ _ = None
+-- what an entry makes of the log: an accepted transmission adds the contract's number and the event at the end, and
+-- an accepted withdrawal takes out the pair of the contract that has its place
+abbrev pub logged : List Entry → Command → Reply → List (ℕ × Event) → List (ℕ × Event)
+logged before (Command.Transmit x e) (Reply.Recorded count may_end) log = log ++ (number_after before x, e) ∷ []
+logged before (Command.Void x k) (Reply.Voided count may_end) log = without (number_after before x) k log
+logged before _ _ log = log
 
--- the contracts' numbers and the events of the accepted transmissions
-abbrev pub recorded : List Entry → List (ℕ × Event)
-recorded h = filter_map (λ p. transmission p.0 p.1.command p.1.reply) (with_before h)
+-- the history gone through in order: the contracts' numbers and the events that were recorded and not withdrawn
+abbrev pub log_of : List Entry → List (ℕ × Event)
+log_of h = fold (λ log p. logged p.0 p.1.command p.1.reply log) [] (with_before h)
 
 -- the number of a contract that was ended
 abbrev pub ending : List Entry → Command → Reply → Option ℕ
@@ -56,4 +58,4 @@ watching h = filter_map (λ e. watch e.command e.reply) h
 -- the ledger of a history is these four lists
 abbrev pub LedgerIsGathered : Type 0
 LedgerIsGathered = (h : List Entry) →
-    ledger_of h ≡ record { contracts = registered h; log = recorded h; ends = ended h; watches = watching h }
+    ledger_of h ≡ record { contracts = registered h; log = log_of h; ends = ended h; watches = watching h }

@@ -1,6 +1,6 @@
 -- The laws of replies, histories and typed commands, and what checks of types say by the rules of typing, as
 -- statements.
-use Rattle.std.specs.Prelude.{◌≡◌, ◌↔◌, List, Some, length}
+use Rattle.std.specs.Prelude.{◌≡◌, ◌↔◌, List, Some, false, length}
 use Rattle.poets_value.specs.declared.value.Name.{Name}
 use Rattle.poets_value.specs.declared.event.Event.{Event}
 use Rattle.poets_expr.specs.Expression.{Expression}
@@ -13,7 +13,7 @@ use Rattle.poets_syntax.specs.WellFormed.{IsWellFormed, IsDeclaredEvent}
 use Rattle.poets_report.specs.Plain.{Report}
 use Rattle.poets_call.specs.Plain.{Command, Reply, Entry}
 use Rattle.poets_call.specs.Calls.{Call, calls_of}
-use Rattle.poets_call.specs.Ledger.{Ledger}
+use Rattle.poets_call.specs.Ledger.{Ledger, is_accepted, with_entry}
 use Rattle.poets_call.specs.Frame.{Frame}
 use Rattle.poets_call.specs.Histories.{IsLegal, AnswersIn}
 use Rattle.poets_call.specs.Replies.{Replies, Legal, Answers, report_in}
@@ -24,6 +24,11 @@ use Rattle.poets_call.specs.Typing.{IsTypedReport, IsTypedCommand}
 abbrev pub OneReply : Type 0
 OneReply = (f : Frame) (ledger : Ledger) (command : Command) (r r' : Reply) →
     Replies f ledger command r → Replies f ledger command r' → r ≡ r'
+
+-- only an accepted command changes the ledger
+abbrev pub OnlyAcceptedChange : Type 0
+OnlyAcceptedChange = (ledger : Ledger) (command : Command) (r : Reply) →
+    is_accepted r ≡ false → with_entry ledger command r ≡ ledger
 
 -- legal histories of the same calls are one
 abbrev pub OneHistory : Type 0

@@ -1,5 +1,6 @@
 -- The ledger: the lists that are gathered from a history.
-use Rattle.std.specs.Prelude.{ℕ, zero, suc, Bool, Option, Some, None, nat_eq, if◌then◌else◌, ℤ, int_lt}
+use Rattle.std.specs.Prelude.{ℕ, zero, suc, ◌-◌, Bool, true, false}
+use Rattle.std.specs.Prelude.{Option, Some, None, nat_eq, if◌then◌else◌, ℤ, int_lt}
 use Rattle.std.specs.Prelude.{List, [], ◌∷◌, ◌++◌, map, filter, fold, slice_get}
 use Rattle.std.specs.List.{list_any}
 use Rattle.poets_value.specs.declared.value.Name.{Name}
@@ -12,7 +13,7 @@ use Rattle.poets_call.specs.Plain.{Command, Reply, Entry}
 pub record Ledger : Type 0 where
   -- the names and the originals of the accepted registrations; their places count from 1
   pub contracts : List (Name × Contract)
-  -- the contracts' numbers and the events of the accepted transmissions
+  -- the contracts' numbers and the events of the accepted transmissions, but for the events that were withdrawn
   pub log : List (ℕ × Event)
   -- the numbers of the ended contracts
   pub ends : List ℕ
@@ -39,12 +40,29 @@ number_in (Some c) = c.0
 abbrev pub number_of : Ledger → Name → ℕ
 number_of ledger x = number_in (contract_named ledger x)
 
--- with an entry: only accepted commands add to the ledger
+-- the log without the k-th pair, from 1, that has the number
+abbrev pub without : ℕ → (k : ℕ) → List (ℕ × Event) → List (ℕ × Event)
+without n k [] = []
+without n k (p ∷ log) =
+    if nat_eq p.0 n then (if nat_eq k 1 then log else p ∷ without n (k - 1) log) else p ∷ without n k log
+
+-- the replies to commands that were accepted
+abbrev pub is_accepted : Reply → Bool
+is_accepted (Reply.Registered n) = true
+is_accepted (Reply.Recorded count may_end) = true
+is_accepted (Reply.Voided count may_end) = true
+is_accepted Reply.EndedNow = true
+is_accepted (Reply.Watching n) = true
+is_accepted _ = false
+
+-- with an entry: only accepted commands change the ledger
 abbrev pub with_entry : Ledger → Command → Reply → Ledger
 with_entry ledger (Command.Register x c) (Reply.Registered n) =
     record ledger { contracts = ledger.contracts ++ (x, c) ∷ [] }
 with_entry ledger (Command.Transmit x e) (Reply.Recorded n may_end) =
     record ledger { log = ledger.log ++ (number_of ledger x, e) ∷ [] }
+with_entry ledger (Command.Void x k) (Reply.Voided n may_end) =
+    record ledger { log = without (number_of ledger x) k ledger.log }
 with_entry ledger (Command.End x) Reply.EndedNow = record ledger { ends = ledger.ends ++ number_of ledger x ∷ [] }
 with_entry ledger (Command.Watch q args) (Reply.Watching n) =
     record ledger { watches = ledger.watches ++ (q, args) ∷ [] }
@@ -54,11 +72,11 @@ with_entry ledger _ _ = ledger
 abbrev pub ledger_of : List Entry → Ledger
 ledger_of h = fold (λ ledger e. with_entry ledger e.command e.reply) empty_ledger h
 
--- all recorded events
+-- all recorded events that were not withdrawn
 abbrev pub events : Ledger → List Event
 events ledger = map (λ p. p.1) ledger.log
 
--- the recorded events of the contract with a number
+-- those of the contract with a number
 abbrev pub trace : Ledger → ℕ → List Event
 trace ledger n = map (λ p. p.1) (filter (λ p. nat_eq p.0 n) ledger.log)
 

@@ -11,6 +11,7 @@ pub use Rattle.poets_report.specs.Plain.{Template, Book, TypeCause, Report, Answ
 pub data Command : Type 0 where
   Register : Name → Contract → Command
   Transmit : Name → Event → Command
+  Void : Name → (place : ℕ) → Command
   End : Name → Command
   Show : Name → Command
   Tally : Name → List Expression → Command
@@ -25,6 +26,8 @@ pub data Reply : Type 0 where
   Hopeless : Reply
   TooLarge : Reply
   Recorded : (count : ℕ) → (may_end : Bool) → Reply
+  Voided : (count : ℕ) → (may_end : Bool) → Reply
+  NoEvent : ℕ → Reply
   NoContract : Name → Reply
   Ended : Reply
   Late : ℤ → Reply

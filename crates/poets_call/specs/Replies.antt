@@ -1,6 +1,6 @@
 -- The reply to a command after a history.
-use Rattle.std.specs.Prelude.{◌≡◌, ℕ, ◌+◌, ℤ, pos, ◌+ℤ◌, Bool, IsTrue, ◌↔◌, ◌⊎◌, Option, Some, None, if◌then◌else◌}
-use Rattle.std.specs.Prelude.{List, [], ◌∷◌, ◌++◌, map, fold, length}
+use Rattle.std.specs.Prelude.{◌≡◌, ℕ, ◌+◌, ◌-◌, ◌≤◌, ℤ, pos, ◌+ℤ◌, Bool, IsTrue, ◌↔◌, Option, Some, None, if◌then◌else◌}
+use Rattle.std.specs.Prelude.{List, [], ◌∷◌, ◌++◌, map, fold, length, remove, take}
 use Rattle.std.specs.List.{AllZip}
 use Rattle.poets_value.specs.declared.value.Name.{Name}
 use Rattle.poets_value.specs.declared.event.Event.{Event}
@@ -25,14 +25,6 @@ use Rattle.poets_call.specs.Calls.{Call, calls_of}
 use Rattle.poets_call.specs.Ledger.{Ledger, ledger_of, contract_named, number_of, trace, events, is_ended, late_day}
 use Rattle.poets_call.specs.Ledger.{first_absent, watch_at}
 use Rattle.poets_call.specs.Frame.{Frame}
-
--- the first where the condition holds, else the second
-abbrev pub When : Type 0 → Type 0 → Type 0 → Type 0
-When Condition First Second = (Condition × First) ⊎ ((Condition → ⊥) × Second)
-
--- the first where the condition does not hold, else the second
-abbrev pub Unless : Type 0 → Type 0 → Type 0 → Type 0
-Unless Condition First Second = ((Condition → ⊥) × First) ⊎ (Condition × Second)
 
 -- the contract is past the limit
 abbrev pub IsTooLarge : Frame → Contract → Type 0
@@ -82,78 +74,157 @@ abbrev pub AreFolioRows : Frame → Ledger → Report → List Expression → Li
 AreFolioRows f ledger q args over rows =
     AllZip (λ x row. (row.0 ≡ x) × AnswersReport f q args (trace ledger (number_of ledger x)) row.1) over rows
 
--- the replies to each command: the cases in order; the first that applies
--- `named` is the number and the original of the contract with the command's name, if there is one
+-- no contract has the name
+abbrev pub IsAbsent : Ledger → Name → Type 0
+IsAbsent l x = contract_named l x ≡ None
 
-abbrev pub Registers : Frame → Ledger → Contract → (named : Option (ℕ × Contract)) → Reply → Type 0
-Registers f ledger c (Some named) r = r ≡ Reply.NameTaken named.0
-Registers f ledger c None r =
-    Unless (Hopeful f.book c) (r ≡ Reply.Hopeless) (
-    When (IsTooLarge f (normal f.book f.marks c)) (r ≡ Reply.TooLarge)
-    (r ≡ Reply.Registered (length ledger.contracts + 1)))
+-- the contract with the name has this number and this original
+abbrev pub IsNamed : Ledger → Name → ℕ → Contract → Type 0
+IsNamed l x i o = contract_named l x ≡ Some (i, o)
 
--- to the event e after the trace s of the original o; `later` is the last day of s, if e's day is before it
-abbrev pub Records : Frame → Contract → List Event → Event → (later : Option ℤ) → Reply → Type 0
-Records f o s e (Some later) r = r ≡ Reply.Late later
-Records f o s e None r =
-    Unless (CanGoOn f o (s ++ e ∷ [])) (r ≡ Reply.Unmatched) (
-    When (IsTooLarge f (residual_after f.book f.marks o (s ++ e ∷ []))) (r ≡ Reply.TooLarge)
-    ((b : Bool) × TellsWhetherPerformed f b o (s ++ e ∷ []) × (r ≡ Reply.Recorded (length s + 1) b)))
+-- the contract with the number was ended
+abbrev pub WasEnded : Ledger → ℕ → Type 0
+WasEnded l i = IsTrue (is_ended l i)
 
-abbrev pub Transmits : Frame → Ledger → Name → Event → (named : Option (ℕ × Contract)) → Reply → Type 0
-Transmits f ledger x e None r = r ≡ Reply.NoContract x
-Transmits f ledger x e (Some named) r =
-    let s = trace ledger named.0 in
-    When (IsTrue (is_ended ledger named.0)) (r ≡ Reply.Ended)
-    (Records f named.1 s e (late_day s e.day) r)
+-- the contract with the name has this number and this original, and was not ended
+abbrev pub IsOpen : Ledger → Name → ℕ → Contract → Type 0
+IsOpen l x i o = IsNamed l x i o × (WasEnded l i → ⊥)
 
-abbrev pub Ends : Frame → Ledger → Name → (named : Option (ℕ × Contract)) → Reply → Type 0
-Ends f ledger x None r = r ≡ Reply.NoContract x
-Ends f ledger x (Some named) r =
-    let s = trace ledger named.0 in
-    When (IsTrue (is_ended ledger named.0)) (r ≡ Reply.AlreadyEnded) (
-    Unless (Perf f.book [] named.1 s) (r ≡ Reply.NotPerformed)
-    (r ≡ Reply.EndedNow))
+-- the contract is open, and the event's day is not before the last of its trace
+abbrev pub IsOpenTo : Event → Ledger → Name → ℕ → Contract → Type 0
+IsOpenTo e l x i o = IsOpen l x i o × (late_day (trace l i) e.day ≡ None)
 
-abbrev pub Shows : Frame → Ledger → Name → (named : Option (ℕ × Contract)) → Reply → Type 0
-Shows f ledger x None r = r ≡ Reply.NoContract x
-Shows f ledger x (Some named) r =
-    let s = trace ledger named.0 in
-    (b : Bool) × TellsWhetherPerformed f b named.1 s
-    × (r ≡ Reply.Shown (residual_after f.book f.marks named.1 s) (length s) b (is_ended ledger named.0))
+-- the trace of the contract with the number, and then the event
+abbrev pub trace_with : Ledger → ℕ → Event → List Event
+trace_with l i e = trace l i ++ e ∷ []
 
--- to a tally of the report with a name over events
-abbrev pub Tallies : Frame → Name → List Expression → List Event → Reply → Type 0
-Tallies f x args s r =
-    (q : Report) × (report_in f.reports x ≡ Some q) × ((a : Answer)
-    × AnswersReport f q args s a × (r ≡ Reply.Answered a))
+-- the trace has an event at the place, from 1
+abbrev pub HasPlace : List Event → (place : ℕ) → Type 0
+HasPlace s k = (1 ≤ k) × (k ≤ length s)
 
--- `absent` is the first listed name that no contract has, if there is one
-abbrev pub GivesFolio : Frame → Ledger → Name → List Expression → List Name → (absent : Option Name) → Reply → Type 0
-GivesFolio f ledger x args over (Some absent) r = r ≡ Reply.NoContract absent
-GivesFolio f ledger x args over None r =
-    (q : Report) × (report_in f.reports x ≡ Some q)
-    × ((rows : List (Name × Answer))
-    × AreFolioRows f ledger q args over rows × (r ≡ Reply.Folio rows (total_of q rows)))
+-- the contract with the name has this number and this original, was not ended, and its trace has that place
+abbrev pub IsOpenAt : (place : ℕ) → Ledger → Name → ℕ → Contract → Type 0
+IsOpenAt k l x i o = IsOpen l x i o × HasPlace (trace l i) k
 
-abbrev pub Watches : Ledger → Reply → Type 0
-Watches ledger r = r ≡ Reply.Watching (length ledger.watches + 1)
+-- the trace of the contract with the number, without the event at the place, from 1
+abbrev pub trace_without : Ledger → ℕ → (place : ℕ) → List Event
+trace_without l i k = remove (trace l i) (k - 1)
 
--- `watch` is the report's name and the arguments of the watch with the number, if there is one
-abbrev pub Reads : Frame → Ledger → ℕ → (watch : Option (Name × List Expression)) → Reply → Type 0
-Reads f ledger n None r = r ≡ Reply.NoWatch n
-Reads f ledger n (Some watch) r = Tallies f watch.0 watch.1 (events ledger) r
+-- what is owed after some of the first events of the trace is past the limit
+abbrev pub GrowsTooLarge : Frame → Contract → List Event → Type 0
+GrowsTooLarge f o s = (n : ℕ) × IsTooLarge f (residual_after f.book f.marks o (take n s))
 
--- the reply to a command after the history of a ledger
-abbrev pub Replies : Frame → Ledger → Command → Reply → Type 0
-Replies f ledger (Command.Register x c) r = Registers f ledger c (contract_named ledger x) r
-Replies f ledger (Command.Transmit x e) r = Transmits f ledger x e (contract_named ledger x) r
-Replies f ledger (Command.End x) r = Ends f ledger x (contract_named ledger x) r
-Replies f ledger (Command.Show x) r = Shows f ledger x (contract_named ledger x) r
-Replies f ledger (Command.Tally x args) r = Tallies f x args (events ledger) r
-Replies f ledger (Command.Portfolio x args over) r = GivesFolio f ledger x args over (first_absent ledger over) r
-Replies f ledger (Command.Watch x args) r = Watches ledger r
-Replies f ledger (Command.Read n) r = Reads f ledger n (watch_at ledger n) r
+-- the report with the name answers this over the events
+abbrev pub ReportAnswers : Frame → Name → List Expression → List Event → Answer → Type 0
+ReportAnswers f x args s a = (q : Report) × (report_in f.reports x ≡ Some q) × AnswersReport f q args s a
+
+-- the reply to a command after the history of a ledger: a rule for each row of the table of replies
+pub data Replies (f : Frame) (l : Ledger) : Command → Reply → Type 0 where
+  -- register
+  NameTaken :
+      {x : Name} {c o : Contract} {i : ℕ} → IsNamed l x i o →
+      Replies f l (Command.Register x c) (Reply.NameTaken i)
+  Hopeless :
+      {x : Name} {c : Contract} → IsAbsent l x → (Hopeful f.book c → ⊥) →
+      Replies f l (Command.Register x c) Reply.Hopeless
+  RegisterTooLarge :
+      {x : Name} {c : Contract} → IsAbsent l x → Hopeful f.book c → IsTooLarge f (normal f.book f.marks c) →
+      Replies f l (Command.Register x c) Reply.TooLarge
+  Registered :
+      {x : Name} {c : Contract} → IsAbsent l x → Hopeful f.book c → (IsTooLarge f (normal f.book f.marks c) → ⊥) →
+      Replies f l (Command.Register x c) (Reply.Registered (length l.contracts + 1))
+  -- transmit
+  TransmitToNone :
+      {x : Name} {e : Event} → IsAbsent l x →
+      Replies f l (Command.Transmit x e) (Reply.NoContract x)
+  TransmitToEnded :
+      {x : Name} {e : Event} {i : ℕ} {o : Contract} → IsNamed l x i o → WasEnded l i →
+      Replies f l (Command.Transmit x e) Reply.Ended
+  Late :
+      {x : Name} {e : Event} {i : ℕ} {o : Contract} {last : ℤ} → IsOpen l x i o →
+      late_day (trace l i) e.day ≡ Some last →
+      Replies f l (Command.Transmit x e) (Reply.Late last)
+  Unmatched :
+      {x : Name} {e : Event} {i : ℕ} {o : Contract} → IsOpenTo e l x i o →
+      (CanGoOn f o (trace_with l i e) → ⊥) →
+      Replies f l (Command.Transmit x e) Reply.Unmatched
+  TransmitTooLarge :
+      {x : Name} {e : Event} {i : ℕ} {o : Contract} → IsOpenTo e l x i o → CanGoOn f o (trace_with l i e) →
+      IsTooLarge f (residual_after f.book f.marks o (trace_with l i e)) →
+      Replies f l (Command.Transmit x e) Reply.TooLarge
+  Recorded :
+      {x : Name} {e : Event} {i : ℕ} {o : Contract} {b : Bool} → IsOpenTo e l x i o →
+      CanGoOn f o (trace_with l i e) →
+      (IsTooLarge f (residual_after f.book f.marks o (trace_with l i e)) → ⊥) →
+      TellsWhetherPerformed f b o (trace_with l i e) →
+      Replies f l (Command.Transmit x e) (Reply.Recorded (length (trace l i) + 1) b)
+  -- void
+  VoidOfNone :
+      {x : Name} {k : ℕ} → IsAbsent l x →
+      Replies f l (Command.Void x k) (Reply.NoContract x)
+  VoidOfEnded :
+      {x : Name} {k i : ℕ} {o : Contract} → IsNamed l x i o → WasEnded l i →
+      Replies f l (Command.Void x k) Reply.Ended
+  NoEvent :
+      {x : Name} {k i : ℕ} {o : Contract} → IsOpen l x i o → (HasPlace (trace l i) k → ⊥) →
+      Replies f l (Command.Void x k) (Reply.NoEvent k)
+  VoidTooLarge :
+      {x : Name} {k i : ℕ} {o : Contract} → IsOpenAt k l x i o → GrowsTooLarge f o (trace_without l i k) →
+      Replies f l (Command.Void x k) Reply.TooLarge
+  VoidUnmatched :
+      {x : Name} {k i : ℕ} {o : Contract} → IsOpenAt k l x i o → (GrowsTooLarge f o (trace_without l i k) → ⊥) →
+      (CanGoOn f o (trace_without l i k) → ⊥) →
+      Replies f l (Command.Void x k) Reply.Unmatched
+  Voided :
+      {x : Name} {k i : ℕ} {o : Contract} {b : Bool} → IsOpenAt k l x i o →
+      (GrowsTooLarge f o (trace_without l i k) → ⊥) → CanGoOn f o (trace_without l i k) →
+      TellsWhetherPerformed f b o (trace_without l i k) →
+      Replies f l (Command.Void x k) (Reply.Voided (length (trace_without l i k)) b)
+  -- end
+  EndOfNone :
+      {x : Name} → IsAbsent l x →
+      Replies f l (Command.End x) (Reply.NoContract x)
+  AlreadyEnded :
+      {x : Name} {i : ℕ} {o : Contract} → IsNamed l x i o → WasEnded l i →
+      Replies f l (Command.End x) Reply.AlreadyEnded
+  NotPerformed :
+      {x : Name} {i : ℕ} {o : Contract} → IsOpen l x i o → (Perf f.book [] o (trace l i) → ⊥) →
+      Replies f l (Command.End x) Reply.NotPerformed
+  EndedNow :
+      {x : Name} {i : ℕ} {o : Contract} → IsOpen l x i o → Perf f.book [] o (trace l i) →
+      Replies f l (Command.End x) Reply.EndedNow
+  -- show
+  ShowOfNone :
+      {x : Name} → IsAbsent l x →
+      Replies f l (Command.Show x) (Reply.NoContract x)
+  Shown :
+      {x : Name} {i : ℕ} {o : Contract} {b : Bool} → IsNamed l x i o → TellsWhetherPerformed f b o (trace l i) →
+      Replies f l (Command.Show x)
+      (Reply.Shown (residual_after f.book f.marks o (trace l i)) (length (trace l i)) b (is_ended l i))
+  -- tally
+  Tallied :
+      {x : Name} {args : List Expression} {a : Answer} → ReportAnswers f x args (events l) a →
+      Replies f l (Command.Tally x args) (Reply.Answered a)
+  -- portfolio
+  PortfolioOfNone :
+      {x absent : Name} {args : List Expression} {over : List Name} → first_absent l over ≡ Some absent →
+      Replies f l (Command.Portfolio x args over) (Reply.NoContract absent)
+  Folio :
+      {x : Name} {args : List Expression} {over : List Name} {q : Report} {rows : List (Name × Answer)} →
+      first_absent l over ≡ None → report_in f.reports x ≡ Some q → AreFolioRows f l q args over rows →
+      Replies f l (Command.Portfolio x args over) (Reply.Folio rows (total_of q rows))
+  -- watch
+  Watching :
+      {x : Name} {args : List Expression} →
+      Replies f l (Command.Watch x args) (Reply.Watching (length l.watches + 1))
+  -- read
+  NoWatch :
+      {n : ℕ} → watch_at l n ≡ None →
+      Replies f l (Command.Read n) (Reply.NoWatch n)
+  Read :
+      {n : ℕ} {x : Name} {args : List Expression} {a : Answer} → watch_at l n ≡ Some (x, args) →
+      ReportAnswers f x args (events l) a →
+      Replies f l (Command.Read n) (Reply.Answered a)
 
 -- each entry has the reply after the entries before it
 pub data Legal (f : Frame) : List Entry → Type 0 where

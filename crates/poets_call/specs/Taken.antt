@@ -12,6 +12,7 @@ use Rattle.poets_call.specs.Typing.{IsTypedCommand}
 abbrev pub IsWholeCommand : Command → Type 0
 IsWholeCommand (Command.Register x c) = IsWholeContract c
 IsWholeCommand (Command.Transmit x e) = IsWholeEvent e
+IsWholeCommand (Command.Void x k) = k < 2 ^ 63
 IsWholeCommand (Command.End x) = Unit {0}
 IsWholeCommand (Command.Show x) = Unit {0}
 IsWholeCommand (Command.Tally q args) = All IsWholeExpression args

@@ -12,7 +12,7 @@ use Rattle.poets_syntax.specs.Typed.{in_use, names_bound, types_bound, scope_of}
 use Rattle.poets_syntax.specs.Typing.{Has, Fit, AreNew, IsTyped}
 use Rattle.poets_syntax.specs.WellFormed.{IsDeclaredEvent}
 use Rattle.poets_report.specs.Plain.{Report}
-use Rattle.poets_call.specs.Plain.{Command, Register, Transmit as Transmission, End, Show}
+use Rattle.poets_call.specs.Plain.{Command, Register, Transmit as Transmission, Void, End, Show}
 use Rattle.poets_call.specs.Plain.{Tally, Portfolio, Watch, Read}
 use Rattle.poets_call.specs.Replies.{report_in}
 use Rattle.poets_call.specs.TypedStatements.{report_names}
@@ -43,6 +43,7 @@ pub data IsTypedCommand (book : Book) (reports : List Report) : Command → Type
       {x : Name} {c : Contract} → IsTyped book (report_names reports) [] c →
       IsTypedCommand book reports (Register x c)
   Delivers : {x : Name} {e : Event} → IsDeclaredEvent book.declared e → IsTypedCommand book reports (Transmission x e)
+  Withdraws : {x : Name} {k : ℕ} → IsTypedCommand book reports (Void x k)
   Ends : {x : Name} → IsTypedCommand book reports (End x)
   Looks : {x : Name} → IsTypedCommand book reports (Show x)
   Tallies :

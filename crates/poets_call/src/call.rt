@@ -18,6 +18,11 @@ pub enum Command {
         name: Name,
         event: Event,
     },
+    /// Withdraws the event at that place, from 1, of those that are recorded on the contract.
+    Void {
+        name: Name,
+        place: u64,
+    },
     End {
         name: Name,
     },
@@ -56,6 +61,13 @@ pub enum Reply {
         count: u64,
         may_end: bool,
     },
+    /// The event is withdrawn, and so many remain on the contract.
+    Voided {
+        count: u64,
+        may_end: bool,
+    },
+    /// No event of the contract has that place.
+    NoEvent(u64),
     NoContract(Name),
     Ended,
     /// An event of that later day is recorded.

@@ -1,11 +1,16 @@
 //! Laws of replies, each carried by a function that does nothing.
 ghost use Rattle.poets_call.specs.AnswerTypes.{AnswersHaveTypes};
 ghost use Rattle.poets_call.specs.Gathered.{LedgerIsGathered};
-ghost use Rattle.poets_call.specs.Laws.{OneReply, OneHistory, OneFrame, AnyFrame, AnyFrameAnswers, TemplatesByRules, ReportsByRules, CommandsByRules, TypedRegistration, TypedEvent, TypedReport};
+ghost use Rattle.poets_call.specs.Laws.{OneReply, OnlyAcceptedChange, OneHistory, OneFrame, AnyFrame, AnyFrameAnswers, TemplatesByRules, ReportsByRules, CommandsByRules, TypedRegistration, TypedEvent, TypedReport};
 
 /// After the same history a command has at most one reply.
 pub fn one_reply()
     ensures { OneReply }
+{}
+
+/// Only an accepted command changes the ledger.
+pub fn only_accepted_change()
+    ensures { OnlyAcceptedChange }
 {}
 
 /// There is at most one legal history of the same calls.

@@ -40,16 +40,22 @@ copies_send = search (decls_send, decls_sync, report_send, report_sync, parts) d
 pub kept_send : IsSend Kept.the_row
 kept_send = search (reply_send, work_send, sendable) depth 60 fits 20000
 
--- what is owed on a contract
+-- what is owed on a contract may be sent and shared
 node_send : IsSend (Node.the_field).row
 node_send = search parts depth 60 fits 20000
 
+node_sync : IsSync (Node.the_field).row
+node_sync = search parts depth 60 fits 20000
+
 rows_send : IsSend (Rows.the_field).row
-rows_send = search (node_send, maps.crosses, parts) depth 60 fits 20000
+rows_send = search (node_send, crosses, sendable) depth 60 fits 20000
+
+rows_sync : IsSync (Rows.the_field).row
+rows_sync = search (node_sync, crosses, sendable) depth 60 fits 20000
 
 -- the contracts, the log and the watches
 store_send : IsSend Store.the_row
-store_send = search (watches_send, events_send, rows_send, parts) depth 60 fits 20000
+store_send = search (watches_send, events_send, rows_send, rows_sync, parts) depth 60 fits 20000
 
 -- an engine may be sent
 pub engine_send : IsSend Engine.the_row

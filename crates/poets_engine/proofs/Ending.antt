@@ -1,5 +1,5 @@
 -- An end is made.
-use Rattle.std.proofs.Common.{◌≡◌, ℕ, ◌+◌, ◌-◌, ◌≤◌, Bool, true, false, List, [], ◌∷◌, ◌++◌, Some, None, map, length, slice_get, refl, sym, ◌∙◌, ap, subst, arith, inl, inr}
+use Rattle.std.proofs.Common.{◌≡◌, ℕ, ◌+◌, ◌-◌, ◌≤◌, Bool, true, false, List, [], ◌∷◌, ◌++◌, Some, None, map, length, slice_get, refl, sym, ◌∙◌, ap, subst, arith}
 use Rattle.std.specs.Prelude.{IsTrue, ◌↔◌}
 use Rattle.std.specs.List.{All}
 use Rattle.std.proofs.lemmas.List.Elements.{All-nil, All-cons, All-append}
@@ -13,19 +13,20 @@ use Rattle.poets_table.specs.TableView.{RowView, changed_at, finished, number_na
 use Rattle.poets_call.specs.declared.rules.Rules.{Rules}
 use Rattle.poets_call.specs.Rules.{book_of_rules}
 use Rattle.poets_call.specs.Plain.{Command, Reply}
-use Rattle.poets_call.specs.Ledger.{Ledger, with_entry, number_in, trace, is_ended}
+use Rattle.poets_call.specs.Ledger.{Ledger, with_entry, number_in, trace}
+use Rattle.poets_call.specs.Replies.{Replies}
 use Rattle.poets_engine.specs.Store.{StoreView}
 use Rattle.poets_engine.specs.Rows.{IsLedger, RowsAre}
 use Rattle.poets_engine.specs.code.Makes.{Makes}
 use Rattle.poets_engine.proofs.Named.{named}
 use Rattle.poets_engine.proofs.Rows.{with_end, place_below, rows_ended, named-changed_at, length-changed_at}
-use Rattle.poets_engine.proofs.Standing.{Stood, study, leaves, changes, stood, absent, told_end}
+use Rattle.poets_engine.proofs.Standing.{Stood, running, study, leaves, changes, stood, absent, told_end}
 use Rattle.poets_engine.proofs.WatchLedgers.{watches_same}
 
 module _ (rules : Rules) (x : Name) (old : StoreView) where
   pub end_absent : number_named x old.rows ≡ None → Makes rules (Command.End x) old old (Reply.NoContract x)
   end_absent none =
-      leaves rules (Command.End x) (Reply.NoContract x) old (λ l. refl) (λ l h right. rw (absent rules l x old h none) refl)
+      leaves rules (Command.End x) (Reply.NoContract x) old (λ l. refl) (λ l h right. Replies.EndOfNone (absent rules l x old h none))
 
   module _ (n : ℕ) (r : RowView Term (List Node)) (found : number_named x old.rows ≡ Some n) (row : slice_get old.rows (n - 1) ≡ Some r) where
     standing : (l : Ledger) → IsLedger rules l old → Stood rules.studied l x old.rows n r
@@ -34,20 +35,17 @@ module _ (rules : Rules) (x : Name) (old : StoreView) where
     pub end_over : r.ended ≡ true → Makes rules (Command.End x) old old Reply.AlreadyEnded
     end_over e = leaves rules (Command.End x) Reply.AlreadyEnded old (λ l. refl) (λ l h right.
         let c = standing l h in
-        rw c.named (inl (sym c.is.ended ∙ e, refl)))
+        Replies.AlreadyEnded c.named (sym c.is.ended ∙ e))
 
-    module _ (running : r.ended ≡ false) (may_end : Bool)
+    module _ (goes_on : r.ended ≡ false) (may_end : Bool)
         (tells : IsTrue may_end ↔ Perf (book_of_rules rules) [] (contract_of_rows r.current) []) where
       told : (l : Ledger) → IsLedger rules l old → (c : Stood rules.studied l x old.rows n r) → IsTrue may_end ↔ Perf (book_of_rules rules) [] (contract_of r.original) (trace l (1 + c.place))
       told l h c = told_end rules.studied (study rules l old h) l (1 + c.place) r c.is may_end tells
 
-      is_open : (l : Ledger) (c : Stood rules.studied l x old.rows n r) → is_ended l (1 + c.place) ≡ true → ⊥
-      is_open l c y = let z : true ≡ false = sym y ∙ sym c.is.ended ∙ running in cc
-
       pub end_owes : may_end ≡ false → Makes rules (Command.End x) old old Reply.NotPerformed
       end_owes fails = leaves rules (Command.End x) Reply.NotPerformed old (λ l. refl) (λ l h right.
           let c = standing l h in
-          rw c.named (inr (is_open l c, inl ((λ p. absurd (let z = sym ((told l h c).1 p) ∙ fails in cc)), refl))))
+          Replies.NotPerformed (running rules.studied l x old.rows n r c goes_on) (λ p. let z : true ≡ false = sym ((told l h c).1 p) ∙ fails in cc))
 
       -- the rows with the one ended
       module _ (new : StoreView) (changed : new.rows ≡ changed_at finished (n - 1) old.rows) (log : new.log ≡ old.log) (watches : new.watches ≡ old.watches) where
@@ -74,4 +72,4 @@ module _ (rules : Rules) (x : Name) (old : StoreView) where
         pub end_now : may_end ≡ true → Makes rules (Command.End x) old new Reply.EndedNow
         end_now holds = changes rules (Command.End x) Reply.EndedNow old new refl (λ l h right.
             let c = standing l h in
-            rw c.named (inr (is_open l c, inr ((told l h c).0 holds, refl)))) finishes
+            Replies.EndedNow (running rules.studied l x old.rows n r c goes_on) ((told l h c).0 holds)) finishes

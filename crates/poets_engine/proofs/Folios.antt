@@ -16,6 +16,7 @@ use Rattle.poets_report.specs.declared.report.Answer.{Answer}
 use Rattle.poets_report.specs.Plain as plain
 use Rattle.poets_syntax.specs.declared.term.Term.{Term}
 use Rattle.poets_cons.specs.declared.node.Node.{Node}
+use Rattle.poets_table.specs.Pieces.{joined}
 use Rattle.poets_table.specs.TableView.{RowView, number_named}
 use Rattle.poets_folio.specs.declared.folio.Part.{Part}
 use Rattle.poets_folio.specs.Rows.{IsRow}
@@ -66,7 +67,7 @@ module _ (rules : Rules) (l : Ledger) (store : StoreView) (h : IsLedger rules l 
   absent_same (x ∷ names) = absent_here x (number_named x store.rows) (absent_from store.rows names) (first_absent l names) refl (absent_same names)
 
   -- the events of a part are those of the contract
-  part_events : (x : Name) (part : Part) → IsPart store.rows x part → part.events.items ≡ trace l (number_of l x)
+  part_events : (x : Name) (part : Part) → IsPart store.rows x part → joined part.events.pieces ≡ trace l (number_of l x)
   part_events x part p =
       let c = stood rules l x store h p.number p.row p.found p.here in
       p.events ∙ c.is.events ∙ ap (trace l) (sym (ap number_in c.named))
@@ -79,7 +80,7 @@ module _ (rules : Rules) (l : Ledger) (store : StoreView) (h : IsLedger rules l 
 
 -- the row of a part: its name, and the report's answer over its events
 abbrev IsPlainRow : Declared → Report → List (Option Value) → Part → Name × plain.Answer → Type 0
-IsPlainRow declared q args part row = (row.0 ≡ part.name) × IsAnswer declared q args part.events.items row.1
+IsPlainRow declared q args part row = (row.0 ≡ part.name) × IsAnswer declared q args (joined part.events.pieces) row.1
 
 plain_rows : (declared : Declared) (q : Report) (args : List (Option Value)) (parts : List Part) (rows : List (Name × Answer)) → AllZip (IsRow declared q args) parts rows →
     AllZip (IsPlainRow declared q args) parts (map folio_row_of rows)
@@ -93,7 +94,7 @@ rows_exist : (declared : Declared) (q : Report) (args : List (Option Value)) (pa
     (rows : List (Name × plain.Answer)) × AllZip (IsPlainRow declared q args) parts rows
 rows_exist declared q args [] = ([], tt)
 rows_exist declared q args (part ∷ parts) =
-    let here = every_answer declared q args part.events.items in
+    let here = every_answer declared q args (joined part.events.pieces) in
     let more = rows_exist declared q args parts in
     ((part.name, here.0) ∷ more.0, ((refl, here.1), more.1))
 
@@ -123,7 +124,7 @@ module _ (book : _) (reports : List Report) (l : Ledger) (x : Name) (args : List
       let values : work.args.items ≡ argument_values f args = h.values ∙ ap (λ k. map (val k.declared []) args) (sym b) in
       let valued = subst (λ vs. AllZip (IsPlainRow (declared_of (arc_value work.decls).names) asked vs) work.parts.items rows) values answers in
       let here = subst (λ d. AllZip (IsPlainRow d asked (argument_values f args)) work.parts.items rows) declared valued in
-      rw h.there (asked, ap (λ qs. report_in qs x) r ∙ h.report, (rows, folio_rows f l asked args over work.parts.items rows h.parts here, refl))
+      Replies.Folio h.there (ap (λ qs. report_in qs x) r ∙ h.report) (folio_rows f l asked args over work.parts.items rows h.parts here)
 
 -- what `finish` makes of the work answers whatever command the work is owed to
 pub folio_fulfils : (place : ℕ) (work : FolioWork) (rows : List (Name × Answer)) (total : Option (Option Value)) →
@@ -192,7 +193,7 @@ module _ (rules : Rules) (command : Command) (old new : StoreView) where
 module _ (rules : Rules) (x : Name) (args : List Expression) (over : List Name) (store : StoreView) where
   pub portfolio_absent : (y : Name) → absent_from store.rows over ≡ Some y → Makes rules (Command.Portfolio x args over) store store (Reply.NoContract y)
   portfolio_absent y e =
-      leaves rules (Command.Portfolio x args over) (Reply.NoContract y) store (λ l. refl) (λ l h right. rw (sym (absent_same rules l store h over) ∙ e) refl)
+      leaves rules (Command.Portfolio x args over) (Reply.NoContract y) store (λ l. refl) (λ l h right. Replies.PortfolioOfNone (sym (absent_same rules l store h over) ∙ e))
 
   pub portfolio_prepared : (work : FolioWork) → absent_from store.rows over ≡ None → declared_of (arc_value work.decls).names ≡ (book_of_rules rules).declared →
       report_in (reports_of_rules rules) x ≡ Some (report_of (arc_value work.report)) → work.args.items ≡ values_by rules args → AllZip (IsPart store.rows) over work.parts.items →

@@ -6,8 +6,13 @@ pub mod Zipped
 pub mod Absent
 pub mod WatchLedgers
 pub mod Standing
+pub mod Keeping
 pub mod Registering
 pub mod Transmitting
+pub mod Renewing
+pub mod Points
+pub mod Pieces
+pub mod Withdrawing
 pub mod Ending
 pub mod Showing
 pub mod Tallying

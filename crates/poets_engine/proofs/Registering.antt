@@ -1,5 +1,5 @@
 -- A registration is made.
-use Rattle.std.proofs.Common.{◌≡◌, ℕ, ◌+◌, ◌≤◌, Bool, true, false, List, [], ◌∷◌, ◌++◌, Some, None, map, length, refl, sym, ◌∙◌, ap, subst, arith, inl, inr}
+use Rattle.std.proofs.Common.{◌≡◌, ℕ, ◌+◌, ◌≤◌, Bool, true, false, List, [], ◌∷◌, ◌++◌, Some, None, map, length, refl, sym, ◌∙◌, ap, subst, arith}
 use Rattle.std.proofs.lemmas.List.{map-append, length-append, length-map}
 use Rattle.std.proofs.lemmas.List.Elements.{All-weaker}
 use Rattle.poets_value.specs.declared.value.Name.{Name}
@@ -20,6 +20,7 @@ use Rattle.poets_call.specs.declared.rules.Rules.{Rules}
 use Rattle.poets_call.specs.Rules.{book_of_rules, reports_of_rules}
 use Rattle.poets_call.specs.Plain.{Command, Reply}
 use Rattle.poets_call.specs.Ledger.{Ledger, contract_named}
+use Rattle.poets_call.specs.Replies.{Replies}
 use Rattle.poets_call.specs.Taken.{IsTaken}
 use Rattle.poets_call.proofs.TypedCommands.{typed_registration}
 use Rattle.poets_engine.specs.Store.{StoreView}
@@ -29,14 +30,14 @@ use Rattle.poets_engine.specs.code.Judgements.{Refused, Owed, is_failure, judge,
 use Rattle.poets_engine.specs.code.Makes.{Makes}
 use Rattle.poets_engine.proofs.Named.{named}
 use Rattle.poets_engine.proofs.Rows.{with_contract, rows_added, new_row_is}
-use Rattle.poets_engine.proofs.Standing.{study, leaves, changes, absent, taken}
+use Rattle.poets_engine.proofs.Standing.{frame_by, study, leaves, changes, absent, taken}
 use Rattle.poets_engine.proofs.WatchLedgers.{watches_same}
 use Rattle.poets_engine.proofs.Owed.{normal_hopeless, normal_kept, normal_hopeful, failure_is, no_failure}
 
 module _ (rules : Rules) (x : Name) (c : Contract) (old : StoreView) where
   pub register_taken : (n : ℕ) → number_named x old.rows ≡ Some n → Makes rules (Command.Register x c) old old (Reply.NameTaken n)
   register_taken n found = leaves rules (Command.Register x c) (Reply.NameTaken n) old (λ l. refl)
-      (λ l h right. rw ((taken rules l x old h n found).1) refl)
+      (λ l h right. Replies.NameTaken (taken rules l x old h n found).1)
 
   module _ (is_taken : IsTaken (book_of_rules rules) (reports_of_rules rules) (Command.Register x c)) (free : number_named x old.rows ≡ None) where
     formed : IsWellFormed (book_of_rules rules).declared c
@@ -62,10 +63,11 @@ module _ (rules : Rules) (x : Name) (c : Contract) (old : StoreView) where
         (refusal : Reply) → Refused refusal ≡ judged Reply.Hopeless failed large form → Makes rules (Command.Register x c) old old refusal
     registers_refused true large e k refusal q = subst (Makes rules (Command.Register x c) old old) (let z : Reply.Hopeless ≡ refusal = cc in z)
         (leaves rules (Command.Register x c) Reply.Hopeless old (λ l. refl)
-        (λ l h right. rw (none l h) (inl (normal_hopeless (book_of_rules rules) (marks_of rules.studied) (study rules l old h) c formed (failure_is form e), refl))))
+        (λ l h right. Replies.Hopeless (none l h)
+        (normal_hopeless (book_of_rules rules) (marks_of rules.studied) (study rules l old h) c formed (failure_is form e))))
     registers_refused false true e k refusal q = subst (Makes rules (Command.Register x c) old old) (let z : Reply.TooLarge ≡ refusal = cc in z)
         (leaves rules (Command.Register x c) Reply.TooLarge old (λ l. refl)
-        (λ l h right. rw (none l h) (inr (hopeful l h e, inl (k, refl)))))
+        (λ l h right. Replies.RegisterTooLarge (none l h) (hopeful l h e) k))
     registers_refused false false e k refusal q = absurd cc
 
     pub register_refused : (made : Contract) (refusal : Reply) → made ≡ form → Refused refusal ≡ judge rules.studied Reply.Hopeless made →
@@ -106,7 +108,8 @@ module _ (rules : Rules) (x : Name) (c : Contract) (old : StoreView) where
           changes rules (Command.Register x c) (Reply.Registered (length old.rows + 1)) old new refl
           (λ l h right.
           let count : length old.rows ≡ length l.contracts = sym (length-map old.rows named) ∙ ap length h.contracts in
-          rw (none l h) (inr (hopeful l h e, inr ((λ past. absurd (false≢true (sym k ∙ past))), ap (λ n. Reply.Registered (n + 1)) count))))
+          subst (λ n. Replies (frame_by rules right) l (Command.Register x c) (Reply.Registered (n + 1))) (sym count)
+          (Replies.Registered (none l h) (hopeful l h e) (λ past. false≢true (sym k ∙ past))))
           (adds same e k)
 
       pub register_kept : (made : Contract) (n : ℕ) → made ≡ form → Owed (contract_of_rows current) ≡ judge rules.studied Reply.Hopeless made → n ≡ length old.rows + 1 →

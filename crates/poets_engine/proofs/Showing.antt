@@ -1,5 +1,5 @@
 -- A look is made.
-use Rattle.std.proofs.Common.{◌≡◌, ℕ, ◌+◌, ◌-◌, Bool, List, [], Some, None, length, slice_get, refl, ◌∙◌, ap, ap₂}
+use Rattle.std.proofs.Common.{◌≡◌, ℕ, ◌+◌, ◌-◌, Bool, List, [], Some, None, length, slice_get, refl, sym, ◌∙◌, ap, ap₂, subst}
 use Rattle.std.specs.Prelude.{IsTrue, ◌↔◌}
 use Rattle.poets_value.specs.declared.value.Name.{Name}
 use Rattle.poets_syntax.specs.Contract.{Contract, contract_of}
@@ -14,14 +14,15 @@ use Rattle.poets_call.specs.declared.rules.Rules.{Rules}
 use Rattle.poets_call.specs.Rules.{book_of_rules}
 use Rattle.poets_call.specs.Plain.{Command, Reply}
 use Rattle.poets_call.specs.Ledger.{trace}
+use Rattle.poets_call.specs.Replies.{Replies}
 use Rattle.poets_engine.specs.Store.{StoreView}
 use Rattle.poets_engine.specs.code.Makes.{Makes}
-use Rattle.poets_engine.proofs.Standing.{study, leaves, stood, absent, told_end}
+use Rattle.poets_engine.proofs.Standing.{frame_by, study, leaves, stood, absent, told_end}
 
 module _ (rules : Rules) (x : Name) (t : StoreView) where
   pub show_absent : number_named x t.rows ≡ None → Makes rules (Command.Show x) t t (Reply.NoContract x)
   show_absent none =
-      leaves rules (Command.Show x) (Reply.NoContract x) t (λ l. refl) (λ l h right. rw (absent rules l x t h none) refl)
+      leaves rules (Command.Show x) (Reply.NoContract x) t (λ l. refl) (λ l h right. Replies.ShowOfNone (absent rules l x t h none))
 
   pub show_found : (n : ℕ) (r : RowView Term (List Node)) (may_end : Bool) (residual : Contract) (count : ℕ) → number_named x t.rows ≡ Some n → slice_get t.rows (n - 1) ≡ Some r →
       IsTrue may_end ↔ Perf (book_of_rules rules) [] (contract_of_rows r.current) [] → residual ≡ contract_of_rows r.current → count ≡ length r.events →
@@ -32,4 +33,5 @@ module _ (rules : Rules) (x : Name) (t : StoreView) where
       let owed = same ∙ c.is.current ∙ ap (residual_after (book_of_rules rules) (marks_of rules.studied) (contract_of r.original)) c.is.events in
       let reply = ap₂ (λ d n. Reply.Shown d n may_end r.ended) owed (counted ∙ ap length c.is.events)
       ∙ ap (Reply.Shown (residual_after (book_of_rules rules) (marks_of rules.studied) (contract_of r.original) (trace l (1 + c.place))) (length (trace l (1 + c.place))) may_end) c.is.ended in
-      rw c.named (may_end, told_end rules.studied (study rules l t h) l (1 + c.place) r c.is may_end tells, reply))
+      subst (Replies (frame_by rules right) l (Command.Show x)) (sym reply)
+      (Replies.Shown c.named (told_end rules.studied (study rules l t h) l (1 + c.place) r c.is may_end tells)))

@@ -1,5 +1,5 @@
 -- What is shown in legal histories of typed commands.
-use Rattle.std.proofs.Common.{◌≡◌, ℕ, suc, Bool, true, false, nat_eq, List, [], ◌∷◌, ◌++◌, Option, Some, filter, fold, sym, ap, subst, ◌⊎◌, inl, inr}
+use Rattle.std.proofs.Common.{◌≡◌, ℕ, suc, ◌-◌, Bool, true, false, nat_eq, List, [], ◌∷◌, ◌++◌, Option, Some, filter, fold, sym, ◌∙◌, ap, subst, ◌⊎◌, inl, inr}
 use Rattle.std.specs.Prelude.{◌↔◌, if◌then◌else◌}
 use Rattle.std.specs.List.{All}
 use Rattle.std.proofs.lemmas.List.Elements.{All-nil, All-cons, All-head, All-tail, All-append, All-map, All-filter}
@@ -19,7 +19,8 @@ use Rattle.poets_report.specs.Plain.{Report}
 use Rattle.poets_call.specs.Plain.{Command, Reply, Entry}
 use Rattle.poets_call.specs.Frame.{Frame}
 use Rattle.poets_call.specs.Histories.{shown}
-use Rattle.poets_call.specs.Ledger.{Ledger, ledger_of, empty_ledger, with_entry, contract_from, contract_named, trace}
+use Rattle.poets_value.specs.declared.event.Event.{Event}
+use Rattle.poets_call.specs.Ledger.{Ledger, ledger_of, number_of, without, empty_ledger, with_entry, contract_from, contract_named, trace}
 use Rattle.poets_call.specs.Replies.{Legal, Replies}
 use Rattle.poets_call.specs.Typing.{IsTypedCommand}
 use Rattle.poets_call.proofs.Histories.{legal_reply}
@@ -31,6 +32,17 @@ use Rattle.poets_engine.specs.Laws.{LegalHistoriesShow}
 first_or_later : {A : Type 0} (b : Bool) (first : A) (later : Option A) (x : A) → (if b then Some first else later) ≡ Some x → (first ≡ x) ⊎ (later ≡ Some x)
 first_or_later true first later x e = inl cc
 first_or_later false first later x e = inr e
+
+-- what holds of each pair of a log holds of each that is left
+All-without : (P : ℕ × Event → Type 0) (n k : ℕ) (log : List (ℕ × Event)) → All P log → All P (without n k log)
+All-without P n k [] h = h
+All-without P n k (p ∷ log) h = by_number (nat_eq p.0 n) (nat_eq k 1) (λ j. All-without P n j log (All-tail P p log h))
+  where
+    by_number : (b c : Bool) → ((j : ℕ) → All P (without n j log)) →
+        All P (if b then (if c then log else p ∷ without n (k - 1) log) else p ∷ without n k log)
+    by_number true true left = All-tail P p log h
+    by_number true false left = All-cons P p (without n (k - 1) log) (All-head P p log h) (left (k - 1))
+    by_number false c left = All-cons P p (without n k log) (All-head P p log h) (left k)
 
 module _ (book : Book) (reports : List Report) where
   -- the contract is well-formed and has the right numbers of arguments
@@ -51,6 +63,10 @@ module _ (book : Book) (reports : List Report) where
     contracts = h.contracts;
     log = All-append (λ p. IsDeclaredEvent book.declared p.1) l.log _ h.log
         (All-cons (λ p. IsDeclaredEvent book.declared p.1) _ [] (typed_event book reports x e t) (All-nil (λ p. IsDeclaredEvent book.declared p.1)));
+  }
+  sound_more l (Command.Void x k) (Reply.Voided n b) h t = record {
+    contracts = h.contracts;
+    log = All-without (λ p. IsDeclaredEvent book.declared p.1) (number_of l x) k l.log h.log;
   }
   sound_more l (Command.End x) Reply.EndedNow h t = record { contracts = h.contracts; log = h.log }
   sound_more l (Command.Watch x args) (Reply.Watching n) h t = record { contracts = h.contracts; log = h.log }
@@ -87,10 +103,14 @@ module _ (book : Book) (reports : List Report) where
       All-map (IsDeclaredEvent book.declared) (λ p. p.1) (filter (λ p. nat_eq p.0 n) l.log)
       (All-filter (λ p. nat_eq p.0 n) (λ p. IsDeclaredEvent book.declared p.1) l.log s.log)
 
+  some_one : {A : Type 0} (x y : A) → Some x ≡ Some y → x ≡ y
+  some_one x y e = cc
+
   -- a reply that shows a residual shows that of the contract's original by its trace
   shown_is : (f : Frame) (l : Ledger) (x : Name) (n : ℕ) (o : Contract) (residual : Contract) (count : ℕ) (may_end ended : Bool) →
       contract_named l x ≡ Some (n, o) → Replies f l (Command.Show x) (Reply.Shown residual count may_end ended) → residual ≡ residual_after f.book f.marks o (trace l n)
-  shown_is f l x n o residual count may_end ended e r = let s = rw e at r in let t = s.2 in cc
+  shown_is f l x n o _ _ _ _ e (Replies.Shown {i = i} {o = o'} named tells) =
+      ap (λ p. residual_after f.book f.marks p.1 (trace l p.0)) (some_one (i, o') (n, o) (sym named ∙ e))
 
 pub legal_histories_show : LegalHistoriesShow
 legal_histories_show book marks reports h studied legal typed before after clerk x residual count may_end ended number original split named s =

@@ -1,5 +1,5 @@
 -- The contract with a name, in the rows and in the ledger; and commands that leave or change what is kept.
-use Rattle.std.proofs.Common.{◌≡◌, ℕ, ◌+◌, Bool, true, ◌-◌, List, [], Option, Some, None, slice_get, option_map, refl, sym, ◌∙◌, ap, subst, arith}
+use Rattle.std.proofs.Common.{◌≡◌, ℕ, ◌+◌, Bool, true, false, ◌-◌, List, [], Option, Some, None, slice_get, option_map, refl, sym, ◌∙◌, ap, subst, arith}
 use Rattle.std.specs.Prelude.{IsTrue, ◌↔◌}
 use Rattle.std.specs.List.{position}
 use Rattle.poets_value.specs.declared.value.Name.{Name}
@@ -20,10 +20,10 @@ use Rattle.poets_call.specs.Plain.{Command, Reply}
 use Rattle.poets_call.specs.Ledger.{Ledger, with_entry, contract_named, contract_from, trace}
 use Rattle.poets_call.specs.Frame.{Frame}
 use Rattle.poets_call.specs.Histories.{RepliesIn}
-use Rattle.poets_call.specs.Replies.{Replies}
+use Rattle.poets_call.specs.Replies.{Replies, IsOpen}
 use Rattle.poets_engine.specs.Store.{StoreView}
 use Rattle.poets_engine.specs.Rows.{IsLedger, RowIs}
-use Rattle.poets_engine.specs.Accepted.{is_accepted}
+use Rattle.poets_call.specs.Ledger.{is_accepted}
 use Rattle.poets_engine.specs.code.Makes.{Makes}
 use Rattle.poets_engine.proofs.Named.{has_name, contract_from-none, contract_from-found, contract_from-some, row_is}
 use Rattle.poets_engine.proofs.Owed.{residual_performed}
@@ -70,6 +70,11 @@ pub record Stood (s : StudiedBook) (l : Ledger) (x : Name) (rows : List (RowView
   pub found : slice_get rows place ≡ Some r
   pub named : contract_named l x ≡ Some (1 + place, contract_of r.original)
   pub is : RowIs s l (1 + place) r
+
+-- a contract whose row was not ended is open
+pub running : (s : StudiedBook) (l : Ledger) (x : Name) (rows : List (RowView Term (List Node))) (n : ℕ) (r : RowView Term (List Node)) (c : Stood s l x rows n r) → r.ended ≡ false →
+    IsOpen l x (1 + c.place) (contract_of r.original)
+running s l x rows n r c e = (c.named, λ y. let z : true ≡ false = sym y ∙ sym c.is.ended ∙ e in cc)
 
 module _ (rules : Rules) (l : Ledger) (x : Name) (store : StoreView) (h : IsLedger rules l store) where
   abbrev rows : List (RowView Term (List Node))

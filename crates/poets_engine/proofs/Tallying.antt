@@ -17,13 +17,13 @@ use Rattle.poets_call.specs.declared.rules.Rules.{Rules}
 use Rattle.poets_call.specs.Rules.{book_of_rules, reports_of_rules}
 use Rattle.poets_call.specs.Plain.{Command, Reply}
 use Rattle.poets_call.specs.Ledger.{Ledger, events, watch_at}
-use Rattle.poets_call.specs.Replies.{report_in}
+use Rattle.poets_call.specs.Replies.{Replies, report_in}
 use Rattle.poets_engine.specs.Store.{StoreView}
 use Rattle.poets_engine.specs.code.Changes.{AddsWatch}
 use Rattle.poets_engine.specs.Rows.{RowsAre, WatchIs}
 use Rattle.poets_engine.specs.code.Makes.{Makes}
 use Rattle.poets_engine.proofs.Named.{named}
-use Rattle.poets_engine.proofs.Standing.{leaves, changes}
+use Rattle.poets_engine.proofs.Standing.{frame_by, leaves, changes}
 use Rattle.poets_engine.proofs.WatchLedgers.{with_watch, watches_begun, as_many, WatchAt, watch_there}
 
 -- the values of arguments under the declared names of rules
@@ -34,15 +34,11 @@ module _ (rules : Rules) (x : Name) (args : List Expression) (store : StoreView)
   pub tally_made : (q : plain.Report) (values : List (Option Value)) (a : Answer) → report_in (reports_of_rules rules) x ≡ Some q → values ≡ values_by rules args →
       IsAnswer (book_of_rules rules).declared q values (map (λ p. p.1) store.log) a → Makes rules (Command.Tally x args) store store (Reply.Answered a)
   tally_made q values a found valued answer =
-      leaves rules (Command.Tally x args) (Reply.Answered a) store (λ l. refl) (λ l h right. (
+      leaves rules (Command.Tally x args) (Reply.Answered a) store (λ l. refl) (λ l h right. Replies.Tallied (
         q,
         found,
-        (
-          a,
-          subst (λ log. IsAnswer (book_of_rules rules).declared q (values_by rules args) (map (λ p. p.1) log) a) h.log
-              (subst (λ vs. IsAnswer (book_of_rules rules).declared q vs (map (λ p. p.1) store.log) a) valued answer),
-          refl,
-        ),
+        subst (λ log. IsAnswer (book_of_rules rules).declared q (values_by rules args) (map (λ p. p.1) log) a) h.log
+            (subst (λ vs. IsAnswer (book_of_rules rules).declared q vs (map (λ p. p.1) store.log) a) valued answer),
       ))
 
 -- the rows are those of the ledger with one watch more
@@ -59,6 +55,8 @@ rows_watched rules l x args i (r ∷ rows) h = (
     current = h.0.current;
     hopeful = h.0.hopeful;
     within_limit = h.0.within_limit;
+    starts = h.0.starts;
+    points = h.0.points;
     whole_original = h.0.whole_original;
     whole_events = h.0.whole_events;
     whole_current = h.0.whole_current;
@@ -71,7 +69,8 @@ module _ (rules : Rules) (x : Name) (args : List Expression) (old new : StoreVie
       AddsWatch (book_of_rules rules).declared report values old new → n ≡ length old.watches + 1 → Makes rules (Command.Watch x args) old new (Reply.Watching n)
   watch_made report values n found valued added number =
       changes rules (Command.Watch x args) (Reply.Watching n) old new refl
-      (λ l h right. ap Reply.Watching (number ∙ ap (λ m. m + 1) (sym (as_many rules l l.watches old.watches h.watches))))
+      (λ l h right. subst (λ m. Replies (frame_by rules right) l (Command.Watch x args) (Reply.Watching m))
+      (ap (λ m. m + 1) (as_many rules l l.watches old.watches h.watches) ∙ sym number) Replies.Watching)
       (λ l h.
       let last = added.begins.last in
       let begun : WatchIs rules (with_watch rules l x args) (x, args) last = record {
@@ -118,7 +117,7 @@ module _ (rules : Rules) (n : ℕ) (store : StoreView) where
   pub read_absent : (n ≡ 0) ⊎ (length store.watches < n) → Makes rules (Command.Read n) store store (Reply.NoWatch n)
   read_absent past =
       leaves rules (Command.Read n) (Reply.NoWatch n) store (λ l. refl)
-      (λ l h right. rw (no_watch l n (subst (λ m. (n ≡ 0) ⊎ (m < n)) (sym (as_many rules l l.watches store.watches h.watches)) past)) refl)
+      (λ l h right. Replies.NoWatch (no_watch l n (subst (λ m. (n ≡ 0) ⊎ (m < n)) (sym (as_many rules l l.watches store.watches h.watches)) past)))
 
   pub read_found : (w : WatchView) (a : Answer) → 0 < n → slice_get store.watches (n - 1) ≡ Some w → a ≡ w.answer → Makes rules (Command.Read n) store store (Reply.Answered a)
   read_found w a positive here same =
@@ -127,12 +126,6 @@ module _ (rules : Rules) (n : ℕ) (store : StoreView) where
       let at : WatchAt rules l l.watches (n - 1) w = watch_there rules l l.watches store.watches (n - 1) w h.watches here in
       let x = at.0 in
       let is = at.2 in
-      rw (watch_found l n (Some x) positive at.1) (
-        report_of w.report,
-        is.report,
-        (
-          w.answer,
-          subst (λ vs. IsAnswer (book_of_rules rules).declared (report_of w.report) vs (events l) w.answer) is.args is.follows.answers,
-          ap Reply.Answered same,
-        ),
-      ))
+      subst (λ b. Replies (frame_by rules right) l (Command.Read n) (Reply.Answered b)) (sym same)
+      (Replies.Read (watch_found l n (Some x) positive at.1)
+      (report_of w.report, is.report, subst (λ vs. IsAnswer (book_of_rules rules).declared (report_of w.report) vs (events l) w.answer) is.args is.follows.answers)))

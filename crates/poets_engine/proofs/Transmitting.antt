@@ -1,5 +1,5 @@
 -- A transmission is made.
-use Rattle.std.proofs.Common.{◌≡◌, ℕ, ◌+◌, ◌-◌, ◌≤◌, Bool, true, false, ℤ, List, [], ◌∷◌, ◌++◌, Option, Some, None, map, length, slice_get, refl, sym, ◌∙◌, ap, subst, arith, inl, inr}
+use Rattle.std.proofs.Common.{◌≡◌, ℕ, ◌+◌, ◌-◌, ◌≤◌, Bool, true, false, ℤ, List, [], ◌∷◌, ◌++◌, Option, Some, None, map, length, slice_get, refl, sym, ◌∙◌, ap, subst, arith}
 use Rattle.std.specs.Prelude.{IsTrue, ◌↔◌}
 use Rattle.std.specs.List.{All}
 use Rattle.std.proofs.lemmas.List.Elements.{All-nil, All-cons, All-append}
@@ -20,12 +20,12 @@ use Rattle.poets_residue.proofs.WholeResiduals.{IsWhole-after_at}
 use Rattle.poets_residue.proofs.Traces.{residual_after-more}
 use Rattle.poets_cons.specs.declared.node.Node.{Node}
 use Rattle.poets_cons.specs.Table.{contract_of_rows}
-use Rattle.poets_table.specs.TableView.{RowView, changed_at, with_event, number_named}
+use Rattle.poets_table.specs.TableView.{RowView, changed_at, with_event, with_room, number_named}
 use Rattle.poets_call.specs.declared.rules.Rules.{Rules}
 use Rattle.poets_call.specs.Rules.{book_of_rules, reports_of_rules}
 use Rattle.poets_call.specs.Plain.{Command, Reply}
 use Rattle.poets_call.specs.Ledger.{Ledger, contract_named, number_in, trace, is_ended, late_day}
-use Rattle.poets_call.specs.Replies.{Transmits, Records}
+use Rattle.poets_call.specs.Replies.{Replies, IsOpenTo, CanGoOn, IsTooLarge, TellsWhetherPerformed, trace_with}
 use Rattle.poets_call.specs.Taken.{IsTaken}
 use Rattle.poets_call.proofs.TypedCommands.{typed_event}
 use Rattle.poets_engine.specs.Store.{StoreView}
@@ -34,15 +34,15 @@ use Rattle.poets_engine.specs.Rows.{IsLedger, RowsAre}
 use Rattle.poets_engine.specs.code.Judgements.{Refused, Owed, is_failure, judged, unless_over, judgement_by}
 use Rattle.poets_engine.specs.code.Makes.{Makes}
 use Rattle.poets_engine.proofs.Named.{named}
-use Rattle.poets_engine.proofs.Rows.{with_log, IsNext, place_below, rows_recorded, named-changed_at, length-changed_at}
-use Rattle.poets_engine.proofs.Standing.{frame_by, marks_by, study, Stood, leaves, changes, stood, absent}
+use Rattle.poets_engine.proofs.Rows.{with_log, IsNext, in_room, place_below, rows_recorded, named-changed_at, length-changed_at}
+use Rattle.poets_engine.proofs.Standing.{frame_by, study, Stood, running, leaves, changes, stood, absent}
 use Rattle.poets_engine.proofs.WatchLedgers.{watches_recorded}
 use Rattle.poets_engine.proofs.Owed.{residual_hopeless, residual_hopeful, residual_kept, failure_is, no_failure, residual_performed}
 
 module _ (rules : Rules) (x : Name) (e : Event) (old : StoreView) where
   pub transmit_absent : number_named x old.rows ≡ None → Makes rules (Command.Transmit x e) old old (Reply.NoContract x)
   transmit_absent none =
-      leaves rules (Command.Transmit x e) (Reply.NoContract x) old (λ l. refl) (λ l h right. rw (absent rules l x old h none) refl)
+      leaves rules (Command.Transmit x e) (Reply.NoContract x) old (λ l. refl) (λ l h right. Replies.TransmitToNone (absent rules l x old h none))
 
   module _ (is_taken : IsTaken (book_of_rules rules) (reports_of_rules rules) (Command.Transmit x e)) (n : ℕ) (r : RowView Term (List Node))
       (found : number_named x old.rows ≡ Some n) (row : slice_get old.rows (n - 1) ≡ Some r) where
@@ -90,12 +90,13 @@ module _ (rules : Rules) (x : Name) (e : Event) (old : StoreView) where
       past : trace l (1 + c.place) ≡ r.events
       past = sym c.is.events
 
-      -- an open contract gets the reply by its last day
-      open_reply : (right : marks_by rules) (given_reply : Reply) (late : Option ℤ) → r.ended ≡ false → late_day r.events e.day ≡ late →
-          Records (frame_by rules right) original r.events e late given_reply →
-          Transmits (frame_by rules right) l x e (contract_named l x) given_reply
-      open_reply right given_reply late running d reply =
-          rw c.named (inr ((λ y. absurd (let z : true ≡ false = sym y ∙ over ∙ running in cc)), rw (past, d) reply))
+      -- the contract takes an event that is not late
+      takes : r.ended ≡ false → late_day r.events e.day ≡ None → IsOpenTo e l x (1 + c.place) original
+      takes goes_on in_time = (running rules.studied l x old.rows n r c goes_on, ap (λ s. late_day s e.day) past ∙ in_time)
+
+      -- its trace in the ledger, with the event
+      with_it : (P : List Event → Type 0) → P longer_trace → P (trace_with l (1 + c.place) e)
+      with_it P h = subst (λ s. P (s ++ e ∷ [])) (sym past) h
 
       hope : is_failure next ≡ false → (n : ℕ) × May (book_of_rules rules) [] original longer_trace n
       hope failed =
@@ -106,17 +107,19 @@ module _ (rules : Rules) (x : Name) (e : Event) (old : StoreView) where
           IsLedger rules (with_log l (number_in (contract_named l x)) e) new
       records owed is_next new recorded =
           let number = c.number in
-          let rows : new.rows ≡ changed_at (with_event e owed) c.place old.rows = recorded.rows ∙ ap (λ i. changed_at (with_event e owed) i old.rows) (let z : n - 1 ≡ c.place = omega (arith, number) in z) in
+          let grow : List (RowView Term (List Node)) → ℕ → List (RowView Term (List Node)) = λ rows i. changed_at (with_event e owed) i (changed_at with_room i rows) in
+          let rows : new.rows ≡ grow old.rows c.place = recorded.rows ∙ ap (grow old.rows) (let z : n - 1 ≡ c.place = omega (arith, number) in z) in
           let entry : with_log l (number_in (contract_named l x)) e ≡ with_log l (1 + c.place) e = ap (λ m. with_log l m e) (ap number_in c.named) in
           let below : 1 + c.place ≤ length old.rows = place_below old.rows c.place r c.found in
-          let longer : length new.rows ≡ length old.rows = ap length rows ∙ length-changed_at (with_event e owed) c.place old.rows in
+          let longer : length new.rows ≡ length old.rows = ap length rows ∙ length-changed_at (with_event e owed) c.place (changed_at with_room c.place old.rows) ∙ length-changed_at with_room c.place old.rows in
           subst (λ m. IsLedger rules m new) (sym entry) (record {
             studied = h.studied;
             whole = h.whole;
-            contracts = ap (map named) rows ∙ named-changed_at (with_event e owed) (λ r. refl) c.place old.rows ∙ h.contracts;
+            contracts = ap (map named) rows ∙ named-changed_at (with_event e owed) (λ r. refl) c.place (changed_at with_room c.place old.rows)
+                ∙ named-changed_at with_room (λ r. in_room (λ q. named q ≡ named r) r refl (λ full. refl)) c.place old.rows ∙ h.contracts;
             log = recorded.log ∙ ap (λ m. old.log ++ (m, e) ∷ []) number ∙ ap (λ xs. xs ++ (1 + c.place, e) ∷ []) h.log;
             rows = subst (RowsAre rules.studied (with_log l (1 + c.place) e) 1) (sym rows) (rows_recorded rules.studied l c.place e owed old.rows r h.rows c.found c.is is_next);
-            watches = watches_recorded rules l (1 + c.place) e old new recorded.changes recorded.brought recorded.moved h.watches;
+            watches = watches_recorded rules l (1 + c.place) e old new recorded.moves recorded.brought recorded.moved h.watches;
             logged = subst (λ m. All (λ p. p.0 ≤ m) (l.log ++ (1 + c.place, e) ∷ [])) (sym longer)
                 (All-append (λ p. p.0 ≤ length old.rows) l.log ((1 + c.place, e) ∷ []) h.logged
                 (All-cons (λ p. p.0 ≤ length old.rows) (1 + c.place, e) [] below (All-nil (λ p. p.0 ≤ length old.rows))));
@@ -140,17 +143,16 @@ module _ (rules : Rules) (x : Name) (e : Event) (old : StoreView) where
         r.ended ≡ ended → late_day r.events e.day ≡ late → is_failure next ≡ failed → is_past ≡ large →
         (refusal : Reply) → Refused refusal ≡ unless_over ended late (judged Reply.Unmatched failed large next) → Makes rules (Command.Transmit x e) old old refusal
     transmits_refused true late failed large n d fe le refusal q = subst (Makes rules (Command.Transmit x e) old old) (let z : Reply.Ended ≡ refusal = cc in z)
-        (leaves rules (Command.Transmit x e) Reply.Ended old (λ l. refl) (λ l h right. rw (c l h).named (inl (over l h ∙ n, refl))))
-    transmits_refused false (Some day) failed large n d fe le refusal q = subst (Makes rules (Command.Transmit x e) old old) (let z : Reply.Late day ≡ refusal = cc in z)
-        (leaves rules (Command.Transmit x e) (Reply.Late day) old (λ l. refl) (λ l h right. open_reply l h right (Reply.Late day) (Some day) n d refl))
+        (leaves rules (Command.Transmit x e) Reply.Ended old (λ l. refl) (λ l h right. Replies.TransmitToEnded (c l h).named (over l h ∙ n)))
+    transmits_refused false (Some day) failed large goes_on d fe le refusal q = subst (Makes rules (Command.Transmit x e) old old) (let z : Reply.Late day ≡ refusal = cc in z)
+        (leaves rules (Command.Transmit x e) (Reply.Late day) old (λ l. refl) (λ l h right. Replies.Late (running rules.studied l x old.rows n r (c l h) goes_on) (ap (λ s. late_day s e.day) (past l h) ∙ d)))
     transmits_refused false None true large n d fe le refusal q = subst (Makes rules (Command.Transmit x e) old old) (let z : Reply.Unmatched ≡ refusal = cc in z)
-        (leaves rules (Command.Transmit x e) Reply.Unmatched old (λ l. refl) (λ l h right. open_reply l h right Reply.Unmatched None n d (inl (
-          residual_hopeless (book_of_rules rules) (marks_of rules.studied) (study rules l old h) original longer_trace (c l h).is.formed (c l h).is.fit (declared l h) (sym (next_is l h) ∙ failure_is next fe),
-          refl,
-        ))))
+        (leaves rules (Command.Transmit x e) Reply.Unmatched old (λ l. refl) (λ l h right. Replies.Unmatched (takes l h n d) (with_it l h (λ s. CanGoOn (frame_by rules right) original s → ⊥)
+        (residual_hopeless (book_of_rules rules) (marks_of rules.studied) (study rules l old h) original longer_trace (c l h).is.formed (c l h).is.fit (declared l h) (sym (next_is l h) ∙ failure_is next fe)))))
     transmits_refused false None false true n d fe le refusal q = subst (Makes rules (Command.Transmit x e) old old) (let z : Reply.TooLarge ≡ refusal = cc in z)
-        (leaves rules (Command.Transmit x e) Reply.TooLarge old (λ l. refl) (λ l h right. open_reply l h right Reply.TooLarge None n d
-        (inr (hope l h fe, inl (subst (λ c. is_past_limit_in rules.studied c ≡ true) (next_is l h) le, refl)))))
+        (leaves rules (Command.Transmit x e) Reply.TooLarge old (λ l. refl) (λ l h right. Replies.TransmitTooLarge (takes l h n d) (with_it l h (CanGoOn (frame_by rules right) original) (hope l h fe))
+        (with_it l h (λ s. IsTooLarge (frame_by rules right) (residual_after (book_of_rules rules) (marks_of rules.studied) original s))
+        (subst (λ c. is_past_limit_in rules.studied c ≡ true) (next_is l h) le))))
     transmits_refused false None false false n d fe le refusal q = absurd cc
 
     pub transmit_refused : (refusal : Reply) → Refused refusal ≡ judgement_by rules.studied r e → Makes rules (Command.Transmit x e) old old refusal
@@ -169,13 +171,12 @@ module _ (rules : Rules) (x : Name) (e : Event) (old : StoreView) where
       transmits_kept false None false false n d fe le q =
           let same : contract_of_rows owed ≡ next = cc in
           changes rules (Command.Transmit x e) (Reply.Recorded (length r.events + 1) may_end) old new refl
-          (λ l h right. open_reply l h right (Reply.Recorded (length r.events + 1) may_end) None n d (inr (
-            hope l h fe,
-            inr (
-              (λ past. absurd (false≢true (sym le ∙ subst (λ c. is_past_limit_in rules.studied c ≡ true) (sym (next_is l h)) past))),
-              (may_end, performed l h may_end (subst (λ c. IsTrue may_end ↔ Perf (book_of_rules rules) [] c []) same tells), refl),
-            ),
-          )))
+          (λ l h right. subst (λ s. Replies (frame_by rules right) l (Command.Transmit x e) (Reply.Recorded (length s + 1) may_end)) (past l h)
+          (Replies.Recorded (takes l h n d) (with_it l h (CanGoOn (frame_by rules right) original) (hope l h fe))
+          (with_it l h (λ s. IsTooLarge (frame_by rules right) (residual_after (book_of_rules rules) (marks_of rules.studied) original s) → ⊥)
+          (λ large. false≢true (sym le ∙ subst (λ c. is_past_limit_in rules.studied c ≡ true) (sym (next_is l h)) large)))
+          (with_it l h (TellsWhetherPerformed (frame_by rules right) may_end original)
+          (performed l h may_end (subst (λ c. IsTrue may_end ↔ Perf (book_of_rules rules) [] c []) same tells)))))
           (λ l h. records l h owed (kept l h owed same d fe le) new recorded)
 
       pub transmit_kept : Owed (contract_of_rows owed) ≡ judgement_by rules.studied r e → Makes rules (Command.Transmit x e) old new (Reply.Recorded (length r.events + 1) may_end)

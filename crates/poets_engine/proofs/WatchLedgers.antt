@@ -5,10 +5,10 @@ use Rattle.std.proofs.lemmas.List.{map-append}
 use Rattle.poets_value.specs.declared.value.Name.{Name}
 use Rattle.poets_value.specs.declared.event.Event.{Event}
 use Rattle.poets_expr.specs.Expression.{Expression}
-use Rattle.poets_report.specs.declared.folds.Change.{Change}
+use Rattle.poets_live.specs.declared.watch.Move.{Move}
+use Rattle.poets_live.specs.declared.watch.Move.TheVariants as M
 use Rattle.poets_report.specs.Reports.{report_of}
-use Rattle.poets_live.specs.Watching.{WatchView, Follows, Brought, AllBrought, Moved, AllMoved}
-use Rattle.poets_live.proofs.Following.{moved_follows}
+use Rattle.poets_live.specs.Watching.{WatchView, Follows, AllBrought, Leads, AllLead, Moved, AllMoved}
 use Rattle.poets_call.specs.declared.rules.Rules.{Rules}
 use Rattle.poets_call.specs.Rules.{book_of_rules}
 use Rattle.poets_call.specs.Ledger.{Ledger, events}
@@ -36,32 +36,55 @@ module _ (rules : Rules) where
       AllZip (WatchIs rules l) l.watches old.watches → AllZip (WatchIs rules m) l.watches new.watches
   watches_same l m same old new e h = subst (AllZip (WatchIs rules m) l.watches) (sym e) (each_same l m same l.watches old.watches h)
 
-  -- a watch that takes in an event follows the events with it
-  watch_recorded : (l : Ledger) (n : ℕ) (e : Event) (asked : Name × List Expression) (w : WatchView) (c : Change) (w' : WatchView) →
-      WatchIs rules l asked w → Brought (book_of_rules rules).declared e w c → Moved w c w' → WatchIs rules (with_log l n e) asked w'
-  watch_recorded l n e asked w c w' h b m = record {
-    report = h.report ∙ ap (λ r. Some (report_of r)) (sym m.report);
-    args = m.args ∙ h.args;
-    follows = subst (λ s. Follows (book_of_rules rules).declared s w') (sym (map-append (λ p. p.1) l.log ((n, e) ∷ [])))
-        (moved_follows (book_of_rules rules).declared (events l) e w c w' h.follows b m);
-  }
+  -- a watch that moved is of the same report and arguments
+  moved_report : (w : WatchView) (step : Move) (w' : WatchView) → Moved w step w' → (w'.report ≡ w.report) × (w'.args ≡ w.args)
+  moved_report w (M.More c) w' m = (m.report, m.args)
+  moved_report w (M.Other course) w' m = (ap (λ v. v.report) m, ap (λ v. v.args) m)
 
-  each_recorded : (l : Ledger) (n : ℕ) (e : Event) (asked : List (Name × List Expression)) (old : List WatchView) (changes : List Change) (new : List WatchView) →
-      AllZip (WatchIs rules l) asked old → AllBrought (book_of_rules rules).declared e old changes → AllMoved old changes new → AllZip (WatchIs rules (with_log l n e)) asked new
-  each_recorded l n e [] [] [] [] h b m = tt
-  each_recorded l n e [] [] [] (w' ∷ new) h b m = elim m [ ]
-  each_recorded l n e [] [] (c ∷ changes) new h b m = elim b [ ]
-  each_recorded l n e [] (w ∷ old) changes new h b m = elim h [ ]
-  each_recorded l n e (x ∷ asked) [] changes new h b m = elim h [ ]
-  each_recorded l n e (x ∷ asked) (w ∷ old) [] new h b m = elim b [ ]
-  each_recorded l n e (x ∷ asked) (w ∷ old) (c ∷ changes) [] h b m = elim m [ ]
-  each_recorded l n e (x ∷ asked) (w ∷ old) (c ∷ changes) (w' ∷ new) h b m =
-      (watch_recorded l n e x w c w' h.0 b.0 m.0, each_recorded l n e asked old changes new h.1 b.1 m.1)
+  -- a watch that is led to the events of another ledger follows them
+  watch_led : (l m : Ledger) (asked : Name × List Expression) (w : WatchView) (step : Move) (w' : WatchView) →
+      WatchIs rules l asked w → Leads (book_of_rules rules).declared (events m) w step → Moved w step w' → WatchIs rules m asked w'
+  watch_led l m asked w step w' h leads moved =
+      let kept = moved_report w step w' moved in
+      record {
+        report = h.report ∙ ap (λ r. Some (report_of r)) (sym kept.0);
+        args = kept.1 ∙ h.args;
+        follows = leads w' moved;
+      }
 
-  pub watches_recorded : (l : Ledger) (n : ℕ) (e : Event) (old new : StoreView) (changes : List Change) →
-      AllBrought (book_of_rules rules).declared e old.watches changes → AllMoved old.watches changes new.watches →
+  each_led : (l m : Ledger) (asked : List (Name × List Expression)) (old : List WatchView) (moves : List Move) (new : List WatchView) →
+      AllZip (WatchIs rules l) asked old → AllLead (book_of_rules rules).declared (events m) old moves → AllMoved old moves new → AllZip (WatchIs rules m) asked new
+  each_led l m [] [] [] [] h b moved = tt
+  each_led l m [] [] [] (w' ∷ new) h b moved = elim moved [ ]
+  each_led l m [] [] (c ∷ moves) new h b moved = elim b [ ]
+  each_led l m [] (w ∷ old) moves new h b moved = elim h [ ]
+  each_led l m (x ∷ asked) [] moves new h b moved = elim h [ ]
+  each_led l m (x ∷ asked) (w ∷ old) [] new h b moved = elim b [ ]
+  each_led l m (x ∷ asked) (w ∷ old) (c ∷ moves) [] h b moved = elim moved [ ]
+  each_led l m (x ∷ asked) (w ∷ old) (c ∷ moves) (w' ∷ new) h b moved =
+      (watch_led l m x w c w' h.0 b.0 moved.0, each_led l m asked old moves new h.1 b.1 moved.1)
+
+  -- watches that are led to the events of another ledger are those of it
+  pub watches_led : (l m : Ledger) (old new : StoreView) (moves : List Move) → AllLead (book_of_rules rules).declared (events m) old.watches moves →
+      AllMoved old.watches moves new.watches → AllZip (WatchIs rules l) l.watches old.watches → AllZip (WatchIs rules m) l.watches new.watches
+  watches_led l m old new moves leads moved h = each_led l m l.watches old.watches moves new.watches h leads moved
+
+  brought_leads : (l : Ledger) (e : Event) (asked : List (Name × List Expression)) (old : List WatchView) (moves : List Move) →
+      AllZip (WatchIs rules l) asked old → AllBrought (book_of_rules rules).declared e old moves → AllLead (book_of_rules rules).declared (events l ++ e ∷ []) old moves
+  brought_leads l e [] [] [] h b = tt
+  brought_leads l e [] [] (c ∷ moves) h b = elim b [ ]
+  brought_leads l e [] (w ∷ old) moves h b = elim h [ ]
+  brought_leads l e (x ∷ asked) [] moves h b = elim h [ ]
+  brought_leads l e (x ∷ asked) (w ∷ old) [] h b = elim b [ ]
+  brought_leads l e (x ∷ asked) (w ∷ old) (c ∷ moves) h b = (b.0 (events l) h.0.follows, brought_leads l e asked old moves h.1 b.1)
+
+  pub watches_recorded : (l : Ledger) (n : ℕ) (e : Event) (old new : StoreView) (moves : List Move) →
+      AllBrought (book_of_rules rules).declared e old.watches moves → AllMoved old.watches moves new.watches →
       AllZip (WatchIs rules l) l.watches old.watches → AllZip (WatchIs rules (with_log l n e)) l.watches new.watches
-  watches_recorded l n e old new changes b m h = each_recorded l n e l.watches old.watches changes new.watches h b m
+  watches_recorded l n e old new moves b m h =
+      watches_led l (with_log l n e) old new moves
+      (subst (λ s. AllLead (book_of_rules rules).declared s old.watches moves) (sym (map-append (λ p. p.1) l.log ((n, e) ∷ [])))
+      (brought_leads l e l.watches old.watches moves h b)) m h
 
   -- one watch more
   abbrev pub with_watch : Ledger → Name → List Expression → Ledger

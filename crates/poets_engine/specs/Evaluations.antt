@@ -1,5 +1,6 @@
 -- How many evaluations a command takes.
-use Rattle.std.specs.Prelude.{ℕ, ◌+◌, ◌*◌, ◌-◌, slice_get, length, min, Option, Some, None, List}
+use Rattle.std.specs.Prelude.{ℕ, zero, suc, ◌+◌, ◌*◌, ◌-◌, slice_get, length}
+use Rattle.std.specs.Prelude.{min, Option, Some, None, List, remove, sum_by, take}
 use Rattle.std.specs.declared.alloc.Global.{Global}
 use Rattle.std.specs.declared.sync.Arc.{Arc}
 use Rattle.std.specs.Arc.{arc_value}
@@ -12,11 +13,13 @@ use Rattle.poets_syntax.specs.Width.{size}
 use Rattle.poets_cons.specs.declared.node.Node.{Node}
 use Rattle.poets_cons.specs.Table.{contract_of_rows}
 use Rattle.poets_residue.specs.Once.{once_in}
-use Rattle.poets_table.specs.TableView.{RowView, number_named}
+use Rattle.poets_table.specs.TableView.{RowView, number_named, place_in_log}
+use Rattle.poets_live.specs.Watching.{asked_without}
 use Rattle.poets_call.specs.declared.call.Command.{Command as CodeCommand}
 use Rattle.poets_call.specs.declared.rules.Rules.{Rules}
 use Rattle.poets_call.specs.Calls.{command_of}
 use Rattle.poets_call.specs.Plain.{Command}
+use Rattle.poets_engine.specs.Rows.{owed_after}
 use Rattle.poets_engine.specs.State.{State}
 use Rattle.poets_engine.specs.Store.{StoreView}
 
@@ -37,11 +40,43 @@ asked_of_number s rows (Some n) = asked_of_row s (slice_get rows (n - 1))
 abbrev pub asked_owed : StudiedBook → List (RowView Term (List Node)) → Name → ℕ
 asked_owed s rows x = asked_of_number s rows (number_named x rows)
 
+-- the sum of so many values of a function, from this number on
+abbrev pub sum_from : (ℕ → ℕ) → (first count : ℕ) → ℕ
+sum_from f first zero = 0
+sum_from f first (suc count) = f first + sum_from f (suc first) count
+
+-- the most evaluations that what is owed on a row takes without its event at a place, from 0: those of the residuals
+-- from 255 events ahead of it on
+abbrev pub asked_to_renew : StudiedBook → RowView Term (List Node) → (place : ℕ) → ℕ
+asked_to_renew s r place =
+    let left = remove r.events place in
+    sum_from (λ j. asked_in s (owed_after s r (take j left))) (place - 255) (length left - (place - 255))
+
+-- the most evaluations that the watches take without the event at a place of the log, from 0
+abbrev pub asked_of_watches : (place : ℕ) → StoreView → ℕ
+asked_of_watches place store = sum_by (asked_without (length store.log) place) store.watches
+
+abbrev pub asked_to_void_row : StudiedBook → StoreView → (number place : ℕ) → Option (RowView Term (List Node)) → ℕ
+asked_to_void_row s store n place None = 0
+asked_to_void_row s store n place (Some r) =
+    asked_to_renew s r place + asked_of_watches (place_in_log n place store.log) store
+
+abbrev pub asked_to_void_number : StudiedBook → StoreView → (place : ℕ) → Option ℕ → ℕ
+asked_to_void_number s store place None = 0
+asked_to_void_number s store place (Some n) = asked_to_void_row s store n place (slice_get store.rows (n - 1))
+
+-- the most evaluations that a withdrawal of the event at a place, from 1, of the contract with a name takes; 0 where
+-- there is no contract
+abbrev pub asked_to_void : Rules → StoreView → Name → (place : ℕ) → ℕ
+asked_to_void rules store x k = asked_to_void_number rules.studied store (k - 1) (number_named x store.rows)
+
 -- the most evaluations that a command takes: a transmission asks as a residual does, and each watch for its key and its
--- next value; a tally asks for its arguments and its start, and at each event for its key and its next value
+-- next value; a withdrawal asks for what comes behind the event; a tally asks for its arguments and its start, and at
+-- each event for its key and its next value
 abbrev pub most_evaluations : Rules → StoreView → Command → ℕ
 most_evaluations rules store (Command.Register x c) = size c
 most_evaluations rules store (Command.Transmit x e) = asked_owed rules.studied store.rows x + 2 * length store.watches
+most_evaluations rules store (Command.Void x k) = asked_to_void rules store x k
 most_evaluations rules store (Command.Tally x args) = length args + 1 + 2 * length store.log
 most_evaluations rules store (Command.Portfolio x args over) = length args
 most_evaluations rules store (Command.Watch x args) = length args

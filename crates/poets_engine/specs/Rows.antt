@@ -1,12 +1,12 @@
 -- What an engine keeps is the ledger of its history.
-use Rattle.std.specs.Prelude.{◌≡◌, ℕ, suc, ◌≤◌, ◌≤ℤ◌, List, [], ◌∷◌, map, length, All, Some, false}
+use Rattle.std.specs.Prelude.{◌≡◌, ℕ, suc, ◌≤◌, ◌≤ℤ◌, List, [], ◌∷◌, map, length, take, All, Some, false}
 use Rattle.std.specs.List.{AllZip}
 use Rattle.poets_value.specs.declared.value.Name.{Name}
 use Rattle.poets_value.specs.declared.event.Event.{Event}
 use Rattle.poets_value.specs.Whole.{IsWholeTrace}
 use Rattle.poets_expr.specs.Expression.{Expression}
 use Rattle.poets_expr.specs.Val.{val}
-use Rattle.poets_syntax.specs.Contract.{contract_of}
+use Rattle.poets_syntax.specs.Contract.{Contract, contract_of}
 use Rattle.poets_syntax.specs.declared.term.Term.{Term}
 use Rattle.poets_syntax.specs.Applied.{CountsFit}
 use Rattle.poets_syntax.specs.Book.{book_of}
@@ -19,7 +19,7 @@ use Rattle.poets_cons.specs.declared.node.Node.{Node}
 use Rattle.poets_cons.specs.Table.{contract_of_rows}
 use Rattle.poets_residue.specs.Limits.{is_past_limit_in}
 use Rattle.poets_report.specs.Reports.{report_of}
-use Rattle.poets_table.specs.TableView.{RowView}
+use Rattle.poets_table.specs.TableView.{RowView, HasStarts}
 use Rattle.poets_live.specs.Watching.{WatchView, Follows}
 use Rattle.poets_call.specs.declared.rules.Rules.{Rules}
 use Rattle.poets_call.specs.Rules.{book_of_rules, reports_of_rules}
@@ -36,6 +36,10 @@ NeverFall [] = Unit {0}
 NeverFall (e ∷ []) = Unit {0}
 NeverFall (e ∷ e' ∷ s) = (e.day ≤ℤ e'.day) × NeverFall (e' ∷ s)
 
+-- what is owed on the row's contract after a trace
+abbrev pub owed_after : StudiedBook → RowView Term (List Node) → List Event → Contract
+owed_after s r trace = residual_after (book_of s.book) (marks_of s) (contract_of r.original) trace
+
 -- a row is what the ledger says of the contract with that number
 pub record RowIs (s : StudiedBook) (l : Ledger) (i : ℕ) (r : RowView Term (List Node)) : Type 0 where
   pub events : r.events ≡ trace l i
@@ -44,11 +48,14 @@ pub record RowIs (s : StudiedBook) (l : Ledger) (i : ℕ) (r : RowView Term (Lis
   pub fit : CountsFit (book_of s.book) (contract_of r.original)
   pub declared : All (IsDeclaredEvent (book_of s.book).declared) r.events
   pub days : NeverFall r.events
-  -- what is owed is the residual; some granted steps perform it, and it is not past the limit
-  pub current : contract_of_rows r.current
-      ≡ residual_after (book_of s.book) (marks_of s) (contract_of r.original) r.events
+  -- what is owed is the residual, and some granted steps perform it
+  pub current : contract_of_rows r.current ≡ owed_after s r r.events
   pub hopeful : Hopeful (book_of s.book) (contract_of_rows r.current)
-  pub within_limit : is_past_limit_in s (contract_of_rows r.current) ≡ false
+  -- after none of the first events is what is owed past the limit
+  pub within_limit : (n : ℕ) → is_past_limit_in s (owed_after s r (take n r.events)) ≡ false
+  -- the events are in pieces, and ahead of each piece stands what was owed there
+  pub starts : HasStarts r
+  pub points : AllZip (λ n point. contract_of_rows point ≡ owed_after s r (take n r.events)) r.starts r.points
   -- all numbers and days are those of the language
   pub whole_original : IsWholeContract (contract_of r.original)
   pub whole_events : IsWholeTrace r.events

@@ -9,6 +9,7 @@ use Rattle.poets_expr.specs.Val.{val}
 use Rattle.poets_syntax.specs.Plain.{Book}
 use Rattle.poets_report.specs.Plain.{Report}
 use Rattle.poets_report.specs.Reports.{report_of}
+use Rattle.poets_table.specs.Pieces.{joined}
 use Rattle.poets_folio.specs.declared.folio.Part.{Part}
 use Rattle.poets_call.specs.Plain.{Entry, Command}
 use Rattle.poets_call.specs.Calls.{Call, calls_of, reply_of}
@@ -21,7 +22,7 @@ use Rattle.poets_engine.specs.declared.kept.Body.TheVariants.{Done, Folio}
 
 -- the part has the name and the recorded events of the contract
 abbrev pub IsPartIn : Ledger → Name → Part → Type 0
-IsPartIn l x part = (part.name ≡ x) × (part.events.items ≡ trace l (number_of l x))
+IsPartIn l x part = (part.name ≡ x) × (joined part.events.pieces ≡ trace l (number_of l x))
 
 -- all listed contracts are there after the history of a ledger, and the work holds the declared names, the report with
 -- the name, the values of the arguments, and the recorded events of each listed contract in order

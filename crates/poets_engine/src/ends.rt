@@ -22,7 +22,7 @@ pub(crate) fn end(rules: &Rules, store: &mut Store, name: Name) -> Reply
     if row.ended {
         return Reply::AlreadyEnded;
     }
-    if !may_end_rows(&rules.studied, &row.current) {
+    if !may_end_rows(&rules.studied, &*row.current) {
         return Reply::NotPerformed;
     }
     store.finish(number);

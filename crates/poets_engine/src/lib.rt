@@ -16,6 +16,7 @@ mod store;
 mod tallies;
 mod transmission;
 mod watching;
+mod withdrawal;
 
 pub use engine::Engine;
 pub use kept::{Body, FolioWork, Kept};

@@ -23,9 +23,9 @@ pub(crate) fn show(alloc: Global, rules: &Rules, store: &Store, name: Name) -> R
     };
     let row = store.row(number);
     Ok(Reply::Shown {
-        residual: to_term(alloc, &row.current)?,
+        residual: to_term(alloc, &*row.current)?,
         count: row.events.len() as u64,
-        may_end: may_end_rows(&rules.studied, &row.current),
+        may_end: may_end_rows(&rules.studied, &*row.current),
         ended: row.ended,
     })
 }

@@ -1,11 +1,11 @@
 //! What each command does with what an engine keeps.
 ghost use Rattle.std.specs.Prelude.{◌≡◌, ◌+◌, ◌≤◌, IfOk, OnErr};
 ghost use Rattle.poets_call.specs.Calls.{command_of};
-ghost use Rattle.poets_engine.specs.code.Judgements.{AreKept};
 ghost use Rattle.poets_engine.specs.Evaluations.{most_evaluations};
 ghost use Rattle.poets_engine.specs.Copies.{AreCopies};
 ghost use Rattle.poets_engine.specs.Takes.{IsTakenBy};
 ghost use Rattle.poets_engine.specs.code.Makes.{MakesBody};
+ghost use Rattle.poets_engine.specs.code.Withdrawals.{IsKeptStore};
 
 use crate::copies::Copies;
 use crate::ends::end;
@@ -17,6 +17,7 @@ use crate::store::Store;
 use crate::tallies::tally;
 use crate::transmission::transmit;
 use crate::watching::{read, watch};
+use crate::withdrawal::void;
 use poets_call::{Command, Rules};
 use poets_expr::Asks;
 use poets_value::Memory;
@@ -32,7 +33,7 @@ pub(crate) fn step<T>(
     asks: &mut Asks<T>,
 ) -> Result<Body, Memory>
     requires taken { IsTakenBy rules.now (command_of command.now) }
-    requires rows { AreKept rules.now.studied store.old.rows }
+    requires kept { IsKeptStore rules.now store.old }
     requires copies { AreCopies rules.now copies.old }
     ensures ok { IfOk result (MakesBody rules.now (command_of command.now) store.old store.new) }
     ensures copies { AreCopies rules.now copies.new }
@@ -46,6 +47,9 @@ pub(crate) fn step<T>(
         }
         Command::Transmit { name, event } => {
             Ok(Body::Done(transmit(alloc, rules, store, *name, event, asks)?))
+        }
+        Command::Void { name, place } => {
+            Ok(Body::Done(void(alloc, rules, store, *name, *place, asks)?))
         }
         Command::End { name } => Ok(Body::Done(end(rules, store, *name))),
         Command::Show { name } => Ok(Body::Done(show(alloc, rules, store, *name)?)),

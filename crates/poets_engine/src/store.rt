@@ -1,15 +1,17 @@
 //! What an engine keeps.
 ghost use Rattle.std.specs.Prelude.{◌≡◌, ◌+◌, ◌*◌, ◌-◌, ◌<◌, ◌≤◌, [], length, IfOk, OnOk, OnErr, Some, None, slice_get};
-ghost use Rattle.poets_table.specs.TableView.{AreEventsOf, IsLive, changed_at, finished, number_named, row_view};
-ghost use Rattle.poets_live.specs.Watching.{IsAnswerOfWatch};
-ghost use Rattle.poets_engine.specs.code.Changes.{AddsContract, AddsWatchUnder, RecordsUnder};
+ghost use Rattle.poets_table.specs.Pieces.{joined};
+ghost use Rattle.poets_table.specs.TableView.{AreEventsOf, IsCutOf, IsLive, IsPlaceOf, changed_at, finished, number_named, row_view};
+ghost use Rattle.poets_live.specs.Watching.{AllFollowLog, IsAnswerOfWatch};
+ghost use Rattle.poets_engine.specs.Evaluations.{asked_of_watches};
+ghost use Rattle.poets_engine.specs.code.Changes.{AddsContract, AddsWatchUnder, CutsStore, RecordsUnder, WithdrawsUnder};
 
 use poets_cons::Rows;
 use poets_expr::{Asks, Decls};
 use poets_live::Watches;
 use poets_report::{Answer, Report};
 use poets_syntax::Term;
-use poets_table::{Events, Row, Table};
+use poets_table::{Cut, Events, Row, Table};
 use poets_value::{Event, List, Memory, Name, Value};
 use std::alloc::Global;
 use std::marker::Model;
@@ -68,7 +70,7 @@ impl Store {
     /// The events of the contract with a number, as they are now.
     pub(crate) fn events(&self, number: u64) -> Result<Events, Memory>
         requires { IsLive number self.now.rows }
-        ensures { IfOk result (λ e. AreEventsOf number self.now.rows e.items) }
+        ensures { IfOk result (λ e. AreEventsOf number self.now.rows (joined e.pieces)) }
     {
         self.table.events(number)
     }
@@ -100,7 +102,7 @@ impl Store {
         &mut self,
         name: Name,
         original: Arc<Term>,
-        current: Rows,
+        current: Arc<Rows>,
     ) -> Result<u64, Memory>
         requires { number_named name self.old.rows ≡ None }
         ensures ok { OnOk result (AddsContract name original current self.old self.new) }
@@ -126,7 +128,7 @@ impl Store {
         decls: &Decls,
         number: u64,
         event: &Event,
-        current: Rows,
+        current: Arc<Rows>,
         asks: &mut Asks<T>,
     ) -> Result<(), Memory>
         requires { IsLive number self.old.rows }
@@ -139,6 +141,41 @@ impl Store {
         self.table.room(number)?;
         self.table.enter(number, *event, current);
         self.watches.take(seen);
+        Ok(())
+    }
+
+    /// Prepares to take the event at a place, from 0, out of the contract with a number.
+    pub(crate) fn cut(&self, number: u64, place: u64) -> Result<Cut, Memory>
+        requires live { IsLive number self.now.rows }
+        requires place { IsPlaceOf number place self.now.rows }
+        ensures { IfOk result (CutsStore number place self.now) }
+    {
+        self.table.cut(number, place)
+    }
+
+    /// Takes the event of a cut out of its contract, of which the current contract is then owed, and these ahead of the
+    /// pieces of its events; out of the log; and out of each watch.
+    pub(crate) fn withdraw<T>(
+        &mut self,
+        decls: &Decls,
+        cut: Cut,
+        current: Arc<Rows>,
+        points: List<Arc<Rows>>,
+        asks: &mut Asks<T>,
+    ) -> Result<(), Memory>
+        requires cut { IsCutOf self.old.rows self.old.log cut }
+        requires points { length points.items ≡ length cut.starts }
+        requires place { cut.log_place < length self.old.log }
+        requires follow { AllFollowLog decls.now self.old.log self.old.watches }
+        ensures ok { OnOk result (WithdrawsUnder decls.now cut current points self.old self.new) }
+        ensures err { OnErr result (self.new ≡ self.old) }
+        ensures asks { asks.new ≤ asks.old + asked_of_watches cut.log_place self.old }
+        ensures rises { asks.old ≤ asks.new }
+    {
+        let place = cut.log_place();
+        let left = self.watches.without(decls, self.table.log(), place, asks)?;
+        self.table.take_out(cut, current, points);
+        self.watches.take(left);
         Ok(())
     }
 

@@ -1,5 +1,7 @@
 //! Transmissions.
 ghost use Rattle.std.specs.Prelude.{◌≡◌, ◌+◌, ◌≤◌, IfOk, OnErr};
+ghost use Rattle.std.specs.Arc.{arc_value};
+ghost use Rattle.poets_table.specs.Pieces.{joined};
 ghost use Rattle.poets_cons.specs.Table.{contract_of_rows};
 ghost use Rattle.poets_syntax.specs.Applied.{CountsFit};
 ghost use Rattle.poets_syntax.specs.Book.{book_of};
@@ -11,12 +13,12 @@ ghost use Rattle.poets_engine.specs.Takes.{IsTakenBy};
 ghost use Rattle.poets_engine.specs.code.Asking.{asked_to_transmit};
 ghost use Rattle.poets_engine.specs.code.Makes.{MakesReply};
 
-use crate::judging::{Decision, judge};
+use crate::judging::{Decision, take_event};
 use crate::store::Store;
 use poets_call::{Reply, Rules};
 use poets_cons::Rows;
 use poets_expr::Asks;
-use poets_residue::{may_end_rows, residual_rows};
+use poets_residue::may_end_rows;
 use poets_syntax::{Studied, Term};
 use poets_table::{Events, Row};
 use poets_value::{Day, Event, Memory, Name};
@@ -24,7 +26,7 @@ use std::alloc::Global;
 
 // The day of the last event.
 fn last_day_of(events: &Events) -> Option<Day>
-    ensures { result ≡ last_day events.now.items }
+    ensures { result ≡ last_day (joined events.now.pieces) }
 {
     match events.last() {
         Some(last) => Some(last.day),
@@ -34,7 +36,7 @@ fn last_day_of(events: &Events) -> Option<Day>
 
 // The last day recorded, where the given day is before it.
 fn late(events: &Events, day: &Day) -> Option<Day>
-    ensures { result ≡ late_day events.now.items day.now }
+    ensures { result ≡ late_day (joined events.now.pieces) day.now }
 {
     let last = last_day_of(events)?;
     if day.number() < last.number() {
@@ -52,10 +54,10 @@ fn decide<T>(
     event: &Event,
     asks: &mut Asks<T>,
 ) -> Result<Decision, Memory>
-    requires { CountsFit (book_of studied.now.book) (contract_of_rows row.now.current) }
+    requires { CountsFit (book_of studied.now.book) (contract_of_rows (arc_value row.now.current)) }
     ensures choice { IfOk result (IsJudgementBy studied.now row.now event.now) }
     ensures fits { IfOk result (λ d. KeptFits (book_of studied.now.book) (judgement_of d)) }
-    ensures asks { asks.new ≤ asks.old + asked_in studied.now (contract_of_rows row.now.current) }
+    ensures asks { asks.new ≤ asks.old + asked_in studied.now (contract_of_rows (arc_value row.now.current)) }
     ensures rises { asks.old ≤ asks.new }
 {
     if row.ended {
@@ -64,10 +66,7 @@ fn decide<T>(
     if let Some(last) = late(&row.events, &event.day) {
         return Ok(Decision::Refused(Reply::Late(last)));
     }
-    // The numbers of arguments fit in the bodies of the templates.
-    let _book = studied.book();
-    let next = residual_rows(alloc, studied, &row.current, event, asks)?;
-    judge(alloc, studied, Reply::Unmatched, next)
+    take_event(alloc, studied, &*row.current, event, asks)
 }
 
 /// Transmits an event on the contract with a name.
@@ -95,7 +94,7 @@ pub(crate) fn transmit<T>(
     match decide(alloc, &rules.studied, row, event, asks)? {
         Decision::Refused(reply) => Ok(reply),
         Decision::Owed(next) => {
-            let may_end = may_end_rows(&rules.studied, &next);
+            let may_end = may_end_rows(&rules.studied, &*next);
             store.record(&rules.studied.book().decls, number, event, next, asks)?;
             Ok(Reply::Recorded { count, may_end })
         }

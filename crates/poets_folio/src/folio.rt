@@ -2,6 +2,7 @@
 ghost use Rattle.std.specs.Prelude.{◌≡◌, length, IfOk};
 ghost use Rattle.std.specs.List.{AllZip};
 ghost use Rattle.poets_report.specs.UnderNames.{GoesOnUnder};
+ghost use Rattle.poets_table.specs.Pieces.{joined};
 ghost use Rattle.poets_folio.specs.Rows.{HasRowsOf, HasTotalOf};
 ghost use Rattle.poets_folio.specs.code.Parts.{IsRowUnder};
 
@@ -9,7 +10,7 @@ use crate::total::total;
 use poets_call::Folio;
 use poets_expr::{Asks, Decls};
 use poets_report::{Answer, Fold, Report};
-use poets_table::{Events, PIECE_LENGTH};
+use poets_table::Events;
 use poets_value::{List, Memory, Name, Value, push};
 use rayon::prelude::*;
 use std::alloc::Global;
@@ -96,9 +97,9 @@ fn folded<L>(
     events: &Events,
     asks: &mut Asks<L>,
 ) -> Result<Fold, Memory>
-    ensures { IfOk result (GoesOnUnder decls.now report.now events.now.items fold) }
+    ensures { IfOk result (GoesOnUnder decls.now report.now (joined events.now.pieces) fold) }
 {
-    for place in 0..events.len().div_ceil(PIECE_LENGTH) {
+    for place in 0..events.piece_count() {
         let Some(piece) = events.piece(place) else {
             unreachable!();
         };

@@ -20,7 +20,7 @@ use Rattle.poets_grammar.specs.ContractGrammar.{ReadsBinders}
 use Rattle.poets_grammar.specs.Statements.{ReadsParameter, ReadsParameters, IsStep, IsCommand, IsStatement}
 use Rattle.poets_grammar.specs.Reading.{behind_sign, behind_word, name, number, type_name, whole, listed, expression, whole_expression, arguments}
 use Rattle.poets_grammar.specs.ContractReading.{binders, whole_contract}
-use Rattle.poets_grammar.specs.StatementReading.{natural, last_day, last_name, whole_names, parameter, parameters, whole_arguments, register, transmission, tally, portfolio, watch, read_watch, command_word, command, template, report_head, report_start, report_binders, report_key, report_step, report, commanded, statement_word, numbered, statement}
+use Rattle.poets_grammar.specs.StatementReading.{natural, last_day, last_name, whole_names, parameter, parameters, whole_arguments, register, transmission, withdrawal, tally, portfolio, watch, read_watch, command_word, command, template, report_head, report_start, report_binders, report_key, report_step, report, commanded, statement_word, numbered, statement}
 use Rattle.poets_grammar.proofs.Steps.{steps, at_some, ended, sign_is, word_is, name_is, number_is, type_is}
 use Rattle.poets_grammar.proofs.Listed.{IsItem, listed_sound, listed_complete, bracketed_sound, bracketed_complete}
 use Rattle.poets_grammar.proofs.Complete.{expression_sound, expression_complete, whole_expression_sound, whole_expression_complete}
@@ -118,6 +118,17 @@ transmission_sound ts =
     steps _ _ (last_day kind.1) _ (last_day_is kind.1) (λ day at_day.
     rw (at_x, at_sender, at_receiver, is.starts, is.value, at_kind, at_day) IsCommand.Transmit))))))
 
+withdrawal_sound : (ts : List Tok) → IfSome (withdrawal ts) (IsCommand (K.Word W.Void ∷ ts))
+unfolding withdrawal
+withdrawal_sound ts =
+    steps _ _ (name ts) _ (name_is ts) (λ x at_x.
+    steps _ _ (natural x.1) _ (natural_is x.1) (λ n at_n.
+    rw at_x (at_end x.0 x.1 n.0 n.1 at_n)))
+  where
+    at_end : (x : Name) (ts : List Tok) (n : ℕ) (rest : List Tok) → ts ≡ K.Number (pos n) ∷ rest → IfSome (whole (Command.Void x n) rest) (IsCommand (K.Word W.Void ∷ K.Name x ∷ ts))
+    at_end x ts n [] e = rw e IsCommand.Void
+    at_end x ts n (t ∷ rest) e = tt
+
 tally_sound : (ts : List Tok) → IfSome (tally ts) (IsCommand (K.Word W.Tally ∷ ts))
 unfolding tally
 tally_sound ts =
@@ -154,6 +165,7 @@ read_watch_sound ts =
 command_word_sound : (w : Word) (ts : List Tok) → IfSome (command_word w ts) (IsCommand (K.Word w ∷ ts))
 command_word_sound W.Register ts = register_sound ts
 command_word_sound W.Transmit ts = transmission_sound ts
+command_word_sound W.Void ts = withdrawal_sound ts
 command_word_sound W.End ts = steps _ _ (last_name ts) _ (last_name_is ts) (λ x at_x. rw at_x IsCommand.End)
 command_word_sound W.Show ts = steps _ _ (last_name ts) _ (last_name_is ts) (λ x at_x. rw at_x IsCommand.Show)
 command_word_sound W.Tally ts = tally_sound ts
@@ -298,9 +310,10 @@ statement_sound _ = tt
 -- ---- what is a statement is read
 
 command_complete : {ts : List Tok} {made : Command} → IsCommand ts made → command ts ≡ Some made
-unfolding command register transmission tally portfolio watch read_watch
+unfolding command register transmission withdrawal tally portfolio watch read_watch
 command_complete (IsCommand.Register c) = rw (whole_contract_complete _ _ c) refl
 command_complete IsCommand.Transmit = refl
+command_complete IsCommand.Void = refl
 command_complete IsCommand.End = refl
 command_complete IsCommand.Show = refl
 command_complete (IsCommand.Tally a) = rw (whole_arguments_complete a) refl
@@ -312,6 +325,7 @@ by_command : {ts : List Tok} {made : Command} → IsCommand ts made → statemen
 unfolding statement command
 by_command (IsCommand.Register c) = refl
 by_command IsCommand.Transmit = refl
+by_command IsCommand.Void = refl
 by_command IsCommand.End = refl
 by_command IsCommand.Show = refl
 by_command (IsCommand.Tally a) = refl

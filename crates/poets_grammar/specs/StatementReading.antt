@@ -5,7 +5,7 @@ use Rattle.poets_value.specs.declared.value.Ty.{Ty}
 use Rattle.poets_expr.specs.Expression.{Expression}
 use Rattle.poets_syntax.specs.declared.term.Binders.{Binders}
 use Rattle.poets_syntax.specs.declared.term.Param.{Param}
-use Rattle.poets_call.specs.Plain.{Register, Transmit, End, Show, Tally, Portfolio, Watch, Read}
+use Rattle.poets_call.specs.Plain.{Register, Transmit, Void, End, Show, Tally, Portfolio, Watch, Read}
 use Rattle.poets_call.specs.Said.{Statement, Agents, Kinds, Template, Report, Clerk, Journal, Command, Numbered}
 use Rattle.poets_call.specs.Plain as plain
 use Rattle.poets_lex.specs.declared.token.Word.{Word}
@@ -75,6 +75,12 @@ transmission ts = do
   day ← last_day kind.1
   Some (Transmit x.0 (record { sender = sender.0; receiver = receiver.0; what = record { kind = kind.0; amount = n.0 }; day = day }))
 
+unfoldable pub withdrawal : List Tok → Option plain.Command
+withdrawal ts = do
+  x ← name ts
+  n ← natural x.1
+  whole (Void x.0 n.0) n.1
+
 unfoldable pub tally : List Tok → Option plain.Command
 tally ts = do
   q ← name ts
@@ -103,6 +109,7 @@ read_watch ts = do
 abbrev pub command_word : Word → List Tok → Option plain.Command
 command_word W.Register ts = register ts
 command_word W.Transmit ts = transmission ts
+command_word W.Void ts = withdrawal ts
 command_word W.End ts = last_name ts >>= λ x. Some (End x)
 command_word W.Show ts = last_name ts >>= λ x. Some (Show x)
 command_word W.Tally ts = tally ts

@@ -47,6 +47,8 @@ pub data IsCommand : List Tok → plain.Command → Type 0 where
       IsCommand
       (K.Word W.Transmit ∷ K.Name x ∷ K.Name sender ∷ K.Name receiver ∷ K.Number (pos n) ∷ K.Name kind ∷ K.Day day ∷ [])
       (plain.Transmit x (record { sender = sender; receiver = receiver; what = record { kind = kind; amount = pos n }; day = day }))
+  -- "void" NAME NUMBER
+  Void : {x : Name} {n : ℕ} → IsCommand (K.Word W.Void ∷ K.Name x ∷ K.Number (pos n) ∷ []) (plain.Void x n)
   -- "end" NAME | "show" NAME
   End : {x : Name} → IsCommand (K.Word W.End ∷ K.Name x ∷ []) (plain.End x)
   Show : {x : Name} → IsCommand (K.Word W.Show ∷ K.Name x ∷ []) (plain.Show x)

@@ -1,7 +1,6 @@
 -- Three lists, place by place.
-use Rattle.std.proofs.Common.{◌≡◌, ℕ, zero, suc, ◌+◌, ◌<◌, slice_index_or, slice_set, List, [], ◌∷◌, ◌++◌, Some, map, length, take, set, slice_get, refl, sym, ◌∙◌, ap, ap₂, subst, arith}
+use Rattle.std.proofs.Common.{◌≡◌, ℕ, zero, suc, ◌+◌, ◌<◌, slice_index_or, slice_set, List, [], ◌∷◌, ◌++◌, Some, map, length, set, slice_get, refl, sym, ◌∙◌, ap, ap₂, subst, arith}
 use Rattle.std.specs.List.{AllZip}
-use Rattle.std.proofs.lemmas.List.{take_more, take_all}
 use Rattle.poets_live.specs.Watching.{AllOfThree}
 
 -- the first items were taken from `xs` to `ys` by `zs`, and the others stand as they were
@@ -124,16 +123,6 @@ module _ {X Z : Type 0} (P : X → X → Z → Type 0) where
       let next : suc i ≡ i + 1 = omega arith in
       let more : UpTo P (suc i) xs (slice_set ys i y) (zs ++ z ∷ []) = one_place_more i xs ys zs x y z h (at_place i ys x lt at) p in
       subst (λ n. UpTo P n xs (slice_set ys i y) zs') next (subst (λ l. UpTo P (suc i) xs (slice_set ys i y) l) (sym e) more)
-
-  -- the last list by its first items
-  pub taken_more : (i : ℕ) (xs ys : List X) (zs : List Z) (x y : X) (z : Z) → UpTo P i xs ys (take i zs) → i < length ys → i < length zs →
-      x ≡ slice_index_or ys i x → z ≡ slice_index_or zs i z → P x y z → UpTo P (i + 1) xs (slice_set ys i y) (take (i + 1) zs)
-  taken_more i xs ys zs x y z h lt lt' at at' p =
-      place_more i xs ys (take i zs) (take (i + 1) zs) x y z h lt at p (take_more zs i z lt' ∙ ap (λ a. take i zs ++ a ∷ []) (sym at'))
-
-  pub taken_all : (i : ℕ) (xs ys : List X) (zs : List Z) → UpTo P i xs ys (take i zs) → length xs ≡ length zs → i ≡ length zs → AllOfThree P xs ys zs
-  taken_all i xs ys zs h len e =
-      all_places xs ys zs (subst (λ l. UpTo P (length xs) xs ys l) (take_all i zs (omega (arith, e))) (subst (λ n. UpTo P n xs ys (take i zs)) (e ∙ sym len) h))
 
   -- there is an item at the place
   pub below : {A B : Type 0} (Q : A → B → Z → Type 0) (f : X → A) (g : X → B) (i : ℕ) (xs ys : List X) (zs taken : List Z) → UpTo P i xs ys taken →

@@ -1,6 +1,6 @@
--- Reports that are kept live, as plain data. `Follows` and `Begins` speak of their answers by `IsAnswer`; all else only ties
--- the code to them.
-use Rattle.std.specs.Prelude.{◌≡◌, ℕ, ◌-◌, List, [], ◌∷◌, ◌++◌, Option, Some, slice_get}
+-- Reports that are kept live, as plain data. `Follows` and `Begins` speak of their answers by `IsAnswer`; all else only
+-- ties the code to them.
+use Rattle.std.specs.Prelude.{◌≡◌, ℕ, ◌*◌, ◌-◌, ◌<◌, List, [], ◌∷◌, ◌++◌, Option, Some, None, slice_get}
 use Rattle.std.specs.List.{All, AllZip}
 use Rattle.poets_value.specs.declared.event.Event.{Event}
 use Rattle.poets_value.specs.declared.value.Value.{Value}
@@ -9,11 +9,14 @@ use Rattle.poets_expr.specs.declared.env.Decls.{Decls}
 use Rattle.poets_expr.specs.Env.{Declared, declared_of}
 use Rattle.poets_report.specs.declared.report.Report.{Report}
 use Rattle.poets_report.specs.declared.folds.Change.{Change}
-use Rattle.poets_report.specs.Reports.{report_of, start}
+use Rattle.poets_report.specs.Reports.{given, report_of, start}
 use Rattle.poets_report.specs.Plain.{Answer}
 use Rattle.poets_report.specs.Answers.{IsAnswer, answer_of}
 use Rattle.poets_report.specs.Folds.{Changes, HasRoomFor, IsSingle, events_of}
 use Rattle.poets_report.specs.declared.report.Answer.{Answer as CodeAnswer}
+use Rattle.poets_live.specs.declared.watch.Move.{Move}
+use Rattle.poets_live.specs.declared.watch.Move.TheVariants as M
+use Rattle.poets_live.specs.Courses.{AreMarks, CourseView, IsPassed}
 
 -- a watch: a report and its arguments
 pub record WatchView : Type 0 where
@@ -23,24 +26,55 @@ pub record WatchView : Type 0 where
   pub start : Option Value
   -- the answer over the events so far
   pub answer : Answer
+  -- the marks on the way over them, and how many events stand behind the last one
+  pub marks : List (Option Value)
+  pub since : ℕ
 
--- a watch, and the keys for whose rows it has room
+-- the keys for whose rows a watch has room, and for how many marks
+pub record Room : Type 0 where
+  pub keys : List Value
+  pub marks : ℕ
+
+-- a watch, and its room
 pub record WatchState : Type 0 where
   pub watch : WatchView
-  pub keys : List Value
+  pub room : Room
 
--- the watches in the order of their numbers, and the keys for whose rows each has room
+-- the watch of a report under arguments, on a course
+abbrev pub watch_on : Report → (args : List (Option Value)) → CourseView → WatchView
+watch_on report args course = record {
+  report = report;
+  args = args;
+  start = course.fold.start;
+  answer = course.fold.answer;
+  marks = course.marks;
+  since = course.since;
+}
+
+-- the watch of a report under arguments on a course, and its room
+abbrev pub state_of : Report → (args : List (Option Value)) → CourseView → WatchState
+state_of report args course = record {
+  watch = watch_on report args course;
+  room = record { keys = course.fold.keys; marks = course.room };
+}
+
+-- the watches in the order of their numbers, and the room of each
 pub record WatchesView : Type 0 where
   pub watches : List WatchView
-  pub rooms : List (List Value)
+  pub rooms : List Room
 
--- the watch was begun under these declared names, and has its report's answer over these events
+-- the watch was begun under these declared names, and has its report's answer over these events, and marks on its way
 pub record Follows (declared : Declared) (events : List Event) (w : WatchView) : Type 0 where
   pub begun : w.start ≡ start declared (report_of w.report) w.args
   pub answers : IsAnswer declared (report_of w.report) w.args events w.answer
+  pub marks : AreMarks declared (report_of w.report) w.args events w.marks w.since
 
 abbrev pub AllFollow : Declared → List Event → List WatchView → Type 0
 AllFollow declared events watches = All (Follows declared events) watches
+
+-- the watches have their answers over the events of the log under the declared names
+abbrev pub AllFollowLog : Decls → List (ℕ × Event) → List WatchView → Type 0
+AllFollowLog decls log watches = AllFollow (declared_of decls.names) (events_of log) watches
 
 -- a relation of the items of three lists, place by place
 abbrev pub AllOfThree : {X Y Z : Type 0} → (X → Y → Z → Type 0) → List X → List Y → List Z → Type 0
@@ -48,43 +82,72 @@ AllOfThree P [] [] [] = Unit {0}
 AllOfThree P (x ∷ xs) (y ∷ ys) (z ∷ zs) = P x y z × AllOfThree P xs ys zs
 AllOfThree P _ _ _ = ⊥
 
--- the change is what an event brings to a watch: put in place, it makes the answer over the events so far and this one
-abbrev pub Brought : Declared → Event → WatchView → Change → Type 0
-Brought declared e w c = (events : List Event) (new : Answer) → Follows declared events w → Changes c w.answer new →
-    IsAnswer declared (report_of w.report) w.args (events ++ e ∷ []) new
-
--- each change is what the event brings to its watch
-abbrev pub AllBrought : Declared → Event → List WatchView → List Change → Type 0
-AllBrought declared e watches changes = AllZip (Brought declared e) watches changes
-
--- each change is what the event brings to its watch under the declared names
-abbrev pub AllBroughtUnder : Decls → Event → List WatchView → List Change → Type 0
-AllBroughtUnder decls e watches changes = AllBrought (declared_of decls.names) e watches changes
-
--- the watch was asked what an event brings: it answers as before, and has room for the change
-pub record IsSeen (declared : Declared) (e : Event) (old new : WatchState) (c : Change) : Type 0 where
-  pub same : new.watch ≡ old.watch
-  pub brought : Brought declared e old.watch c
-  pub room : HasRoomFor c new.watch.answer new.keys
-
--- there is room in a watch for a change
-abbrev pub HasRoomIn : WatchView → List Value → Change → Type 0
-HasRoomIn w keys c = HasRoomFor c w.answer keys
-
--- there is room in each watch for its change
-abbrev pub HaveRoom : WatchesView → List Change → Type 0
-HaveRoom w changes = AllOfThree HasRoomIn w.watches w.rooms changes
-
--- the watch with the change in place
-pub record Moved (old : WatchView) (c : Change) (new : WatchView) : Type 0 where
+-- the watch with a change in place, past an event
+pub record TookChange (old : WatchView) (c : Change) (new : WatchView) : Type 0 where
   pub report : new.report ≡ old.report
   pub args : new.args ≡ old.args
   pub start : new.start ≡ old.start
   pub answer : Changes c old.answer new.answer
+  pub passed : IsPassed old.answer old.marks old.since new.marks new.since
 
--- each watch took its change
-abbrev pub AllMoved : List WatchView → List Change → List WatchView → Type 0
-AllMoved old changes new = AllOfThree Moved old changes new
+-- the watch with what becomes of it in place
+abbrev pub Moved : WatchView → Move → WatchView → Type 0
+Moved old (M.More c) new = TookChange old c new
+Moved old (M.Other course) new = new ≡ watch_on old.report old.args course
+
+-- each watch moved
+abbrev pub AllMoved : List WatchView → List Move → List WatchView → Type 0
+AllMoved old moves new = AllOfThree Moved old moves new
+
+-- what becomes of the watch leads it to these events: put in place, it makes the watch follow them
+abbrev pub Leads : Declared → List Event → WatchView → Move → Type 0
+Leads declared events w step = (new : WatchView) → Moved w step new → Follows declared events new
+
+-- each watch is led to these events
+abbrev pub AllLead : Declared → List Event → List WatchView → List Move → Type 0
+AllLead declared events watches moves = AllZip (Leads declared events) watches moves
+
+-- each watch is led to the events of the log, under the declared names
+abbrev pub AllLeadToLog : Decls → List (ℕ × Event) → List WatchView → List Move → Type 0
+AllLeadToLog decls log watches moves = AllLead (declared_of decls.names) (events_of log) watches moves
+
+-- this is what an event brings to a watch: whatever events it follows, it is led to these and this one
+abbrev pub Brought : Declared → Event → WatchView → Move → Type 0
+Brought declared e w step =
+    (events : List Event) → Follows declared events w → Leads declared (events ++ e ∷ []) w step
+
+-- each is what the event brings to its watch
+abbrev pub AllBrought : Declared → Event → List WatchView → List Move → Type 0
+AllBrought declared e watches moves = AllZip (Brought declared e) watches moves
+
+-- each is what the event brings to its watch under the declared names
+abbrev pub AllBroughtUnder : Decls → Event → List WatchView → List Move → Type 0
+AllBroughtUnder decls e watches moves = AllBrought (declared_of decls.names) e watches moves
+
+-- a change has room, and another course is of the watch's report and arguments
+abbrev pub HasRoomIn : WatchView → Room → Move → Type 0
+HasRoomIn w room (M.More c) = HasRoomFor c w.answer room.keys × (0 < room.marks)
+HasRoomIn w room (M.Other course) = course.fold.env ≡ given (report_of w.report) w.args
+
+-- what becomes of each watch can be put in place
+abbrev pub HaveRoom : WatchesView → List Move → Type 0
+HaveRoom w moves = AllOfThree HasRoomIn w.watches w.rooms moves
+
+-- the watch was asked what an event brings: it answers as before, and has room for it
+pub record IsSeen (declared : Declared) (e : Event) (old new : WatchState) (step : Move) : Type 0 where
+  pub same : new.watch ≡ old.watch
+  pub brought : Brought declared e old.watch step
+  pub room : HasRoomIn new.watch new.room step
+
+-- how many expressions a report asks at most to leave out the event at a place of so many: without a key one for each
+-- event from 255 ahead of it on, and with a key two for each event
+abbrev pub asked_by_key : {A : Type 0} → (key : Option A) → (count place : ℕ) → ℕ
+asked_by_key None count place = count - (place - 255)
+asked_by_key (Some key) count place = 2 * count
+
+-- how many expressions a watch asks at most to leave out the event at a place of a log of so many
+abbrev pub asked_without : (count place : ℕ) → WatchView → ℕ
+asked_without count place w = asked_by_key w.report.key count place
 
 -- one watch more, which begins with the fold of the log
 pub record Begins
@@ -96,9 +159,11 @@ pub record Begins
   pub of_args : last.args ≡ args
   pub follows : Follows declared (events_of log) last
 
--- one watch more of the report under the declared names, which begins with the fold of the log; the others are as before
-abbrev pub BeginsUnder : Decls → Report → Listed (Option Value) → Listed (ℕ × Event) → (old new : WatchesView) → Type 0
-BeginsUnder decls report args log old new = Begins (declared_of decls.names) report args.items log.items old.watches new.watches
+-- one watch more of the report under the declared names, which begins with the fold of the log; the others stay
+abbrev pub BeginsUnder :
+    Decls → Report → Listed (Option Value) → Listed (ℕ × Event) → (old new : WatchesView) → Type 0
+BeginsUnder decls report args log old new =
+    Begins (declared_of decls.names) report args.items log.items old.watches new.watches
 
 -- the answer is that of the watch with the number, if there is one
 abbrev pub IsAnswerOfWatch : ℕ → List WatchView → CodeAnswer → Type 0
@@ -111,6 +176,12 @@ WhereSingle n watches P = (w : WatchView) → slice_get watches (n - 1) ≡ Some
 -- watches that have their answers over events, moved by what an event brings, have them over the events with it
 abbrev pub OneEventMore : Type 0
 OneEventMore = (declared : Declared) (events : List Event) (e : Event)
-    (old : List WatchView) (changes : List Change) (new : List WatchView) →
-    AllFollow declared events old → AllBrought declared e old changes → AllMoved old changes new →
+    (old : List WatchView) (moves : List Move) (new : List WatchView) →
+    AllFollow declared events old → AllBrought declared e old moves → AllMoved old moves new →
     AllFollow declared (events ++ e ∷ []) new
+
+-- watches that are led to events, moved so, have their answers over these
+abbrev pub LedToEvents : Type 0
+LedToEvents = (declared : Declared) (events : List Event)
+    (old : List WatchView) (moves : List Move) (new : List WatchView) →
+    AllLead declared events old moves → AllMoved old moves new → AllFollow declared events new

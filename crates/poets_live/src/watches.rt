@@ -1,11 +1,11 @@
 //! All watches.
-ghost use Rattle.std.specs.Prelude.{◌≡◌, ◌+◌, ◌*◌, ◌<◌, ◌≤◌, [], map, length, IfOk, IsOk, OnOk, OnErr};
-ghost use Rattle.poets_live.specs.Watching.{AllBroughtUnder, AllMoved, BeginsUnder, HaveRoom, IsAnswerOfWatch, WhereSingle};
-ghost use Rattle.poets_live.specs.code.Watches.{AllHaveRoom, AllSeen, AllTook};
+ghost use Rattle.std.specs.Prelude.{◌≡◌, ◌+◌, ◌*◌, ◌<◌, ◌≤◌, [], map, length, remove, sum_by, IfOk, IsOk, OnOk, OnErr};
+ghost use Rattle.poets_live.specs.Watching.{AllBroughtUnder, AllFollowLog, AllLeadToLog, AllMoved, BeginsUnder, HaveRoom, IsAnswerOfWatch, WhereSingle, asked_without};
+ghost use Rattle.poets_live.specs.code.Watches.{AllFollowTheLog, AllHaveRoom, AllLed, AllSeen, AllTook};
 
-use crate::watch::Watch;
+use crate::watch::{Move, Watch};
 use poets_expr::{Asks, Decls};
-use poets_report::{Answer, Change, Report};
+use poets_report::{Answer, Report};
 use poets_value::{Event, List, Memory, Value, push};
 use std::alloc::Global;
 use std::marker::Model;
@@ -33,23 +33,23 @@ impl Model for Watches {
 
     ghost view = { λ w. record {
       watches = map (λ s. s.watch) w.watches.items;
-      rooms = map (λ s. s.keys) w.watches.items;
+      rooms = map (λ s. s.room) w.watches.items;
     } };
 }
 
-/// What an event brings to each watch. Contracts see the changes in the order of the watches.
+/// What becomes of each watch by one event more, or by one less. Contracts see it in the order of the watches.
 #[derive(Drop)]
 pub struct Seen {
-    changes: List<Change>,
+    moves: List<Move>,
 }
 
 impl Model for Seen {
     ghost use Rattle.std.specs.Prelude.{List};
-    ghost use Rattle.poets_report.specs.declared.folds.Change.{Change};
+    ghost use Rattle.poets_live.specs.declared.watch.Move.{Move};
 
-    ghost Value = { List Change };
+    ghost Value = { List Move };
 
-    ghost view = { λ s. s.changes.items };
+    ghost view = { λ s. s.moves.items };
 }
 
 impl Watches {
@@ -114,16 +114,44 @@ impl Watches {
         ensures rises { asks.old ≤ asks.new }
     {
         let alloc = *self.watches.allocator();
-        let changes = see_all(alloc, &mut self.watches, decls, event, asks)?;
-        Ok(Seen { changes })
+        let moves = see_all(alloc, &mut self.watches, decls, event, asks)?;
+        Ok(Seen { moves })
     }
 
-    /// Puts in place what an event brought. The watches and their room are those that `seen` left.
+    /// What becomes of each watch without the event at a place of the log, from 0. The watches follow the log, and
+    /// answer as before.
+    pub fn without<L>(
+        &self,
+        decls: &Decls,
+        log: &List<(u64, Event)>,
+        place: u64,
+        asks: &mut Asks<L>,
+    ) -> Result<Seen, Memory>
+        requires seen { AllFollowLog decls.now log.now.items self.now.watches }
+        requires place { place < length log.now.items }
+        ensures leads { IfOk result (AllLeadToLog decls.now (remove log.now.items place) self.now.watches) }
+        ensures room { IfOk result (HaveRoom self.now) }
+        ensures asks { asks.new ≤ asks.old + sum_by (asked_without (length log.now.items) place) self.now.watches }
+        ensures rises { asks.old ≤ asks.new }
+    {
+        let alloc = *self.watches.allocator();
+        let moves = all_without(
+            alloc,
+            self.watches.as_slice(),
+            decls,
+            log.as_slice(),
+            place as usize,
+            asks,
+        )?;
+        Ok(Seen { moves })
+    }
+
+    /// Puts in place what becomes of the watches. They and their room are those that `seen` or `without` left.
     pub fn take(&mut self, seen: Seen)
         requires { HaveRoom self.old seen }
         ensures { AllMoved self.old.watches seen self.new.watches }
     {
-        take_all(&mut self.watches, seen.changes.as_slice());
+        take_all(&mut self.watches, seen.moves);
     }
 }
 
@@ -134,27 +162,53 @@ fn see_all<L>(
     decls: &Decls,
     event: &Event,
     asks: &mut Asks<L>,
-) -> Result<List<Change>, Memory>
+) -> Result<List<Move>, Memory>
     ensures same { map (λ s. s.watch) watches.new.items ≡ map (λ s. s.watch) watches.old.items }
     ensures seen { IfOk result (AllSeen decls.now event.now watches.old.items watches.new.items) }
     ensures asks { asks.new ≤ asks.old + 2 * length watches.old.items }
     ensures rises { asks.old ≤ asks.new }
 {
-    let mut changes = List::new(alloc);
-    changes.reserve(watches.len())?;
+    let mut moves = List::new(alloc);
+    moves.reserve(watches.len())?;
     for place in 0..watches.len() {
-        let change = watches[place].see(decls, event, asks)?;
-        push(&mut changes, change)?;
+        let step = watches[place].see(decls, event, asks)?;
+        push(&mut moves, step)?;
     }
-    Ok(changes)
+    Ok(moves)
 }
 
-// Puts in place what an event brought to each watch.
-fn take_all(watches: &mut Vec<Watch>, changes: &[Change])
-    requires { AllHaveRoom watches.old.items changes.now }
-    ensures { AllTook watches.old.items watches.new.items changes.now }
+// What becomes of each watch without the event at a place of the log.
+fn all_without<L>(
+    alloc: Global,
+    watches: &[Watch],
+    decls: &Decls,
+    log: &[(u64, Event)],
+    place: usize,
+    asks: &mut Asks<L>,
+) -> Result<List<Move>, Memory>
+    requires follow { AllFollowTheLog decls.now log.now watches.now }
+    requires place { place < length log.now }
+    ensures led { IfOk result (AllLed decls.now (remove log.now place) watches.now) }
+    ensures asks { asks.new ≤ asks.old
+        + sum_by (asked_without (length log.now) place) (map (λ s. s.watch) watches.now) }
+    ensures rises { asks.old ≤ asks.new }
 {
-    for (place, change) in changes.iter().enumerate() {
-        watches[place].take(*change);
+    let mut moves = List::new(alloc);
+    for watch in watches {
+        let step = watch.without(alloc, decls, log, place, asks)?;
+        push(&mut moves, step)?;
+    }
+    Ok(moves)
+}
+
+// Puts in place what becomes of each watch.
+fn take_all(watches: &mut Vec<Watch>, moves: List<Move>)
+    requires { AllHaveRoom watches.old.items moves.items }
+    ensures { AllTook watches.old.items watches.new.items moves.items }
+{
+    let mut place = 0;
+    for step in moves.into_vec() {
+        watches[place].take(step);
+        place += 1;
     }
 }

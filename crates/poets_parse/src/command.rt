@@ -65,6 +65,16 @@ fn transmission(tokens: &[Token]) -> Result<Command, ReadFault>
     Ok(Command::Transmit { name, event })
 }
 
+// "void" NAME NUMBER
+#[tactic(auto, unfolding(poets_grammar::specs::StatementReading::withdrawal))]
+fn withdrawal(tokens: &[Token]) -> Result<Command, ReadFault>
+    ensures { Gives command_of result (reading.withdrawal (toks tokens.now)) }
+{
+    let (name, rest) = name(tokens)?;
+    let (place, rest) = natural(rest)?;
+    whole(Command::Void { name, place }, rest)
+}
+
 // "tally" NAME "(" [ expression { "," expression } ] ")"
 #[tactic(auto, unfolding(poets_grammar::specs::StatementReading::tally))]
 fn tally(alloc: Global, tokens: &[Token]) -> Result<Command, ReadFault>
@@ -117,6 +127,7 @@ pub(crate) fn command_word(
     match word {
         Word::Register => register(alloc, tokens),
         Word::Transmit => transmission(tokens),
+        Word::Void => withdrawal(tokens),
         Word::End => {
             let name = last_name(tokens)?;
             Ok(Command::End { name })

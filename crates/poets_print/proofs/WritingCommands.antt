@@ -55,6 +55,8 @@ module _ (table : Table) (all : IsTable table) where
       simp append_assoc (record { tokens = _; cut = cut_word W.Register (cut_space (cut_name x all can.0 (cut_space (cut_spaced S.Equal p.cut)) refl)) refl; reads = IsCommand.Register p.reads })
   writes_command (plain.Transmit x e) whole can =
       writes_transmission x e.sender e.receiver e.what.kind e.what.amount e.day whole can
+  writes_command (plain.Void x k) whole can =
+      simp append_assoc (record { tokens = _; cut = cut_word W.Void (cut_space (cut_name x all can (cut_space (cut_number k whole cut_end tt)) refl)) refl; reads = IsCommand.Void })
   writes_command (plain.End x) whole can = record { tokens = _; cut = cut_word W.End (cut_space (cut_name x all can cut_end tt)) refl; reads = IsCommand.End }
   writes_command (plain.Show x) whole can = record { tokens = _; cut = cut_word W.Show (cut_space (cut_name x all can cut_end tt)) refl; reads = IsCommand.Show }
   writes_command (plain.Tally q args) whole can =

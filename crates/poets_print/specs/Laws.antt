@@ -55,6 +55,7 @@ abbrev pub CanWriteCommand : Table → plain.Command → Type 0
 CanWriteCommand names (plain.Command.Register x c) = IsListed names x × CanWriteContract names c
 CanWriteCommand names (plain.Command.Transmit x e) =
     IsListed names x × IsListed names e.sender × IsListed names e.receiver × (pos 0 ≤ℤ e.what.amount) × IsListed names e.what.kind
+CanWriteCommand names (plain.Command.Void x k) = IsListed names x
 CanWriteCommand names (plain.Command.End x) = IsListed names x
 CanWriteCommand names (plain.Command.Show x) = IsListed names x
 CanWriteCommand names (plain.Command.Tally q args) = IsListed names q × All (CanWrite names) args

@@ -24,6 +24,7 @@ event_text names e =
 abbrev pub command_text : Table → Command → List ℕ
 command_text names (Command.Register x c) = codes "register " ++ name_text names x ++ codes " = " ++ contract_text names c
 command_text names (Command.Transmit x e) = codes "transmit " ++ name_text names x ++ codes " " ++ event_text names e
+command_text names (Command.Void x k) = codes "void " ++ name_text names x ++ codes " " ++ decimal k
 command_text names (Command.End x) = codes "end " ++ name_text names x
 command_text names (Command.Show x) = codes "show " ++ name_text names x
 command_text names (Command.Tally q args) = codes "tally " ++ call_text names q args
@@ -78,6 +79,9 @@ reply_text names (Reply.NameTaken n) = codes "name taken by " ++ decimal n
 reply_text names Reply.Hopeless = codes "hopeless"
 reply_text names Reply.TooLarge = codes "too large"
 reply_text names (Reply.Recorded n may_end) = codes "recorded " ++ decimal n ++ codes ", may end " ++ yes_text may_end
+reply_text names (Reply.Voided n may_end) =
+    codes "voided, events " ++ decimal n ++ codes ", may end " ++ yes_text may_end
+reply_text names (Reply.NoEvent k) = codes "no event " ++ decimal k
 reply_text names (Reply.NoContract x) = codes "no contract " ++ name_text names x
 reply_text names Reply.Ended = codes "ended"
 reply_text names (Reply.Late d) = codes "late " ++ day_text d

@@ -73,6 +73,10 @@ pub(crate) fn put_command(out: &mut String, names: &Names, command: &Command) ->
             put(out, " ")?;
             put_event(out, names, event)
         }
+        Command::Void { name, place } => {
+            put_named(out, names, "void ", *name)?;
+            put_counted(out, " ", *place)
+        }
         Command::End { name } => put_named(out, names, "end ", *name),
         Command::Show { name } => put_named(out, names, "show ", *name),
         Command::Tally { report, args } => {

@@ -174,6 +174,12 @@ pub(crate) fn put_reply(out: &mut String, names: &Names, reply: &Reply) -> Resul
             put(out, ", may end ")?;
             put_yes(out, *may_end)
         }
+        Reply::Voided { count, may_end } => {
+            put_counted(out, "voided, events ", *count)?;
+            put(out, ", may end ")?;
+            put_yes(out, *may_end)
+        }
+        Reply::NoEvent(place) => put_counted(out, "no event ", *place),
         Reply::NoContract(name) => put_named(out, names, "no contract ", *name),
         Reply::Ended => put(out, "ended"),
         Reply::Late(day) => {

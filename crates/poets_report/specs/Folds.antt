@@ -1,5 +1,5 @@
 -- Folds that go on from event to event. This file only ties the code to `IsAnswer`.
-use Rattle.std.specs.Prelude.{◌≡◌, ℕ, List, map, [], ◌∷◌, ◌++◌, Option, unwrap_or}
+use Rattle.std.specs.Prelude.{◌≡◌, ℕ, List, map, [], ◌∷◌, ◌++◌, Option, Some, None, unwrap_or}
 use Rattle.poets_value.specs.declared.event.Event.{Event}
 use Rattle.poets_value.specs.declared.value.Value.{Value}
 use Rattle.poets_expr.specs.Env.{Declared, Env}
@@ -41,6 +41,16 @@ pub record StandsFor
   pub under : fold.env ≡ given q args
   pub starts : fold.start ≡ start declared q args
   pub answers : IsAnswer declared q args events fold.answer
+
+-- how many expressions an event asks at most: the step, and the key where there is one
+abbrev pub asked_by_event : Answer → ℕ
+asked_by_event (Single v) = 1
+asked_by_event (Rows rows) = 2
+
+-- what is carried to the next event, where the events are not folded by a key
+abbrev pub carried_in : Answer → Option (Option Value)
+carried_in (Single v) = Some v
+carried_in (Rows rows) = None
 
 -- the events of a log of contracts' numbers and events
 abbrev pub events_of : List (ℕ × Event) → List Event

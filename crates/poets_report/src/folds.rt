@@ -2,7 +2,7 @@
 ghost use Rattle.std.specs.Prelude.{◌≡◌, ◌+◌, ◌*◌, ◌≤◌, ◌∷◌, [], length, IfOk, IsOk, OnOk, OnErr};
 ghost use Rattle.poets_expr.specs.Asked.{one_more};
 ghost use Rattle.poets_report.specs.Answers.{answer_of};
-ghost use Rattle.poets_report.specs.Folds.{Changes, HasRoomFor, IsSingle, events_of, fold_by};
+ghost use Rattle.poets_report.specs.Folds.{Changes, HasRoomFor, IsSingle, answer_in, asked_by_event, carried_in, events_of, fold_by};
 ghost use Rattle.poets_report.specs.UnderNames.{BringsUnder, GoesOnUnder, IsAnswerUnder, StandsForUnder};
 ghost use Rattle.poets_report.specs.code.Stages.{IsCarriedPast, IsFirstAnswer, IsKeyOn};
 
@@ -121,7 +121,9 @@ impl Fold {
     ) -> Result<(), Memory>
         ensures stands { OnOk result (GoesOnUnder decls.now report.now (event.now ∷ []) self.old self.new) }
         ensures err { OnErr result (self.new ≡ self.old) }
+        ensures kind { asked_by_event self.new.answer ≡ asked_by_event self.old.answer }
         ensures asks { asks.new ≤ asks.old + 2 }
+        ensures fewer { asks.new ≤ asks.old + asked_by_event self.old.answer }
         ensures rises { asks.old ≤ asks.new }
     {
         let change = self.change(decls, report, event, asks);
@@ -139,6 +141,7 @@ impl Fold {
         ensures brings { BringsUnder decls.now report.now event.now self.old result }
         ensures same { self.new ≡ self.old }
         ensures asks { asks.new ≤ asks.old + 2 }
+        ensures fewer { asks.new ≤ asks.old + asked_by_event self.old.answer }
         ensures rises { asks.old ≤ asks.new }
     {
         brought(
@@ -171,6 +174,7 @@ impl Fold {
         ensures start { self.new.start ≡ self.old.start }
         ensures ok { OnOk result (Changes change self.old.answer self.new.answer) }
         ensures err { OnErr result (self.new ≡ self.old) }
+        ensures kind { asked_by_event self.new.answer ≡ asked_by_event self.old.answer }
         ensures succeeds { HasRoomFor change self.old.answer self.old.keys → IsOk result }
     {
         match &mut self.running {
@@ -179,6 +183,16 @@ impl Fold {
                 Ok(())
             }
             Running::Keyed(rows) => rows.set(change.key, change.row),
+        }
+    }
+
+    /// What is carried to the next event; none where the events are folded by a key.
+    pub fn carried(&self) -> Option<Option<Value>>
+        ensures { result ≡ carried_in self.now.answer }
+    {
+        match &self.running {
+            Running::Carried(value) => Some(*value),
+            Running::Keyed(_) => None,
         }
     }
 
@@ -225,6 +239,7 @@ fn brought<L>(
     ensures brings { BringsUnder decls.now report.now event.now (fold_by scope.old start.now running.now) result }
     ensures same { scope.new ≡ scope.old }
     ensures asks { asks.new ≤ asks.old + 2 }
+    ensures fewer { asks.new ≤ asks.old + asked_by_event (answer_in running.now) }
     ensures rises { asks.old ≤ asks.new }
 {
     match running {

@@ -20,7 +20,11 @@ const REPORTED: &str = "journal;;
 1: register c = any();; 2: transmit c ann bob 5 Oil @2006-01-01;; 3: tally moved();;
 1: watch sum();; 2: transmit c ann bob 2 USD @2006-01-01;; 2: portfolio sum() over c;; 64: read 1;;";
 
-pub(crate) const REPLAYED: [Line; 21] = [
+const WITHDRAWN: &str = "journal;;
+1: register c = any();; 2: transmit c ann bob 5 Oil @2006-01-01;; 3: void c 01;; 2: void c 1;;
+2: transmit c ann bob 4 Oil @2005-01-01;; 3: tally sum();;";
+
+pub(crate) const REPLAYED: [Line; 27] = [
     Row("calls are made in the order of the journal, the second clerk first"),
     Text(SECOND_FIRST),
     Entries(
@@ -68,6 +72,20 @@ pub(crate) const REPLAYED: [Line; 21] = [
 5 2: transmit c ann bob 2 USD @2006-01-01 => recorded 2, may end yes
 6 2: portfolio sum() over c => portfolio c 7, total 7
 7 64: read 1 => value 7
+",
+    ),
+    Row("one clerk withdraws what another recorded"),
+    Text(HEAD),
+    Text(ANY),
+    Text(SUM),
+    Text(WITHDRAWN),
+    Entries(
+        "1 1: register c = any() => registered 1
+2 2: transmit c ann bob 5 Oil @2006-01-01 => recorded 1, may end yes
+3 3: void c 1 => voided, events 0, may end yes
+4 2: void c 1 => no event 1
+5 2: transmit c ann bob 4 Oil @2005-01-01 => recorded 1, may end yes
+6 3: tally sum() => value 4
 ",
     ),
 ];

@@ -12,6 +12,8 @@ mod journals;
 #[cfg(test)]
 mod limits;
 #[cfg(test)]
+mod long_withdrawals;
+#[cfg(test)]
 mod many;
 #[cfg(test)]
 mod past;
@@ -45,3 +47,5 @@ mod unread;
 mod watches;
 #[cfg(test)]
 mod wide;
+#[cfg(test)]
+mod withdrawals;

@@ -3,7 +3,7 @@
 use crate::table::Line::{self, Row, Text, Written};
 
 // Texts that `run` refuses.
-pub(crate) const NO_SESSIONS: [Line; 63] = [
+pub(crate) const NO_SESSIONS: [Line; 66] = [
     Row("a text without tokens is refused at its first fault"),
     Text("kinds USD;; 9223372036854775808"),
     Written("refused at byte 12: LongNumber\n"),
@@ -30,6 +30,9 @@ pub(crate) const NO_SESSIONS: [Line; 63] = [
     Written("refused in statement 3: NoSentence\n"),
     Row("a statement that is no sentence is refused"),
     Text("register c = Success;; agents ann, ann;; total;;"),
+    Written("refused in statement 3: NoSentence\n"),
+    Row("a statement that is no sentence is refused"),
+    Text("clerk;; void c 1;; void c -1;;"),
     Written("refused in statement 3: NoSentence\n"),
     Row("a misplaced statement is refused"),
     Text("agents ann;; register x = Success;;"),

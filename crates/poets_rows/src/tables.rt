@@ -11,10 +11,11 @@ use crate::tallies::TALLIED;
 use crate::templates::CALLED;
 use crate::texts::RUN;
 use crate::watches::WATCHED;
+use crate::withdrawals::WITHDRAWN;
 use std::test::Fail;
 
-// Sessions with ann and bob, Oil and USD.
-const STEPS: Call = Call {
+/// Sessions with ann and bob, Oil and USD.
+pub(crate) const STEPS: Call = Call {
     word: "run",
     head: HEAD,
     status: 0,
@@ -38,6 +39,11 @@ fn reports_go_step_by_step(rt: HostRuntime) -> Result<(), Fail> {
     each_row(&rt, rt.alloc(), &STEPS, &TALLIED)?;
     each_row(&rt, rt.alloc(), &STEPS, &WATCHED)?;
     each_row(&rt, rt.alloc(), &STEPS, &SUMMED)
+}
+
+#[test]
+fn withdrawals_go_step_by_step(rt: HostRuntime) -> Result<(), Fail> {
+    each_row(&rt, rt.alloc(), &STEPS, &WITHDRAWN)
 }
 
 const CHECKS: Call = Call {

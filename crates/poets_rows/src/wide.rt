@@ -6,7 +6,7 @@ use crate::table::{Call, each_row};
 use std::test::Fail;
 
 // The body of d(k) is 9 * 2^k - 3 wide: that of d8() 2,301, and that of d9() 4,605.
-const DOUBLES: &str = "template d0() = transmit(a, b, r, t | kind(r) = USD). Success;;
+pub(crate) const DOUBLES: &str = "template d0() = transmit(a, b, r, t | kind(r) = USD). Success;;
 template d1() = d0() || d0();;
 template d2() = d1() || d1();;
 template d3() = d2() || d2();;

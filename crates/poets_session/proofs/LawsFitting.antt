@@ -165,6 +165,7 @@ command_fits : (names : Table) {ts : List Tok} {command : plain.Command} → IsC
 command_fits names (IsCommand.Register c) h = let a = contract_fits names c h.1.1.1 in ((h.1.0, a.0.0), a.0.1)
 command_fits names (IsCommand.Transmit {n = n}) h =
     ((h.1.0, h.1.1.0, h.1.1.1.0, search rules, h.1.1.1.1.1.0), (whole n h.1.1.1.1.0, h.1.1.1.1.1.1.0))
+command_fits names IsCommand.Void h = (h.1.0, h.1.1.0)
 command_fits names IsCommand.End h = (h.1.0, tt)
 command_fits names IsCommand.Show h = (h.1.0, tt)
 command_fits names (IsCommand.Tally r) h = let a = arguments_fit names r h.1.1 in ((h.1.0, a.0), a.1)

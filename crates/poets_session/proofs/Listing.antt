@@ -227,6 +227,7 @@ question names declared x (Some q) args h k = arguments names declared [] x q.pa
 command : (names : Table) (book : Book) (reports : List plain.Report) (r : plain.Command) → CanWriteCommand names r → Tells names (check_command book reports r)
 command names book reports (plain.Command.Register x c) h = contract names book (report_names reports) [] c h.1
 command names book reports (plain.Command.Transmit x e) h = event names book.declared e h.1 h.2 h.4
+command names book reports (plain.Command.Void x k) h = tt
 command names book reports (plain.Command.End x) h = tt
 command names book reports (plain.Command.Show x) h = tt
 command names book reports (plain.Command.Tally x args) h = question names book.declared x (report_in reports x) args h.0 h.1

@@ -1,179 +1,372 @@
 -- Lists of events in pieces.
-use Rattle.std.proofs.Common.{◌≡◌, ℕ, zero, suc, ◌+◌, ◌*◌, ◌-◌, ◌≤◌, ◌<◌, List, [], ◌∷◌, ◌++◌, Option, Some, None, length, take, drop, slice_get, slice_index_or, option_map, true, false, nat_lt, refl, sym, ◌∙◌, ap, subst, arith}
-use Rattle.std.specs.List.{All, flat_map}
+use Rattle.std.proofs.Common.{◌≡◌, ℕ, zero, suc, ◌+◌, ◌*◌, ◌-◌, ◌≤◌, ◌<◌, List, [], ◌∷◌, ◌++◌, Option, Some, None, length, set, take, drop, slice_get, slice_index_or, option_map, nat_eq, nat_lt, if◌then◌else◌, refl, sym, ◌∙◌, ap, ap₂, subst, arith}
+use Rattle.std.specs.List.{All, last_or, remove}
 use Rattle.std.proofs.lemmas.Bool.Decides.{nat_tests}
-use Rattle.std.proofs.lemmas.List.{append-nil, append_assoc, length-append, length-map}
-use Rattle.std.proofs.lemmas.List.Elements.{All-head, All-tail, All-push}
+use Rattle.std.proofs.lemmas.List.{append-nil, length-append, length-map, length-set, set-append_left, set_at, take-append-drop, take-append-le, take-map, take_all, take_more}
 use Rattle.std.proofs.lemmas.List.Concat.{flat_map-append}
-use Rattle.std.proofs.Math.Seq.{take-add, take-append_seam, drop-append_seam, drop-append-add}
+use Rattle.std.proofs.lemmas.List.Edits.{length-remove, remove-append_left, remove-append_right}
+use Rattle.std.proofs.lemmas.List.Elements.{All-get_or, All-head, All-set, All-tail, All-take}
+use Rattle.std.proofs.lemmas.Option.{get_or_from_slice_get, slice_get-map, slice_get_within}
 use Rattle.poets_value.specs.declared.event.Event.{Event}
 use Rattle.std.specs.declared.alloc.Global.{Global}
 use Rattle.std.specs.declared.sync.Arc.{Arc}
 use Rattle.std.specs.Arc.{arc_value}
-use Rattle.std.specs.Bool.{IsTrue}
 use Rattle.poets_value.specs.Listed.{Listed}
-use Rattle.poets_table.specs.Pieces.{piece_length, pieces_of, joined, piece_at, AreSealed}
-use Rattle.poets_table.proofs.Setting.{index_get, map_get}
+use Rattle.poets_table.specs.Pieces.{AreShort, IsPieceOf, is_full, joined, last_start, most_pieces, piece_length, pieces_of, starts_from, starts_of, starts_without}
+use Rattle.poets_table.specs.code.Rows.{IsPlaceIn, IsWithout}
+use Rattle.poets_table.proofs.Setting.{index_get}
 
-abbrev Full : List (List Event) → Type 0
-Full ps = All (λ p. length p ≡ piece_length) ps
+abbrev Pieces : Type 0
+Pieces = List (List Event)
 
-length-joined_full : (ps : List (List Event)) (last : List Event) → Full ps → length (joined ps last) ≡ length ps * piece_length + length last
-length-joined_full [] last full = let e : length (joined [] last) ≡ length last = refl in omega (arith, e)
-length-joined_full (p ∷ ps) last full =
-    let here = All-head (λ p. length p ≡ piece_length) p ps full in
-    let more = length-joined_full ps last (All-tail (λ p. length p ≡ piece_length) p ps full) in
-    let parts : joined (p ∷ ps) last ≡ p ++ joined ps last = append_assoc p (flat_map (λ q. q) ps) last in
-    let len = ap length parts ∙ length-append p (joined ps last) in
+abbrev IsShort : List Event → Type 0
+IsShort p = length p ≤ piece_length
+
+-- ---- joined pieces
+
+pub joined-push : (ps : Pieces) (last : List Event) → joined (ps ++ last ∷ []) ≡ joined ps ++ last
+joined-push ps last = flat_map-append (λ p. p) ps (last ∷ []) ∙ ap (λ xs. joined ps ++ xs) (append-nil last)
+
+pub length-joined-push : (ps : Pieces) (last : List Event) → length (joined (ps ++ last ∷ [])) ≡ length (joined ps) + length last
+length-joined-push ps last = ap length (joined-push ps last) ∙ length-append (joined ps) last
+
+pub joined-short : (ps : Pieces) → All IsShort ps → length (joined ps) ≤ length ps * piece_length
+joined-short [] short = omega arith
+joined-short (p ∷ ps) short =
+    let here = All-head IsShort p ps short in
+    let more = joined-short ps (All-tail IsShort p ps short) in
+    let len = length-append p (joined ps) in
     omega (arith, here, more, len)
 
-pub length-joined : (ps : List (List Event)) (last : List Event) → AreSealed ps → length (joined ps last) ≡ length ps * piece_length + length last
-length-joined ps last sealed = length-joined_full ps last sealed.1
+-- the pieces up to a place and that at the place
+pub pieces-more : (i : ℕ) (ps : Pieces) (p : List Event) → slice_get ps i ≡ Some p → joined (take i ps) ++ p ≡ joined (take (i + 1) ps)
+pieces-more i ps p e =
+    sym (joined-push (take i ps) p)
+    ∙ ap joined (sym (take_more ps i p (slice_get_within ps i p e) ∙ ap (λ q. take i ps ++ q ∷ []) (get_or_from_slice_get ps i p p e)))
 
-take_whole : (p rest : List Event) → length p ≡ piece_length → take piece_length (p ++ rest) ≡ p
-take_whole p rest e = subst (λ n. take n (p ++ rest) ≡ p) e (take-append_seam p rest)
+length-more : (i : ℕ) (ps : Pieces) (p : List Event) → slice_get ps i ≡ Some p → length (joined (take (i + 1) ps)) ≡ length (joined (take i ps)) + length p
+length-more i ps p e = ap length (sym (pieces-more i ps p e)) ∙ length-append (joined (take i ps)) p
 
-piece_at_later : (i : ℕ) (p rest : List Event) → length p ≡ piece_length → piece_at (suc i) (p ++ rest) ≡ piece_at i rest
-piece_at_later i p rest e =
-    let n : suc i * piece_length ≡ length p + i * piece_length = omega (arith, e) in
-    ap (λ m. take piece_length (drop m (p ++ rest))) n ∙ ap (take piece_length) (drop-append-add p rest (i * piece_length))
+-- all pieces are the list
+pub pieces-all : (i : ℕ) (ps : Pieces) → length ps ≤ i → joined (take i ps) ≡ joined ps
+pieces-all i ps h = ap joined (take_all i ps h)
 
-piece_sealed : (ps : List (List Event)) (last : List Event) (i : ℕ) (p : List Event) → Full ps → slice_get ps i ≡ Some p → piece_at i (joined ps last) ≡ p
-piece_sealed [] last i p full e = absurd cc
-piece_sealed (q ∷ ps) last zero p full e =
-    let here = All-head (λ p. length p ≡ piece_length) q ps full in
+-- ---- where pieces begin
+
+pub starts-push : (n : ℕ) (ps : Pieces) (last : List Event) → starts_from n (ps ++ last ∷ []) ≡ starts_from n ps ++ (n + length (joined ps)) ∷ []
+starts-push n [] last = let e : n ≡ n + 0 = omega arith in ap (λ m. m ∷ []) e
+starts-push n (p ∷ ps) last =
+    let len = length-append p (joined ps) in
+    let e : (n + length p) + length (joined ps) ≡ n + length (p ++ joined ps) = omega (arith, len) in
+    ap (λ ms. n ∷ ms) (starts-push (n + length p) ps last ∙ ap (λ m. starts_from (n + length p) ps ++ m ∷ []) e)
+
+last_start-push : (starts : List ℕ) (n : ℕ) → last_start (starts ++ n ∷ []) ≡ n
+last_start-push [] n = refl
+last_start-push (m ∷ []) n = refl
+last_start-push (m ∷ m' ∷ starts) n = last_start-push (m' ∷ starts) n
+
+-- the last piece is full
+pub full-last : (ps : Pieces) (last : List Event) → nat_eq (length last) piece_length ≡ is_full (joined (ps ++ last ∷ [])) (starts_of (ps ++ last ∷ []))
+full-last ps last =
+    let start = ap last_start (starts-push 0 ps last) ∙ last_start-push (starts_from 0 ps) (0 + length (joined ps)) in
+    let len = length-joined-push ps last in
+    let e : length last ≡ length (joined (ps ++ last ∷ [])) - last_start (starts_of (ps ++ last ∷ [])) = omega (arith, start, len) in
+    ap (λ n. nat_eq n piece_length) e
+
+-- the last piece does not tell where the pieces begin
+pub starts-last : (ps : Pieces) (last last' : List Event) → starts_of (ps ++ last ∷ []) ≡ starts_of (ps ++ last' ∷ [])
+starts-last ps last last' = starts-push 0 ps last ∙ sym (starts-push 0 ps last')
+
+-- a new piece begins where the events end
+pub starts-next : (ps : Pieces) → starts_of (ps ++ [] ∷ []) ≡ starts_of ps ++ length (joined ps) ∷ []
+starts-next ps = starts-push 0 ps [] ∙ ap (λ n. starts_of ps ++ n ∷ []) (let e : 0 + length (joined ps) ≡ length (joined ps) = omega arith in e)
+
+pub joined-next : (ps : Pieces) → joined (ps ++ [] ∷ []) ≡ joined ps
+joined-next ps = joined-push ps [] ∙ append-nil (joined ps)
+
+pub length-starts : (n : ℕ) (ps : Pieces) → length (starts_from n ps) ≡ length ps
+length-starts n [] = refl
+length-starts n (p ∷ ps) = ap suc (length-starts (n + length p) ps)
+
+starts-get : (n : ℕ) (ps : Pieces) (i : ℕ) → i < length ps → slice_get (starts_from n ps) i ≡ Some (n + length (joined (take i ps)))
+starts-get n [] i h = absurd (omega (arith, h))
+starts-get n (p ∷ ps) zero h = let e : n ≡ n + 0 = omega arith in ap Some e
+starts-get n (p ∷ ps) (suc i) h =
+    let len = length-append p (joined (take i ps)) in
+    let e : (n + length p) + length (joined (take i ps)) ≡ n + length (p ++ joined (take i ps)) = omega (arith, len) in
+    starts-get (n + length p) ps i (omega (arith, h)) ∙ ap Some e
+
+-- a piece begins behind those before it
+start-at : (ps : Pieces) (i : ℕ) → i < length ps → slice_get (starts_of ps) i ≡ Some (length (joined (take i ps)))
+start-at ps i h = starts-get 0 ps i h ∙ ap Some (let e : 0 + length (joined (take i ps)) ≡ length (joined (take i ps)) = omega arith in e)
+
+-- ---- the piece of an event
+
+get-front : {A : Type 0} (xs ys : List A) (i : ℕ) (x : A) → slice_get xs i ≡ Some x → slice_get (xs ++ ys) i ≡ Some x
+get-front [] ys i x e = absurd cc
+get-front (y ∷ xs) ys zero x e = e
+get-front (y ∷ xs) ys (suc i) x e = get-front xs ys i x e
+
+get-behind : {A : Type 0} (xs : List A) (x : A) → slice_get (xs ++ x ∷ []) (length xs) ≡ Some x
+get-behind [] x = refl
+get-behind (y ∷ xs) x = get-behind xs x
+
+-- an event of a sealed piece stands there in all pieces
+pub place-sealed : (place number inside : ℕ) (ps : Pieces) (last : List Event) → IsPlaceIn ps place number inside → IsPlaceIn (ps ++ last ∷ []) place number inside
+place-sealed place number inside ps last h =
+    let below = slice_get_within ps number h.piece h.here in
+    record {
+      piece = h.piece;
+      here = get-front ps (last ∷ []) number h.piece h.here;
+      within = h.within;
+      ahead = h.ahead ∙ ap (λ qs. length (joined qs) + inside) (sym (take-append-le number ps (last ∷ []) (omega (arith, below))));
+    }
+
+-- the events behind those of the sealed pieces stand in the last one
+pub place-last : (place : ℕ) (ps : Pieces) (last : List Event) (ahead : ℕ) → ahead ≡ length (joined ps) → ahead ≤ place → place < length (joined (ps ++ last ∷ [])) →
+    IsPlaceIn (ps ++ last ∷ []) place (length ps) (place - ahead)
+place-last place ps last ahead e behind within =
+    let len = length-joined-push ps last in
+    let front = take-append-le (length ps) ps (last ∷ []) (omega arith) ∙ take_all (length ps) ps (omega arith) in
+    record {
+      piece = last;
+      here = get-behind ps last;
+      within = omega (arith, e, behind, within, len);
+      ahead = (let n : place ≡ length (joined ps) + (place - ahead) = omega (arith, e, behind) in n) ∙ ap (λ qs. length (joined qs) + (place - ahead)) (sym front);
+    }
+
+piece-short : (ps : Pieces) (i : ℕ) (p : List Event) → slice_get ps i ≡ Some p → All IsShort ps → length p ≤ piece_length
+piece-short ps i p e short =
+    subst IsShort (get_or_from_slice_get ps i p p e) (All-get_or IsShort ps i p (slice_get_within ps i p e) short)
+
+-- the next piece begins behind this one
+next-start : (n : ℕ) (ps : Pieces) (i m : ℕ) (p : List Event) → slice_get ps i ≡ Some p → slice_get (starts_from n ps) (suc i) ≡ Some m →
+    m ≡ (n + length (joined (take i ps))) + length p
+next-start n [] i m p e behind = absurd cc
+next-start n (q ∷ []) zero m p e behind = absurd cc
+next-start n (q ∷ r ∷ ps) zero m p e behind =
+    let same : length q ≡ length p = cc in
+    let here : n + length q ≡ m = cc in
+    omega (arith, same, here)
+next-start n (q ∷ ps) (suc i) m p e behind =
+    let len = length-append q (joined (take i ps)) in
+    let h = next-start (n + length q) ps i m p e behind in
+    omega (arith, len, h)
+
+-- its piece begins near, and the next one behind it
+pub piece-near : (place number inside : ℕ) (ps : Pieces) → IsPlaceIn ps place number inside → All IsShort ps → IsPieceOf place (starts_of ps) number
+piece-near place number inside ps h short =
+    let most = piece-short ps number h.piece h.here short in
+    let within = h.within in
+    let ahead = h.ahead in (
+      length (joined (take number ps)),
+      start-at ps number (slice_get_within ps number h.piece h.here),
+      omega (arith, ahead),
+      omega (arith, ahead, within, most),
+      (λ m behind. let next = next-start 0 ps number m h.piece h.here behind in omega (arith, ahead, within, next)),
+    )
+
+-- ---- one event taken out
+
+joined-without : (ps : Pieces) (i k : ℕ) (p : List Event) → slice_get ps i ≡ Some p → k < length p →
+    joined (set ps i (remove p k)) ≡ remove (joined ps) (length (joined (take i ps)) + k)
+joined-without [] i k p e h = absurd cc
+joined-without (q ∷ ps) zero k p e h =
     let same : q ≡ p = cc in
-    ap (take piece_length) (append_assoc q (flat_map (λ q. q) ps) last) ∙ take_whole q (joined ps last) here ∙ same
-piece_sealed (q ∷ ps) last (suc i) p full e =
-    let here = All-head (λ p. length p ≡ piece_length) q ps full in
-    ap (piece_at (suc i)) (append_assoc q (flat_map (λ q. q) ps) last) ∙ piece_at_later i q (joined ps last) here
-    ∙ piece_sealed ps last i p (All-tail (λ p. length p ≡ piece_length) q ps full) e
+    let n : length (joined (take 0 (q ∷ ps))) + k ≡ k = omega arith in
+    sym (remove-append_left p (joined ps) k h) ∙ ap (λ r. remove (r ++ joined ps) k) (sym same) ∙ ap (remove (joined (q ∷ ps))) (sym n)
+joined-without (q ∷ ps) (suc i) k p e h =
+    let len = length-append q (joined (take i ps)) in
+    let m : (length (q ++ joined (take i ps)) + k) - length q ≡ length (joined (take i ps)) + k = omega (arith, len) in
+    ap (λ r. q ++ r) (joined-without ps i k p e h ∙ ap (remove (joined ps)) (sym m))
+    ∙ sym (remove-append_right q (joined ps) (length q) (length (q ++ joined (take i ps)) + k) refl (omega (arith, len)))
 
--- a sealed piece stands at its place
-pub piece_at-sealed : (ps : List (List Event)) (last : List Event) (i : ℕ) (p : List Event) → AreSealed ps → slice_get ps i ≡ Some p → p ≡ piece_at i (joined ps last)
-piece_at-sealed ps last i p sealed e = sym (piece_sealed ps last i p sealed.1 e)
+-- a start that is not above the place stays
+start_stays : (place n : ℕ) → n ≤ place → (if nat_lt place n then n - 1 else n) ≡ n
+start_stays place n h = grind (arith, nat_tests, h)
 
-take_short : (n : ℕ) (xs : List Event) → length xs ≤ n → take n xs ≡ xs
-take_short zero [] h = refl
-take_short (suc n) [] h = refl
-take_short zero (x ∷ xs) h = absurd (omega (arith, h))
-take_short (suc n) (x ∷ xs) h = ap (λ ys. x ∷ ys) (take_short n xs (omega (arith, h)))
+start_falls : (place n : ℕ) → place < n → (if nat_lt place n then n - 1 else n) ≡ n - 1
+start_falls place n h = grind (arith, nat_tests, h)
 
--- and behind the sealed ones the last piece
-pub piece_at-last : (ps : List (List Event)) (last : List Event) → AreSealed ps → length last ≤ piece_length → last ≡ piece_at (length ps) (joined ps last)
-piece_at-last ps last sealed short =
-    let n : length ps * piece_length ≡ length (flat_map (λ p. p) ps) =
-    let whole = length-joined ps [] sealed in let e = ap length (append-nil (flat_map (λ p. p) ps)) in omega (arith, whole, e) in
-    sym (ap (take piece_length) (ap (λ m. drop m (joined ps last)) n ∙ drop-append_seam (flat_map (λ p. p) ps) last) ∙ take_short piece_length last short)
+-- all pieces behind the place begin one place earlier
+starts_fall : (place n : ℕ) (ps : Pieces) → place < n → starts_from (n - 1) ps ≡ starts_without place (starts_from n ps)
+starts_fall place n [] h = refl
+starts_fall place n (p ∷ ps) h =
+    let next : (n - 1) + length p ≡ (n + length p) - 1 = omega (arith, h) in
+    ap₂ (λ m ms. m ∷ ms) (sym (start_falls place n h)) (ap (λ m. starts_from m ps) next ∙ starts_fall place (n + length p) ps (omega (arith, h)))
 
--- a last piece that is sealed leaves the list
-pub joined-seal : (ps : List (List Event)) (last : List Event) → joined (ps ++ last ∷ []) [] ≡ joined ps last
-joined-seal ps last =
-    append-nil (flat_map (λ p. p) (ps ++ last ∷ [])) ∙ flat_map-append (λ p. p) ps (last ∷ []) ∙ ap (λ xs. flat_map (λ p. p) ps ++ xs) (append-nil last)
-
-pub AreSealed-push : (ps : List (List Event)) (last : List Event) → AreSealed ps → length last ≡ piece_length → All (λ p. length p ≡ piece_length) (ps ++ last ∷ [])
-AreSealed-push ps last sealed e = All-push (λ p. length p ≡ piece_length) ps last sealed.1 e
-
--- the last event of the list is that of its last piece
-pub last_in_last : (front last : List Event) → 0 < length last → slice_get last (length last - 1) ≡ slice_get (front ++ last) (length (front ++ last) - 1)
-last_in_last [] last h = refl
-last_in_last (x ∷ front) last h =
-    let len = length-append front last in
-    let n : length (x ∷ (front ++ last)) - 1 ≡ suc (length (front ++ last) - 1) = omega (arith, h, len) in
-    last_in_last front last h ∙ sym (ap (slice_get (x ∷ (front ++ last))) n)
-
--- and where the last piece is empty, of the last sealed one
-last_in_full : (ps : List (List Event)) (p : List Event) → Full ps → slice_get ps (length ps - 1) ≡ Some p →
-    slice_get p (length p - 1) ≡ slice_get (joined ps []) (length (joined ps []) - 1)
-last_in_full [] p full e = absurd cc
-last_in_full (q ∷ []) p full e =
+starts-without : (n : ℕ) (ps : Pieces) (i k : ℕ) (p : List Event) → slice_get ps i ≡ Some p → k < length p →
+    starts_from n (set ps i (remove p k)) ≡ starts_without (n + (length (joined (take i ps)) + k)) (starts_from n ps)
+starts-without n [] i k p e h = absurd cc
+starts-without n (q ∷ ps) zero k p e h =
     let same : q ≡ p = cc in
-    let whole : joined (q ∷ []) [] ≡ q = append-nil (q ++ []) ∙ append-nil q in
-    ap (λ xs. slice_get xs (length xs - 1)) (sym same ∙ sym whole)
-last_in_full (q ∷ q' ∷ ps) p full e =
-    let rest = All-tail (λ p. length p ≡ piece_length) q (q' ∷ ps) full in
-    let n : suc (suc (length ps)) - 1 ≡ suc (suc (length ps) - 1) = omega arith in
-    let more = last_in_full (q' ∷ ps) p rest (sym (ap (slice_get (q ∷ q' ∷ ps)) n) ∙ e) in
-    let some = length-joined_full (q' ∷ ps) [] rest in
-    more ∙ last_in_last q (joined (q' ∷ ps) []) (omega (arith, some)) ∙ ap (λ xs. slice_get xs (length xs - 1)) (sym (append_assoc q (flat_map (λ r. r) (q' ∷ ps)) []))
+    let here : n ≡ (if nat_lt (n + (0 + k)) n then n - 1 else n) = sym (start_stays (n + (0 + k)) n (omega arith)) in
+    let fewer = length-remove p k h in
+    let len = ap length same in
+    let next : n + length (remove p k) ≡ (n + length q) - 1 = omega (arith, fewer, len, h) in
+    ap₂ (λ m ms. m ∷ ms) here (ap (λ m. starts_from m ps) next ∙ starts_fall (n + (0 + k)) (n + length q) ps (omega (arith, len, h)))
+starts-without n (q ∷ ps) (suc i) k p e h =
+    let len = length-append q (joined (take i ps)) in
+    let place : (n + length q) + (length (joined (take i ps)) + k) ≡ n + (length (q ++ joined (take i ps)) + k) = omega (arith, len) in
+    let here : n ≡ (if nat_lt (n + (length (q ++ joined (take i ps)) + k)) n then n - 1 else n) =
+    sym (start_stays (n + (length (q ++ joined (take i ps)) + k)) n (omega arith)) in
+    ap₂ (λ m ms. m ∷ ms) here (starts-without (n + length q) ps i k p e h ∙ ap (λ m. starts_without m (starts_from (n + length q) ps)) place)
 
-pub last_in_sealed : (ps : List (List Event)) (p : List Event) → AreSealed ps → slice_get ps (length ps - 1) ≡ Some p →
-    slice_get p (length p - 1) ≡ slice_get (joined ps []) (length (joined ps []) - 1)
-last_in_sealed ps p sealed e = last_in_full ps p sealed.1 e
+module _ (place : ℕ) (old new : Pieces) (w : IsWithout place old new) where
+  -- pieces without the event at a place are the list without it
+  pub without-joined : joined new ≡ remove (joined old) place
+  without-joined =
+      ap joined w.changed ∙ joined-without old w.number w.inside w.at.piece w.at.here w.at.within ∙ ap (remove (joined old)) (sym w.at.ahead)
+
+  -- and those behind it begin one place earlier
+  pub without-starts : starts_of new ≡ starts_without place (starts_of old)
+  without-starts =
+      let e : 0 + (length (joined (take w.number old)) + w.inside) ≡ place = let h = w.at.ahead in omega (arith, h) in
+      ap starts_of w.changed ∙ starts-without 0 old w.number w.inside w.at.piece w.at.here w.at.within ∙ ap (λ n. starts_without n (starts_of old)) e
+
+  -- they are short too
+  pub without-short : AreShort old → AreShort new
+  without-short short =
+      let fewer = length-remove w.at.piece w.inside w.at.within in
+      let most = piece-short old w.number w.at.piece w.at.here short.1 in
+      let len = length-set old w.number (remove w.at.piece w.inside) in
+      let few = short.0 in
+      subst AreShort (sym w.changed) (omega (arith, len, few), All-set IsShort old w.number (remove w.at.piece w.inside) (omega (arith, fewer, most)) short.1)
+
+  -- and have one event less
+  pub without-ahead : place < length (joined old) → length (joined new) + 1 ≡ length (joined old)
+  without-ahead h = let e = ap length without-joined in let len = length-remove (joined old) place h in omega (arith, e, len)
+
+  -- also with a last piece behind them
+  pub without-sealed : (last : List Event) → IsWithout place (old ++ last ∷ []) (new ++ last ∷ [])
+  unfolding place-sealed
+  without-sealed last = record {
+    number = w.number;
+    inside = w.inside;
+    at = place-sealed place w.number w.inside old last w.at;
+    changed = ap (λ ps. ps ++ last ∷ []) w.changed
+        ∙ sym (set-append_left old (last ∷ []) w.number (remove w.at.piece w.inside) (slice_get_within old w.number w.at.piece w.at.here));
+  }
+
+-- an event of the last piece is out
+pub without-last : (place : ℕ) (ps : Pieces) (last : List Event) (ahead : ℕ) → ahead ≡ length (joined ps) → ahead ≤ place → place < length (joined (ps ++ last ∷ [])) →
+    IsWithout place (ps ++ last ∷ []) (ps ++ remove last (place - ahead) ∷ [])
+unfolding place-last
+without-last place ps last ahead e behind within = record {
+  number = length ps;
+  inside = place - ahead;
+  at = place-last place ps last ahead e behind within;
+  changed = sym (set_at ps last [] (remove last (place - ahead)) (length ps) refl);
+}
+
+-- ---- the last event
+
+last_or-append : (o : Option Event) (xs ys : List Event) → last_or o (xs ++ ys) ≡ last_or (last_or o xs) ys
+last_or-append o [] ys = refl
+last_or-append o (x ∷ xs) ys = last_or-append (Some x) xs ys
+
+last_or-get : (o : Option Event) (e : Event) (xs : List Event) → last_or o (e ∷ xs) ≡ slice_get (e ∷ xs) (length (e ∷ xs) - 1)
+last_or-get o e [] = refl
+last_or-get o e (x ∷ xs) =
+    let n : suc (suc (length xs)) - 1 ≡ suc (suc (length xs) - 1) = omega arith in
+    last_or-get (Some e) x xs ∙ sym (ap (slice_get (e ∷ x ∷ xs)) n)
+
+last_or-last : (xs : List Event) → last_or None xs ≡ slice_get xs (length xs - 1)
+last_or-last [] = refl
+last_or-last (x ∷ xs) = last_or-get None x xs
+
+-- the last of some events, and what was last before where there is none
+pub last_or-some : (o : Option Event) (xs : List Event) (e : Event) → Some e ≡ slice_get xs (length xs - 1) → Some e ≡ last_or o xs
+last_or-some o [] e h = absurd cc
+last_or-some o (x ∷ xs) e h = h ∙ sym (last_or-get o x xs)
+
+last_or-none : (o : Option Event) (xs : List Event) → None ≡ slice_get xs (length xs - 1) → o ≡ last_or o xs
+last_or-none o [] h = refl
+last_or-none o (x ∷ xs) h = absurd (let e = h ∙ sym (last_or-get None x xs) in let k = last_some None x xs in cc)
+  where
+    last_some : (o : Option Event) (e : Event) (xs : List Event) → (f : Event) × (last_or o (e ∷ xs) ≡ Some f)
+    last_some o e [] = (e, refl)
+    last_some o e (x ∷ xs) = last_some (Some e) x xs
+
+last-joined : (ps : Pieces) (last : List Event) →
+    last_or (last_or None (joined ps)) last ≡ slice_get (joined (ps ++ last ∷ [])) (length (joined (ps ++ last ∷ [])) - 1)
+last-joined ps last = sym (last_or-append None (joined ps) last) ∙ ap (last_or None) (sym (joined-push ps last)) ∙ last_or-last (joined (ps ++ last ∷ []))
+
+-- the last event of the last piece is the last of all
+pub last-there : (ps : Pieces) (last : List Event) (e : Event) → Some e ≡ slice_get last (length last - 1) →
+    Some e ≡ slice_get (joined (ps ++ last ∷ [])) (length (joined (ps ++ last ∷ [])) - 1)
+last-there ps last e h = last_or-some (last_or None (joined ps)) last e h ∙ last-joined ps last
+
+-- and where the last piece is empty, that of the others
+pub last-before : (ps : Pieces) (last : List Event) (o : Option Event) → None ≡ slice_get last (length last - 1) → o ≡ last_or None (joined ps) →
+    o ≡ slice_get (joined (ps ++ last ∷ [])) (length (joined (ps ++ last ∷ [])) - 1)
+last-before ps last o h e = e ∙ last_or-none (last_or None (joined ps)) last h ∙ last-joined ps last
+
+-- ---- shared pieces
 
 abbrev Shared : Type 0
 Shared = Arc (Listed Event) Global
 
-abbrev events_in : Shared → List Event
+abbrev pub events_in : Shared → List Event
 events_in p = (arc_value {X = Listed Event} p).items
 
 pub length-pieces_of : (ps : List Shared) → length (pieces_of ps) ≡ length ps
 length-pieces_of ps = length-map ps events_in
 
-pieces_of-get : (ps : List Shared) (i : ℕ) (p : Shared) → slice_get ps i ≡ Some p → slice_get (pieces_of ps) i ≡ Some (events_in p)
-pieces_of-get ps i p e = map_get events_in ps i ∙ ap (option_map events_in) e
+-- a shared piece at its place
+pub shared-at : (ps : List Shared) (i : ℕ) (p : Shared) → i < length ps → p ≡ slice_index_or ps i p → slice_get (pieces_of ps) i ≡ Some (events_in p)
+shared-at ps i p lt at = slice_get-map events_in ps i ∙ ap (option_map events_in) (index_get ps i p lt at)
 
--- a shared piece stands at its place, and the list goes on past its start
-pub piece_at-shared : (ps : List Shared) (last : List Event) (i : ℕ) (p : Shared) → AreSealed (pieces_of ps) → i < length ps → p ≡ slice_index_or ps i p →
-    events_in p ≡ piece_at i (joined (pieces_of ps) last)
-piece_at-shared ps last i p sealed h e = piece_at-sealed (pieces_of ps) last i (events_in p) sealed (pieces_of-get ps i p (index_get ps i p h e))
+length-pieces : (ps : List Shared) (last : List Event) → length (pieces_of ps ++ last ∷ []) ≡ length ps + 1
+length-pieces ps last = length-append (pieces_of ps) (last ∷ []) ∙ ap (λ n. n + 1) (length-pieces_of ps)
 
-pub is_below : (i n : ℕ) → true ≡ nat_lt i n → i < n
-is_below i n e = grind (arith, nat_tests, e)
-
-pub is_not_below : (i n : ℕ) → false ≡ nat_lt i n → n ≤ i
-is_not_below i n e = grind (arith, nat_tests, e)
-
-pub some_event : (xs : List Event) → (xs ≡ [] → IsTrue false) → 0 < length xs
-some_event [] h = absurd (let e = h refl in cc)
-some_event (x ∷ xs) h = omega arith
-
-pub past_shared : (ps : List Shared) (last : List Event) (i : ℕ) → AreSealed (pieces_of ps) → i < length ps → i * piece_length < length (joined (pieces_of ps) last)
-past_shared ps last i sealed h =
-    let whole = length-joined (pieces_of ps) last sealed in
+-- a sealed piece or the last one begins behind the sealed ones before it
+pub start-there : (ps : List Shared) (last : List Event) (i n : ℕ) → i < length (pieces_of ps ++ last ∷ []) → n ≡ length (joined (pieces_of (take i ps))) →
+    slice_get (starts_of (pieces_of ps ++ last ∷ [])) i ≡ Some n
+start-there ps last i n lt e =
+    let len = length-pieces ps last in
     let count = length-pieces_of ps in
-    omega (arith, h, whole, count)
+    start-at (pieces_of ps ++ last ∷ []) i lt
+    ∙ ap (λ qs. Some (length (joined qs))) (take-append-le i (pieces_of ps) (last ∷ []) (omega (arith, lt, len, count)) ∙ take-map events_in i ps)
+    ∙ ap Some (sym e)
 
-pub piece_at-behind : (ps : List Shared) (last : List Event) (i : ℕ) → AreSealed (pieces_of ps) → length last ≤ piece_length → i ≡ length ps →
-    last ≡ piece_at i (joined (pieces_of ps) last)
-piece_at-behind ps last i sealed short e =
-    subst (λ n. last ≡ piece_at n (joined (pieces_of ps) last)) (length-pieces_of ps ∙ sym e) (piece_at-last (pieces_of ps) last sealed short)
+length-front : (ps : Pieces) (i : ℕ) → length (take i ps) ≤ length ps
+length-front [] zero = omega arith
+length-front [] (suc i) = omega arith
+length-front (p ∷ ps) zero = omega arith
+length-front (p ∷ ps) (suc i) = let h = length-front ps i in omega (arith, h)
 
--- the list goes on past this place exactly where there is a last piece
-pub past_behind : (ps : List Shared) (last : List Event) (i : ℕ) → AreSealed (pieces_of ps) → i ≡ length ps →
-    length (joined (pieces_of ps) last) ≡ i * piece_length + length last
-past_behind ps last i sealed e =
-    let whole = length-joined (pieces_of ps) last sealed in
-    let count = length-pieces_of ps in
-    omega (arith, e, whole, count)
+-- the first of shared pieces are short too
+pub front-short : (ps : List Shared) (i : ℕ) → AreShort (pieces_of ps) → AreShort (pieces_of (take i ps))
+front-short ps i short =
+    let few = length-front (pieces_of ps) i in
+    let most = short.0 in
+    subst AreShort (take-map events_in i ps) (omega (arith, few, most), All-take IsShort i (pieces_of ps) short.1)
 
-pub past_all : (ps : List Shared) (last : List Event) (i : ℕ) → AreSealed (pieces_of ps) → length last ≤ piece_length → length ps < i →
-    length (joined (pieces_of ps) last) ≤ i * piece_length
-past_all ps last i sealed short h =
-    let whole = length-joined (pieces_of ps) last sealed in
-    let count = length-pieces_of ps in
-    omega (arith, h, short, whole, count)
+-- ---- along the pieces
 
-none_last : (xs : List Event) → None ≡ slice_get xs (length xs - 1) → xs ≡ []
-none_last [] e = refl
-none_last (x ∷ []) e = absurd cc
-none_last (x ∷ y ∷ xs) e = let n : suc (suc (length xs)) - 1 ≡ suc (suc (length xs) - 1) = omega arith in
-    absurd (let h = none_last (y ∷ xs) (e ∙ ap (slice_get (x ∷ y ∷ xs)) n) in cc)
+pub place-next : (ps : Pieces) (i place left : ℕ) (p : List Event) → slice_get ps i ≡ Some p → place ≡ length (joined (take i ps)) + left → length p ≤ left →
+    place ≡ length (joined (take (i + 1) ps)) + (left - length p)
+place-next ps i place left p e h far = let len = length-more i ps p e in omega (arith, h, far, len)
 
--- where the last piece is empty, the last event is that of the last sealed piece
-pub last_shared : (ps : List Shared) (last : List Event) (p : Shared) (o : Option Event) → AreSealed (pieces_of ps) →
-    None ≡ slice_get last (length last - 1) → Some p ≡ slice_get ps (length ps - 1) → o ≡ slice_get (events_in p) (length (events_in p) - 1) →
-    o ≡ slice_get (joined (pieces_of ps) last) (length (joined (pieces_of ps) last) - 1)
-last_shared ps last p o sealed none e h =
-    let here = ap (λ n. slice_get (pieces_of ps) (n - 1)) (length-pieces_of ps) ∙ pieces_of-get ps (length ps - 1) p (sym e) in
-    h ∙ last_in_sealed (pieces_of ps) (events_in p) sealed here
-    ∙ ap (λ xs. slice_get (joined (pieces_of ps) xs) (length (joined (pieces_of ps) xs) - 1)) (sym (none_last last none))
+-- the pieces up to a place are no more than all
+front-within : (ps : Pieces) (i : ℕ) → length (joined (take i ps)) ≤ length (joined ps)
+front-within ps i =
+    let whole = ap (λ qs. length (joined qs)) (sym (take-append-drop i ps)) ∙ ap length (flat_map-append (λ p. p) (take i ps) (drop i ps)) in
+    let len = length-append (joined (take i ps)) (joined (drop i ps)) in
+    omega (arith, whole, len)
 
--- the pieces up to a place and that at the place
-pub pieces_more : (i : ℕ) (xs : List Event) → take (i * piece_length) xs ++ piece_at i xs ≡ take ((i + 1) * piece_length) xs
-pieces_more i xs =
-    sym (take-add (i * piece_length) piece_length xs) ∙ ap (λ n. take n xs) (let k : i * piece_length + piece_length ≡ (i + 1) * piece_length = omega arith in k)
+pub count-fits : (ps : Pieces) (i : ℕ) (p : List Event) → AreShort ps → slice_get ps i ≡ Some p → length (joined (take i ps)) + length p ≤ most_pieces * piece_length
+count-fits ps i p short e =
+    let len = length-more i ps p e in
+    let within = front-within ps (i + 1) in
+    let most = joined-short ps short.1 in
+    let few = short.0 in
+    omega (arith, len, within, most, few)
 
--- all pieces are the list
-pub pieces_all : (i : ℕ) (xs : List Event) → length xs ≤ i * piece_length → take (i * piece_length) xs ≡ xs
-pieces_all i xs h = take_short (i * piece_length) xs h
+pub count-next : (ps : Pieces) (i count : ℕ) (p : List Event) → slice_get ps i ≡ Some p → count ≡ length (joined (take i ps)) → count + length p ≡ length (joined (take (i + 1) ps))
+count-next ps i count p e h = let len = length-more i ps p e in omega (arith, len, h)
+
+pub last-next : (ps : Pieces) (i : ℕ) (p : List Event) (o : Option Event) → slice_get ps i ≡ Some p → o ≡ last_or None (joined (take i ps)) → last_or o p ≡ last_or None (joined (take (i + 1) ps))
+last-next ps i p o e h =
+    ap (λ o. last_or o p) h ∙ sym (last_or-append None (joined (take i ps)) p) ∙ ap (last_or None) (pieces-more i ps p e)

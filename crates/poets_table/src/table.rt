@@ -1,9 +1,12 @@
 //! Rows by name, and a log.
-ghost use Rattle.std.specs.Prelude.{◌≡◌, map, ◌+◌, ◌-◌, ◌≤◌, ◌<◌, ◌++◌, ◌∷◌, [], true, false, length, IfOk, OnOk, IsOk, OnErr, Some, None, slice_get};
-ghost use Rattle.poets_table.specs.TableView.{AreEventsOf, IsLive, IsSameButRoom, changed_at, finished, number_named, recorded, row_view, with_event, with_row};
-ghost use Rattle.poets_table.specs.code.Rows.{HasChangedAt, HasRoomAt, rooms_of};
+ghost use Rattle.std.specs.Prelude.{◌≡◌, ◌+◌, ◌-◌, ◌≤◌, ◌<◌, ◌++◌, ◌∷◌, [], length, remove, IfOk, OnOk, IsOk, OnErr, Some, None, slice_get};
+ghost use Rattle.poets_table.specs.Pieces.{joined};
+ghost use Rattle.poets_table.specs.TableView.{AreEventsOf, Cuts, IsCutOf, IsLive, IsPlaceOf, IsSameButRoom, changed_at, events_with, finished, number_named, place_in_log, recorded, row_view, taken_out, with_room, with_row};
+ghost use Rattle.poets_table.specs.code.Rows as spec;
 
+use crate::cut::Cut;
 use crate::events::Events;
+use crate::rows::{append_at, end_at, new_row, replace_at, room_at};
 use indexmap::IndexSet;
 use poets_value::{Event, List, Memory, Name};
 use std::alloc::Global;
@@ -17,8 +20,10 @@ pub struct Row<O, T> {
     /// The contract as it was registered, shared with who registered it.
     pub original: Arc<O>,
     /// What is still owed.
-    pub current: T,
+    pub current: Arc<T>,
     pub events: Events,
+    /// For each piece of the events, what was owed ahead of it.
+    pub points: List<Arc<T>>,
     pub ended: bool,
 }
 
@@ -38,7 +43,7 @@ impl<O, T> Model for Table<O, T> {
 
     ghost use Rattle.std.specs.Prelude.{map};
     ghost use Rattle.poets_table.specs.TableView.{row_view};
-    ghost use Rattle.poets_table.specs.Kept.{AreNames, IsReady};
+    ghost use Rattle.poets_table.specs.Kept.{AreNames, AreOfLog, IsReady};
 
     ghost view = { λ t. record {
       rows = map row_view t.rows.items;
@@ -46,7 +51,9 @@ impl<O, T> Model for Table<O, T> {
       ready = t.ready;
     } };
 
-    ghost invariant = { λ t. AreNames t.names.keys t.rows.items × IsReady t.ready t.rows.items t.log };
+    ghost invariant = { λ t.
+        AreNames t.names.keys t.rows.items × IsReady t.ready t.rows.items t.log
+        × AreOfLog (map row_view t.rows.items) t.log.items };
 }
 
 impl<O, T> Table<O, T> {
@@ -80,7 +87,7 @@ impl<O, T> Table<O, T> {
     /// The events of the row with a number, as they are now. The sealed pieces are shared with the row.
     pub fn events(&self, number: u64) -> Result<Events, Memory>
         requires { IsLive number self.now.rows }
-        ensures { IfOk result (λ e. AreEventsOf number self.now.rows e.items) }
+        ensures { IfOk result (λ e. AreEventsOf number self.now.rows (joined e.pieces)) }
     {
         self.row(number).events.share()
     }
@@ -96,19 +103,30 @@ impl<O, T> Table<O, T> {
         Some(place as u64 + 1)
     }
 
-    /// Makes room for one event of the row with the number and of the log.
-    pub fn room(&mut self, number: u64) -> Result<(), Memory>
-        requires { IsLive number self.old.rows }
-        ensures rows { self.new.rows ≡ self.old.rows }
-        ensures log { self.new.log ≡ self.old.log }
-        ensures ok { OnOk result (self.new.ready ≡ number) }
-        ensures err { OnErr result (self.new.ready ≡ 0) }
+    /// The place in the log of the event at a place, from 0, of the row with the number.
+    pub fn log_place(&self, number: u64, place: u64) -> u64
+        requires live { IsLive number self.now.rows }
+        requires place { IsPlaceOf number place self.now.rows }
+        ensures { result ≡ place_in_log number place self.now.log }
     {
-        self.ready = 0;
-        self.log.reserve(1)?;
-        room_at(&mut self.rows, (number - 1) as usize)?;
-        self.ready = number;
-        Ok(())
+        let count = self.row(number).events.len() as u64;
+        pair_place(self.log.as_slice(), number, count - 1 - place) as u64
+    }
+
+    /// Prepares to take the event at a place, from 0, out of the row with the number. Nothing is changed.
+    pub fn cut(&self, number: u64, place: u64) -> Result<Cut, Memory>
+        requires live { IsLive number self.now.rows }
+        requires place { IsPlaceOf number place self.now.rows }
+        ensures { IfOk result (Cuts number place self.now) }
+    {
+        let log_place = self.log_place(number, place);
+        let rest = self.row(number).events.without(place as usize)?;
+        Ok(Cut {
+            number,
+            place,
+            log_place,
+            rest,
+        })
     }
 
     /// Ends the row with the number.
@@ -133,70 +151,9 @@ fn note(log: &mut List<(u64, Event)>, number: u64, event: &Event)
     }
 }
 
-/// Makes room for an event.
-fn room_in<O, T>(row: &mut Row<O, T>) -> Result<(), Memory>
-    ensures same { row_view row.new ≡ row_view row.old }
-    ensures name { row.new.name ≡ row.old.name }
-    ensures ok { OnOk result (0 < row.new.events.room) }
-{
-    row.events.make_room()
-}
-
-/// Makes room for an event in the row at a place.
-#[tactic(auto, using(crate::proofs::Setting::set_map, crate::proofs::Setting::set_same, crate::proofs::Setting::set_get, crate::proofs::Setting::index_get))]
-fn room_at<O, T>(rows: &mut Vec<Row<O, T>>, place: usize) -> Result<(), Memory>
-    requires { place < length rows.old.items }
-    ensures same { map row_view rows.new.items ≡ map row_view rows.old.items }
-    ensures names { map (λ r. r.name) rows.new.items ≡ map (λ r. r.name) rows.old.items }
-    ensures ok { OnOk result (HasRoomAt place rows.new.items) }
-{
-    room_in(&mut rows[place])
-}
-
-/// Ends the row at a place.
-#[tactic(auto, using(crate::proofs::Setting::set_map, crate::proofs::Setting::set_same, crate::proofs::Setting::set_get, crate::proofs::Setting::index_get))]
-fn end_at<O, T>(rows: &mut Vec<Row<O, T>>, place: usize)
-    requires { place < length rows.old.items }
-    ensures same { HasChangedAt finished place rows.old.items rows.new.items }
-    ensures names { map (λ r. r.name) rows.new.items ≡ map (λ r. r.name) rows.old.items }
-    ensures rooms { rooms_of rows.new.items ≡ rooms_of rows.old.items }
-{
-    end(&mut rows[place]);
-}
-
-/// Adds an event to the row at a place.
-#[tactic(auto, using(crate::proofs::Setting::set_map, crate::proofs::Setting::set_same, crate::proofs::Setting::set_get, crate::proofs::Setting::index_get))]
-fn append_at<O, T: Drop>(rows: &mut Vec<Row<O, T>>, place: usize, event: Event, current: T)
-    requires place { place < length rows.old.items }
-    requires room { HasRoomAt place rows.old.items }
-    ensures same { HasChangedAt (with_event event current) place rows.old.items rows.new.items }
-    ensures names { map (λ r. r.name) rows.new.items ≡ map (λ r. r.name) rows.old.items }
-{
-    append(&mut rows[place], event, current);
-}
-
-/// Ends the row.
-fn end<O, T>(row: &mut Row<O, T>)
-    ensures same { row_view row.new ≡ finished (row_view row.old) }
-    ensures name { row.new.name ≡ row.old.name }
-    ensures room { row.new.events.room ≡ row.old.events.room }
-{
-    row.ended = true;
-}
-
-/// Adds an event that there is room for.
-fn append<O, T: Drop>(row: &mut Row<O, T>, event: Event, current: T)
-    requires { 0 < row.old.events.room }
-    ensures same { row_view row.new ≡ with_event event current (row_view row.old) }
-    ensures name { row.new.name ≡ row.old.name }
-{
-    row.events.add(event);
-    row.current = current;
-}
-
 impl<O: Drop, T: Drop> Table<O, T> {
     /// Adds a row at the end, and answers its number. The room that was made is given up.
-    pub fn add(&mut self, name: Name, original: Arc<O>, current: T) -> Result<u64, Memory>
+    pub fn add(&mut self, name: Name, original: Arc<O>, current: Arc<T>) -> Result<u64, Memory>
         requires { number_named name self.old.rows ≡ None }
         ensures ok { IfOk result (λ n. n ≡ length self.old.rows + 1) }
         ensures rows { OnOk result (self.new.rows ≡ with_row name original current self.old.rows) }
@@ -213,13 +170,7 @@ impl<O: Drop, T: Drop> Table<O, T> {
             return Err(Memory);
         };
         let number = self.names.len() as u64 + 1;
-        let row = Row {
-            name,
-            original,
-            current,
-            events: Events::new(alloc),
-            ended: false,
-        };
+        let row = new_row(alloc, name, original, current)?;
         let Ok(()) = self.rows.push(row) else {
             unreachable!();
         };
@@ -229,9 +180,26 @@ impl<O: Drop, T: Drop> Table<O, T> {
         Ok(number)
     }
 
+    /// Makes room for one event of the row with the number and of the log. Where the last piece of the row is full, a
+    /// new one begins.
+    pub fn room(&mut self, number: u64) -> Result<(), Memory>
+        requires { IsLive number self.old.rows }
+        ensures ok { OnOk result (self.new.rows ≡ changed_at with_room (number - 1) self.old.rows) }
+        ensures log { self.new.log ≡ self.old.log }
+        ensures ready { OnOk result (self.new.ready ≡ number) }
+        ensures err { OnErr result (IsSameButRoom self.old self.new) }
+        ensures unready { OnErr result (self.new.ready ≡ 0) }
+    {
+        self.ready = 0;
+        self.log.reserve(1)?;
+        room_at(&mut self.rows, (number - 1) as usize)?;
+        self.ready = number;
+        Ok(())
+    }
+
     /// Adds an event to the row with the number, whose `current` this replaces, and to the log.
-    /// `room` has to have been called for this row, with no `add`, `enter` or failed `room` since.
-    pub fn enter(&mut self, number: u64, event: Event, current: T)
+    /// `room` has to have been called for this row, with no `add`, `enter`, `take_out` or failed `room` since.
+    pub fn enter(&mut self, number: u64, event: Event, current: Arc<T>)
         requires live { IsLive number self.old.rows }
         requires ready { self.old.ready ≡ number }
         ensures rows { self.new.rows ≡ recorded number event current self.old.rows }
@@ -241,5 +209,51 @@ impl<O: Drop, T: Drop> Table<O, T> {
         self.ready = 0;
         note(&mut self.log, number, &event);
         append_at(&mut self.rows, (number - 1) as usize, event, current);
+    }
+
+    /// Takes the event of a cut out of its row, and its pair out of the log. The row's `current` and `points` are then
+    /// these, a point for each piece of the cut.
+    pub fn take_out(&mut self, cut: Cut, current: Arc<T>, points: List<Arc<T>>)
+        requires cut { IsCutOf self.old.rows self.old.log cut }
+        requires points { length points.items ≡ length cut.starts }
+        ensures rows { self.new.rows ≡ taken_out cut current points self.old.rows }
+        ensures log { self.new.log ≡ remove self.old.log cut.log_place }
+        ensures ready { self.new.ready ≡ 0 }
+    {
+        let Cut {
+            number,
+            log_place,
+            rest,
+            ..
+        } = cut;
+        self.ready = 0;
+        let _pair = self.log.remove(log_place as usize);
+        replace_at(&mut self.rows, (number - 1) as usize, rest, current, points);
+    }
+}
+
+/// The place of the pair with a number behind which so many with the number stand. It is looked for from the end.
+fn pair_place(log: &[(u64, Event)], number: u64, behind: u64) -> usize
+    requires { behind < length (events_with number log.now) }
+    ensures { result ≡ place_in_log number (length (events_with number log.now) - 1 - behind) log.now }
+{
+    let mut left = behind;
+    for at in (0..log.len()).rev() {
+        let Some(rest) = left_ahead(log[at].0 == number, left) else {
+            return at;
+        };
+        left = rest;
+    }
+    unreachable!();
+}
+
+/// Ahead of a pair, how many of those behind the one that is looked for are left; none where it is the pair.
+fn left_ahead(is_one: bool, left: u64) -> Option<u64>
+    ensures { result ≡ spec.left_ahead is_one left }
+{
+    if is_one {
+        left.checked_sub(1)
+    } else {
+        Some(left)
     }
 }

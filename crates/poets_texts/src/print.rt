@@ -52,7 +52,7 @@ const OPERATORS: [(&str, &str); 8] = [
 ];
 
 // Brackets, white space and zeros that the tree does not ask for, and how the commands are printed.
-const COMMANDS: [(&str, &str); 7] = [
+const COMMANDS: [(&str, &str); 8] = [
     (
         "watch f(if (not ((true) or (x = y))) then (amount(r) = (-(-x))) else ((kind(r)) <> Oil) end)",
         "watch f(if not (true or x = y) then amount(r) = --x else kind(r) <> Oil end)",
@@ -69,6 +69,7 @@ const COMMANDS: [(&str, &str); 7] = [
         "transmit c ann bob 07 Oil @2006-05-03",
         "transmit c ann bob 7 Oil @2006-05-03",
     ),
+    ("void  c 007", "void c 7"),
 ];
 
 // Templates whose contracts have all their parts in brackets, and how these are printed.

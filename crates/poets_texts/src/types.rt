@@ -99,7 +99,7 @@ const BOOK: &str =
 report q(n: Int): Int = fold sum = 0 with (a, b, r, t) in sum;; clerk;; ";
 
 // Each command, behind the book, makes a session, or is refused for this cause.
-const COMMANDS: [(&str, &str); 20] = [
+const COMMANDS: [(&str, &str); 21] = [
     ("register ann = f(1)", ""),
     ("register c = f(n)", "Unknown n"),
     ("register c = none(ann)", "Unknown none"),
@@ -140,6 +140,7 @@ const COMMANDS: [(&str, &str); 20] = [
         "transmit c ann ann 1 ann @2006-05-03",
         "WrongType: wanted Kind, found Agent",
     ),
+    ("void none 0", ""),
     ("tally q(1)", ""),
     ("tally f(1)", "Unknown f"),
     ("portfolio q() over c", "WrongCount q: wanted 1, found 0"),

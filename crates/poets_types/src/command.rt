@@ -67,7 +67,8 @@ pub(crate) fn check_command(index: &Index, command: &Command) -> Result<(), Type
         | Command::Watch { report, args } => {
             check_report_arguments(decls, index.reports, *report, args.as_slice())
         }
-        Command::End { .. } | Command::Show { .. } | Command::Read { .. } => Ok(()),
+        Command::Void { .. } | Command::End { .. } | Command::Show { .. } | Command::Read { .. } =>
+            Ok(()),
     }
 }
 

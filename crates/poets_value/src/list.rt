@@ -1,5 +1,5 @@
 //! A list that owns its items.
-ghost use Rattle.std.specs.Prelude.{◌≡◌, ◌+◌, ◌-◌, ◌<◌, ◌≤◌, ◌↔◌, [], ◌∷◌, ◌++◌, length, IsSome, IsNone, IfSome, IfNone, IfErr, OnOk, OnErr, IsOk, IsTrue, slice_get, insert, set};
+ghost use Rattle.std.specs.Prelude.{◌≡◌, ◌+◌, ◌-◌, ◌<◌, ◌≤◌, ◌↔◌, [], ◌∷◌, ◌++◌, length, IsSome, IsNone, IfSome, IfNone, IfErr, OnOk, OnErr, IsOk, IsTrue, Some, slice_get, insert, remove, set};
 
 use crate::Memory;
 use std::alloc::Global;
@@ -95,6 +95,16 @@ impl<T> List<T> {
         ensures room { IsSome result → self.old.room + 1 ≤ self.new.room }
     {
         self.vec.pop()
+    }
+
+    /// Takes the item at a place out, and moves those after it.
+    pub fn remove(&mut self, place: usize) -> T
+        requires { place < length self.old.items }
+        ensures item { slice_get self.old.items place ≡ Some result }
+        ensures items { self.new.items ≡ remove self.old.items place }
+        ensures room { self.new.room ≡ self.old.room + 1 }
+    {
+        self.vec.remove(place)
     }
 
     /// Makes room for so many more items.

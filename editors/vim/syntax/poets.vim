@@ -4,8 +4,8 @@ if exists("b:current_syntax")
 endif
 
 syntax keyword poetsStatement agents kinds template report clerk journal
-syntax keyword poetsCommand register transmit end show tally portfolio over watch read
-syntax keyword poetsReserved void total
+syntax keyword poetsCommand register transmit void end show tally portfolio over watch read
+syntax keyword poetsReserved total
 syntax keyword poetsFold fold with in by if then else
 syntax keyword poetsContract Success Failure
 syntax keyword poetsOperator and or not amount kind res

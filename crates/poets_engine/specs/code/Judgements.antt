@@ -1,4 +1,5 @@
 -- Which contracts are owed after a registration or a transmission.
+use Rattle.std.specs.Arc.{arc_value}
 use Rattle.std.specs.Prelude.{◌≡◌, Bool, true, false, ℤ, Option, Some, None, List, All}
 use Rattle.poets_value.specs.declared.event.Event.{Event}
 use Rattle.poets_syntax.specs.Contract.{Contract, Failure}
@@ -27,7 +28,7 @@ pub data Judgement : Type 0 where
 
 abbrev pub judgement_of : Decision → Judgement
 judgement_of (D.Refused reply) = Refused (reply_of reply)
-judgement_of (D.Owed rows) = Owed (contract_of_rows rows)
+judgement_of (D.Owed rows) = Owed (contract_of_rows (arc_value rows))
 
 abbrev pub is_failure : Contract → Bool
 is_failure Failure = true
@@ -53,6 +54,11 @@ IsKept s c = CountsFit (book_of s.book) c × (is_past_limit_in s c ≡ false)
 -- the residual of each row is one
 abbrev pub AreKept : StudiedBook → List (RowView Term (List Node)) → Type 0
 AreKept s rows = All (λ r. IsKept s (contract_of_rows r.current)) rows
+
+-- the decision is what becomes of what the rows owe by the event
+abbrev pub IsDecisionOn : StudiedBook → List Node → Event → Decision → Type 0
+IsDecisionOn s rows e decision =
+    judgement_of decision ≡ judge s Reply.Unmatched (after (book_of s.book) (marks_of s) e (contract_of_rows rows))
 
 -- the numbers of arguments fit in what was chosen
 abbrev pub KeptFits : Book → Judgement → Type 0

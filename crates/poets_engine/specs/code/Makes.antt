@@ -15,7 +15,7 @@ use Rattle.poets_engine.specs.declared.kept.FolioWork.{FolioWork}
 use Rattle.poets_engine.specs.declared.kept.Body.{Body}
 use Rattle.poets_engine.specs.declared.kept.Body.TheVariants.{Done, Folio}
 use Rattle.poets_engine.specs.Rows.{IsLedger}
-use Rattle.poets_engine.specs.Accepted.{is_accepted}
+use Rattle.poets_call.specs.Ledger.{is_accepted}
 
 -- the command was made: its reply is the one after the ledger of what was kept, what is kept then is that of the ledger
 -- with the entry, and a refusal or a look leaves it

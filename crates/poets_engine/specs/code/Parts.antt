@@ -4,6 +4,7 @@ use Rattle.poets_value.specs.declared.value.Name.{Name}
 use Rattle.poets_syntax.specs.declared.term.Term.{Term}
 use Rattle.poets_cons.specs.declared.node.Node.{Node}
 use Rattle.poets_table.specs.TableView.{RowView, number_named}
+use Rattle.poets_table.specs.Pieces.{joined}
 use Rattle.poets_folio.specs.declared.folio.Part.{Part}
 
 abbrev pub absent_or_later : Name → (number : Option ℕ) → (later : Option Name) → Option Name
@@ -22,4 +23,4 @@ pub record IsPart (rows : List (RowView Term (List Node))) (x : Name) (part : Pa
   pub row : RowView Term (List Node)
   pub found : number_named x rows ≡ Some number
   pub here : slice_get rows (number - 1) ≡ Some row
-  pub events : part.events.items ≡ row.events
+  pub events : joined part.events.pieces ≡ row.events

@@ -33,6 +33,6 @@ returns-in_ok-number-in-Owed-clause-ok g c =
     let rules = c.args.rules.now in
     let form = c.in_ok-current.ensures.normal ∙ ap (λ t. normal (book_of_rules rules) (marks_of rules.studied) (contract_of t)) c.deref.ensures in
     register_kept c.args.rules.now c.args.name (contract_of (arc_value c.args.term.now)) c.args.store.now c.requires
-    (sym c.in_default.ensures) (arc_value c.in_ok-original-in-Owed.original) c.in-Owed.current (ap contract_of c.in_ok-original-in-Owed.ensures) c.add.new.self
+    (sym c.in_default.ensures) (arc_value c.in_ok-original-in-Owed.original) (arc_value c.in-Owed.current) (ap contract_of c.in_ok-original-in-Owed.ensures) c.add.new.self
     c.in_ok-number-in-Owed.ensures.ok (contract_of_rows c.in_ok-current.current) c.in_ok-number-in-Owed.number
     form (sym (ap judgement_of c.in-Owed.is) ∙ c.in_ok-reply.ensures.choice) c.in_ok-number-in-Owed.ensures.number

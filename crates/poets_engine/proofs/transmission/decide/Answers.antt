@@ -1,7 +1,6 @@
-use Rattle.std.proofs.Common.{◌≡◌, ◌∙◌, List, None, false, length, sym, ap, subst}
+use Rattle.std.proofs.Common.{◌≡◌, ◌∙◌, List, None, false, sym, ap}
 use Rattle.std.proofs.lemmas.Result.{IfOk-weaker}
 use Rattle.poets_value.specs.declared.event.Event.{Event}
-use Rattle.poets_syntax.specs.Applied.{CountsFit}
 use Rattle.poets_syntax.specs.Book.{book_of}
 use Rattle.poets_syntax.specs.Contract.{Contract}
 use Rattle.poets_syntax.specs.Residual.{after}
@@ -9,8 +8,6 @@ use Rattle.poets_syntax.specs.Studied.{StudiedBook, marks_of}
 use Rattle.poets_syntax.specs.declared.term.Term.{Term}
 use Rattle.poets_cons.specs.declared.node.Node.{Node}
 use Rattle.poets_cons.specs.Table.{contract_of_rows}
-use Rattle.poets_residue.proofs.Kept.{CountsFit-after_at}
-use Rattle.poets_residue.proofs.Studies.{IsStudied-book}
 use Rattle.poets_table.specs.TableView.{RowView, row_view}
 use Rattle.poets_call.specs.Plain.{Reply}
 use Rattle.poets_call.specs.Ledger.{late_day}
@@ -25,15 +22,10 @@ in_time s r e next running timely left =
     ∙ ap (λ late. unless_over false late (judge s Reply.Unmatched next)) timely)
     ∙ ap (λ c. unless_over r.ended (late_day r.events e.day) (judge s Reply.Unmatched c)) left
 
-pub judge-requires : goal.judge-requires
-judge-requires g c =
-    let book = book_of c.args.studied.now.book in
-    subst (CountsFit book) (sym c.in_ok-next.ensures.residual)
-    (CountsFit-after_at book (marks_of c.args.studied.now) (IsStudied-book book c.args.studied.now.marks c.book-book.ensures.studied).fit c.args.event.now
-    (length book.templates) (contract_of_rows c.args.row.now.current) c.requires)
-
 pub returns-clause-choice : goal.returns-clause-choice
 returns-clause-choice g c =
-    let judged = in_time c.args.studied.now (row_view c.args.row.now) c.args.event.now (contract_of_rows c.in_ok-next.next) c.if-row.false (sym c.in_default.ensures)
-    c.in_ok-next.ensures.residual in
-    IfOk-weaker c.judge.result _ (IsJudgementBy c.args.studied.now c.args.row.now c.args.event.now) (λ d h. h ∙ judged) c.judge.ensures.choice
+    let s = c.args.studied.now in
+    let owed = contract_of_rows c.deref.result.now in
+    let left = ap (λ t. after (book_of s.book) (marks_of s) c.args.event.now (contract_of_rows t)) c.deref.ensures in
+    let judged = in_time s (row_view c.args.row.now) c.args.event.now (after (book_of s.book) (marks_of s) c.args.event.now owed) c.if-row.false (sym c.in_default.ensures) left in
+    IfOk-weaker c.take_event.result _ (IsJudgementBy s c.args.row.now c.args.event.now) (λ d h. h ∙ judged) c.take_event.ensures.choice

@@ -9,15 +9,12 @@ use Rattle.poets_engine.specs.Rows.{Stands}
 use Rattle.poets_engine.specs.Works.{OwesReply}
 use Rattle.poets_engine.proofs.Folios.{body_makes, body_owes, body_refused}
 use Rattle.poets_engine.proofs.Histories.{stands_more, commands_last, plain_last, length-plain_calls}
-use Rattle.poets_engine.proofs.Rows.{rows_kept}
-use Rattle.poets_engine.proofs.Standing.{study}
 use Rattle.poets_engine.proofs.engine.Engine.apply.Goals as goal
 
-pub step-requires-clause-rows : goal.step-requires-clause-rows
-step-requires-clause-rows g c =
-    let rules = c.self.inside.rules in
+pub step-requires-clause-kept : goal.step-requires-clause-kept
+step-requires-clause-kept g c =
     let stands = c.self.invariant.0 in
-    rows_kept rules.studied (study rules (ledger_of stands.history) c.self.inside.store stands.ledger) (ledger_of stands.history) 1 c.self.inside.store.rows stands.ledger.rows
+    record { ledger = ledger_of stands.history; is = stands.ledger }
 
 pub invariant_of-self-2 : goal.invariant_of-self-2
 invariant_of-self-2 g c =

@@ -1,5 +1,6 @@
-use Rattle.std.proofs.Common.{map, ◌∙◌, subst}
+use Rattle.std.proofs.Common.{map, subst}
 use Rattle.poets_live.specs.Watching.{AllMoved, Moved}
+use Rattle.poets_live.proofs.Following.{Took}
 use Rattle.poets_live.proofs.Places.{last_between}
 use Rattle.poets_live.proofs.watches.Watches.take.Goals as goal
 
@@ -7,6 +8,6 @@ pub returns : goal.returns
 returns c =
     let new = map (λ s. s.watch) c.take_all.new.watches.items in
     subst (λ w. AllMoved w.watches c.args.seen new) c.self.view_is
-    (subst (λ s. AllMoved (map (λ s. s.watch) c.self.inside.watches.items) s new) (c.as_slice.ensures ∙ c.seen.view_is)
-    (last_between (λ old new c. Moved old.watch c new.watch) Moved (λ s. s.watch) (λ x y z h. h)
-    c.self.inside.watches.items c.take_all.new.watches.items c.as_slice.result.now c.take_all.ensures))
+    (subst (λ s. AllMoved (map (λ s. s.watch) c.self.inside.watches.items) s new) c.seen.view_is
+    (last_between Took Moved (λ s. s.watch) (λ x y z h. h)
+    c.self.inside.watches.items c.take_all.new.watches.items c.seen.inside.moves.items c.take_all.ensures))

@@ -1,26 +1,33 @@
 use Rattle.std.proofs.Common.{◌∙◌, ap, arith, length}
-use Rattle.std.proofs.lemmas.List.{length-map}
-use Rattle.std.specs.Arc.{arc_value}
-use Rattle.poets_value.specs.Listed.{Listed}
-use Rattle.poets_value.specs.declared.event.Event.{Event}
-use Rattle.poets_table.specs.Pieces.{pieces_of}
-use Rattle.poets_table.proofs.Pieces.{length-joined, length-pieces_of}
+use Rattle.poets_table.specs.Pieces.{joined, pieces_of}
+use Rattle.poets_table.proofs.Pieces.{joined-short, length-joined-push, length-pieces_of}
 use Rattle.poets_table.proofs.events.Events.len.Goals as goal
+
+pub overflow_add-result : goal.overflow_add-result
+overflow_add-result c =
+    let sealed = c.self.inside.sealed.items in
+    let most = joined-short (pieces_of sealed) c.self.invariant.0.1 in
+    let count = length-pieces_of sealed in
+    let few = c.self.invariant.0.0 in
+    let ahead = c.self.invariant.1 in
+    let short = c.self.invariant.2 in
+    let last = c.len.ensures in
+    omega (arith, most, count, few, ahead, short, last)
 
 pub returns-clause-count : goal.returns-clause-count
 returns-clause-count c =
-    let sealed = c.self.inside.sealed.items in
-    let whole = length-joined (pieces_of sealed) c.self.inside.last.items c.self.invariant.0 in
-    let count = length-map sealed (λ p. (arc_value {X = Listed Event} p).items) in
-    let pieces = c.len.ensures in
-    let short = c.len-2.ensures in
-    omega (arith, whole, count, pieces, short) ∙ ap (λ e. length e.items) c.self.view_is
+    let whole = length-joined-push (pieces_of c.self.inside.sealed.items) c.self.inside.last.items in
+    let ahead = c.self.invariant.1 in
+    let last = c.len.ensures in
+    omega (arith, whole, ahead, last) ∙ ap (λ e. length (joined e.pieces)) c.self.view_is
 
 pub returns-clause-small : goal.returns-clause-small
 returns-clause-small c =
-    let count = length-pieces_of c.self.inside.sealed.items in
+    let sealed = c.self.inside.sealed.items in
+    let most = joined-short (pieces_of sealed) c.self.invariant.0.1 in
+    let count = length-pieces_of sealed in
     let few = c.self.invariant.0.0 in
-    let last = c.self.invariant.1 in
-    let pieces = c.len.ensures in
-    let short = c.len-2.ensures in
-    omega (arith, count, few, last, pieces, short)
+    let ahead = c.self.invariant.1 in
+    let short = c.self.invariant.2 in
+    let last = c.len.ensures in
+    omega (arith, most, count, few, ahead, short, last)
