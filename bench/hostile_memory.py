@@ -33,6 +33,20 @@ and w <= @2006-05-03 + 30). Success
 4 1: transmit deal bob ann 500 USD @2006-06-02 => recorded 2, may end yes
 """
 DEMO = b"demo 1: entries 48, registered 8, recorded 16, ended 8, refused 8, paid 24\n"
+# Two sales side by side, and then anything: what explains it once both are delivered and paid.
+TWO_SALES = BOOK + b"""template any() = Success + transmit(a, b, r, t | true). any();;
+journal;;
+1: register deal = (sale(ann, bob, 7) || sale(bob, ann, 5)) ; any();;
+1: transmit deal ann bob 7 Oil @2006-05-03;;
+2: transmit deal bob ann 5 Oil @2006-05-04;;
+1: transmit deal bob ann 500 Oil @2006-06-02;;
+1: transmit deal bob ann 500 USD @2006-06-02;;
+2: transmit deal ann bob 300 USD @2006-06-03;;
+"""
+EXPLAINED = b"""contract deal: events 4, may end yes
+next transmit(a, b, r, t | true)
+way then 4 (both LRLR (enter take take done) (enter take take done)) (enter left done)
+"""
 AUDIT = (EXAMPLES / "audit.poets").read_bytes()
 AUDITED = (EXAMPLES / "audit.out").read_bytes()
 DELIVERED = (EXAMPLES / "withdrawal.poets").read_bytes()
@@ -64,14 +78,17 @@ SESSIONS = {
     "demo 1": ("demo 1", b"", DEMO),
     "a book": ("check", (EXAMPLES / "book.poets").read_bytes(), (EXAMPLES / "book.out").read_bytes()),
     "a wide portfolio": ("run", WIDE, WIDELY),
+    "an explanation": ("explain deal", TWO_SALES, EXPLAINED),
 }
 
-# Texts that are refused: their words, the line, and the status.
+# Texts that are refused, and one that has nothing to explain: their words, the line, and the status.
 REFUSALS = {
     "a text that is refused": ("run", SALE + b"show deal, deal;;", b"refused in statement 9: NoSentence\n", 1),
     "a book that is refused": ("check", BOOK + b"kinds Oil;;", b"refused in statement 4: Twice Oil\n", 1),
     "a byte that is refused": ("replay", AUDIT + b"\0", b"refused at byte %d: BadByte\n" % len(AUDIT), 1),
     "words that are refused": ("run run", SALE, b"", 2),
+    "a text that is not explained": ("explain deal", SALE, b"refused in statement 4: Misplaced\n", 1),
+    "a name that no contract has": ("explain fair", TWO_SALES, b"no contract fair\n", 0),
 }
 
 
@@ -103,7 +120,7 @@ def is_front(ran, name):
         return ran.status in (0, 3) and ran.err == told and is_legal(ran.out, ran.status == 0)
     if ran.status == 0:
         return is_so(ran, 0, whole)
-    lines = whole.splitlines(keepends=True) if name not in ("demo 1", "a book") else []
+    lines = [] if name in ("demo 1", "a book", "an explanation") else whole.splitlines(keepends=True)
     fronts = [b"".join(lines[:count]) for count in range(len(lines) + 1)]
     return ran.out in fronts and is_so(ran, 3, ran.out)
 
@@ -165,7 +182,7 @@ def growths():
     spaces = [*pages, *range(2**20, 48 * 2**20, 2**16), *range(48 * 2**20, 600 * 2**20, 2**20)]
     names = (*SESSIONS, *REFUSALS) if shared["library"] else ()
     jobs = [(refused_growths, name, on) for name in names for on in (False, True)]
-    jobs += [(limited_space, name, pages, 0, 1) for name in ("a sale", "an audit", "a book")]
+    jobs += [(limited_space, name, pages, 0, 1) for name in ("a sale", "an audit", "a book", "an explanation")]
     threaded = ("four clerks", "demo 1", "a wide portfolio")
     return jobs + [(limited_space, name, spaces, at, 8) for name in threaded for at in range(8)] + [
         (more_than_memory, space * 2**20) for space in (32, 64, 128, 256)]

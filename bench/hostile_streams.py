@@ -8,7 +8,8 @@ import signal
 import threading
 from concurrent.futures import ThreadPoolExecutor
 
-from hostile_memory import AUDIT, AUDITED, DEMO, EXAMPLES, PAGE, SALE, SESSIONS, SOLD, is_legal, is_whole
+from hostile_memory import (AUDIT, AUDITED, DEMO, EXAMPLES, EXPLAINED, PAGE, SALE, SESSIONS, SOLD, TWO_SALES, is_legal,
+                            is_whole)
 from measuring import COMMANDS
 from running import held, holds, is_so, run, run_refusing, shared, told_wrong
 
@@ -20,6 +21,8 @@ STRIDE = 8
 # A source without an end may take so much memory.
 MOST_MEMORY = 64 * 2**20
 REFUSED = (b"agents ann, ann;;", b"refused in statement 1: Twice ann\n")
+# The words with which the program reads.
+READING = ("run", "replay", "check", "explain deal")
 ENDLESS = {"nothing but 0": b"\0", "blanks": b"\n", "one comment": b"#", "a digit": b"7", "clerks": b"clerk;;\n",
            "brackets": b"(", "bytes past ASCII": b"\xff", "names": b"a "}
 
@@ -72,7 +75,7 @@ def unreadable():
     source, sink = os.pipe2(os.O_NONBLOCK | os.O_CLOEXEC)
     only_written = os.open(os.devnull, os.O_WRONLY)
     folder = os.open("/", os.O_RDONLY)
-    for words in ("run", "replay", "check"):
+    for words in READING:
         for about, given, first in (
                 ("no source", None, lambda: os.close(0)), ("a folder", folder, None), ("a sink", only_written, None),
                 ("a pipe that does not wait", source, None)):
@@ -95,7 +98,7 @@ def endless(about, words):
 
 def endless_device(path):
     """A device that gives bytes for ever."""
-    for words in ("run", "replay", "check"):
+    for words in READING:
         source = os.open(path, os.O_RDONLY)
         ran = run(words, source=source)
         os.close(source)
@@ -106,10 +109,11 @@ def endless_device(path):
 def reads():
     """Short, failing and endless reads."""
     jobs = [(read_in_steps, name, step) for name in SESSIONS for step in (1, 7, PAGE)] + [(unreadable,)]
-    jobs += [(endless, about, words) for about in ENDLESS for words in ("run", "replay", "check")]
+    jobs += [(endless, about, words) for about in ENDLESS for words in READING]
     jobs += [(endless_device, path) for path in ("/dev/zero", "/dev/urandom")]
     if shared["library"]:
-        jobs += [(failing_reads, name, step, error) for name in ("a sale", "an audit", "four clerks", "a book")
+        read = ("a sale", "an audit", "four clerks", "a book", "an explanation")
+        jobs += [(failing_reads, name, step, error) for name in read
                  for step in (1, 7, PAGE) for error in (errno.EIO, errno.EAGAIN, errno.EINTR)]
     return jobs
 
@@ -234,6 +238,7 @@ def untold():
     for about, first in (("no standard error", lambda: os.close(2)), ("a full one", lambda: os.dup2(full, 2)),
                          ("one that nobody reads", lambda: os.dup2(sink, 2))):
         for words, text, out, status in (("run", *REFUSED, 1), ("run run", SALE, b"", 2), ("replay", AUDIT, AUDITED, 0),
+                                         ("explain deal", TWO_SALES, EXPLAINED, 0),
                                          ("check", book + b"\xff", b"refused at byte %d: BadByte\n" % len(book), 1)):
             ran = run(words, text, first=first)
             right = (ran.status, ran.out, ran.err) == (status, out, b"")
@@ -247,6 +252,7 @@ def writes():
     book = (EXAMPLES / "book.poets").read_bytes()
     outcomes = [("run", SALE, SOLD, 0), ("replay", AUDIT, AUDITED, 0), ("demo 1", b"", DEMO, 0),
                 ("check", book, (EXAMPLES / "book.out").read_bytes(), 0), ("run", *REFUSED, 1),
+                ("explain deal", TWO_SALES, EXPLAINED, 0), ("explain fair", TWO_SALES, b"no contract fair\n", 0),
                 ("run", (MOST_BYTES + 1) * b" ", LONGER, 6)]
     jobs = [(full_after, *outcome) for outcome in outcomes] + [(full_pipe,)]
     jobs += [(unwritable, words, text, 5) for words, text, _, _ in outcomes] + [(unwritable, "run", b"", 0)]
@@ -265,7 +271,8 @@ NO_FORMS = [
     "demo 1001", "demo 01", "demo +1", "demo -1", "demo 1.0", "demo 1e2", "demo 0x1", "demo one", "demo 1 1",
     "demo \u0661",
     "demo 18446744073709551617", "demo 4294967297", "-h", "--help", "--version", "-V", "-", "--", "-- run", "run --",
-    "run -", "--run", "help", "explain", "explain c", "keep f", "export", "run\0".rstrip("\0") + "\u00a0", "@file",
+    "run -", "--run", "help", "explain", "explain 1", "explain in", "explain c d", "explain c#", "Explain c",
+    "explain " + 65 * "a", "keep f", "export", "run\0".rstrip("\0") + "\u00a0", "@file",
     "demo " + 4_000 * "1", 100_000 * "a", " ".join(10_000 * ["run"]), " ", "run ", " run", "demo  1"]
 
 

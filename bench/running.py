@@ -15,7 +15,7 @@ HERE = pathlib.Path(__file__).resolve().parent
 MEMORY = b"poets: out of memory\n"
 UNREAD = b"poets: standard input cannot be read\n"
 UNWRITTEN = b"poets: standard output cannot be written\n"
-USAGE = b"usage: poets check | run | replay | demo N\n"
+USAGE = b"usage: poets check | run | replay | demo N | explain NAME\n"
 TOLD = {0: b"", 2: USAGE, 3: MEMORY, 4: UNREAD, 5: UNWRITTEN, 6: b""}
 # Where a text is refused, with status 1; nothing where memory for that wants.
 PLACE = re.compile(rb"(line [1-9]\d*, column [1-9]\d*\n[ -~]*\n *\^\n)?")

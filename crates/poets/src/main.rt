@@ -1,5 +1,5 @@
-//! `poets check` reads a book, `poets run` a session and `poets replay` a journal from standard input, and `poets demo N`
-//! reads nothing; all write to standard output.
+//! `poets check` reads a book, `poets run` a session, and `poets replay` and `poets explain NAME` a journal from standard
+//! input; `poets demo N` reads nothing. All write to standard output.
 #![tactic(auto)]
 
 ghost use Rattle.std.specs.Prelude.{◌≡◌};
@@ -8,9 +8,8 @@ ghost use Rattle.std.specs.Process.{exit_status};
 use poets_clerks::NoGate;
 use poets_io::{StdSink, StdSource};
 use poets_mark::{KeptSource, mark_of};
-use poets_session::Form;
-use poets_top::{NO_MEMORY, NO_SESSION, READ_FAULT, USAGE, WRITE_FAULT, run};
-use poets_words::{Mode, Task, mode_of};
+use poets_top::{NO_MEMORY, NO_SESSION, READ_FAULT, USAGE, WRITE_FAULT, form_of, run};
+use poets_words::{Mode, mode_of};
 use std::process::ExitCode;
 use std::{env, io};
 
@@ -49,12 +48,7 @@ fn mark(rt: &HostRuntime, words: &[String], text: Option<&[u8]>) {
     let (Some(text), Ok(Some(Mode::Read(task)))) = (text, mode_of(rt.alloc(), words)) else {
         return;
     };
-    let form = match task {
-        Task::Check => Form::Book,
-        Task::Run => Form::Clerks,
-        Task::Replay => Form::Journal,
-    };
-    if let Ok(Some(lines)) = mark_of(rt.alloc(), text, form) {
+    if let Ok(Some(lines)) = mark_of(rt.alloc(), text, form_of(&task)) {
         let _ = eprint!(rt; "{lines}");
     }
 }
@@ -64,7 +58,7 @@ fn end(rt: &HostRuntime, status: u8) -> ExitCode
     ensures { exit_status result ≡ status }
 {
     let _ = match status {
-        USAGE => eprintln!(rt; "usage: poets check | run | replay | demo N"),
+        USAGE => eprintln!(rt; "usage: poets check | run | replay | demo N | explain NAME"),
         NO_MEMORY => eprintln!(rt; "poets: out of memory"),
         READ_FAULT => eprintln!(rt; "poets: standard input cannot be read"),
         WRITE_FAULT => eprintln!(rt; "poets: standard output cannot be written"),

@@ -20,4 +20,5 @@ pub mod Histories
 pub mod Folios
 pub mod Copied
 pub mod ShownResiduals
+pub mod Accounted
 pub mod Crossing

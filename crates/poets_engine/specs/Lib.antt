@@ -6,5 +6,6 @@ pub mod State
 pub mod Rows
 pub mod Accepted
 pub mod Evaluations
+pub mod Accounts
 pub mod Laws
 pub mod code

@@ -9,3 +9,4 @@ pub mod Folios
 pub mod Makes
 pub mod Changes
 pub mod Judgements
+pub mod Accounted

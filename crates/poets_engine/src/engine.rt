@@ -5,17 +5,21 @@ ghost use Rattle.poets_syntax.specs.Whole.{IsWholeBook};
 ghost use Rattle.poets_call.specs.Calls.{command_of, reply_of};
 ghost use Rattle.poets_call.specs.Histories.{IsLegal};
 ghost use Rattle.poets_call.specs.Rules.{book_of_rules, reports_of_rules};
+ghost use Rattle.poets_engine.specs.Accounts.{AccountsAfterCalls, HasFormedAccount};
 ghost use Rattle.poets_engine.specs.Evaluations.{most_evaluations_in};
 ghost use Rattle.poets_engine.specs.State.{AddsCall, Fulfils, IsKeptUnlessChanged, OwesNext, commands_of};
 ghost use Rattle.poets_engine.specs.Takes.{IsTakenBy};
 
+use crate::accounts::{Account, account_named};
 use crate::copies::Copies;
 use crate::kept::{Body, Kept};
 use crate::steps::step;
 use crate::store::Store;
 use poets_call::{Command, Reply, Rules};
 use poets_expr::Asks;
-use poets_value::{List, Memory};
+use poets_report::Report;
+use poets_syntax::Studied;
+use poets_value::{List, Memory, Name};
 use std::alloc::Global;
 use std::marker::Model;
 use std::sync::Arc;
@@ -81,6 +85,28 @@ impl Engine {
         ensures { commands_of result.now.items ≡ self.now.calls }
     {
         &self.history
+    }
+
+    /// The studied book that the engine was made with.
+    pub fn studied(&self) -> &Studied
+        ensures { result.now ≡ self.now.rules.studied }
+    {
+        &self.rules.studied
+    }
+
+    /// The reports that the engine was made with.
+    pub fn reports(&self) -> &List<Report>
+        ensures { result.now ≡ self.now.rules.reports }
+    {
+        &self.rules.reports
+    }
+
+    /// The account of the contract with a name, if there is one.
+    pub fn account(&self, alloc: Global, name: Name) -> Result<Option<Account>, Memory>
+        ensures account { IfOk result (AccountsAfterCalls self.now name) }
+        ensures formed { IfOk result (HasFormedAccount self.now) }
+    {
+        account_named(alloc, &self.rules, &self.store, name)
     }
 
     /// Makes a call. `finish` hands out the reply, and makes the rows of a portfolio.

@@ -1,6 +1,7 @@
 //! The engine of one thread: each reply is that of an engine which is only a list of calls.
 #![tactic(auto)]
 
+mod accounts;
 mod copies;
 mod ends;
 mod engine;
@@ -18,5 +19,6 @@ mod transmission;
 mod watching;
 mod withdrawal;
 
+pub use accounts::Account;
 pub use engine::Engine;
 pub use kept::{Body, FolioWork, Kept};

@@ -1,5 +1,5 @@
 -- The longest front of bytes that pass a test.
-use Rattle.std.proofs.Common.{◌≡◌, ℕ, zero, suc, ◌+◌, ◌<◌, Bool, true, false, ◌&&◌, List, [], ◌∷◌, take, drop, refl, sym, ◌∙◌, arith, cond, one-add}
+use Rattle.std.proofs.Common.{◌≡◌, ℕ, zero, suc, ◌+◌, ◌<◌, ◌↔◌, Bool, true, false, ◌&&◌, List, [], ◌∷◌, length, get_or, take, drop, refl, sym, ◌∙◌, arith, cond, one-add}
 use Rattle.std.specs.Bool.{IsTrue}
 use Rattle.std.specs.List.{list_all, prefix_len}
 use Rattle.std.specs.Char.{is_ascii_digit}
@@ -53,6 +53,11 @@ pub name-front : (text : List ℕ) → BeginsWith begins_name text → HasNameSh
 name-front [] h = absurd h
 name-front (byte ∷ text) h =
     rw (front-cons is_in_name byte text (letter-in-name byte h)) (h, front-passes is_in_name text)
+
+-- a text that begins with a letter or `_` has that shape exactly where all bytes after it are letters, digits and `_`
+pub name-shape : (text : List ℕ) (all : Bool) → 0 < length text → IsTrue (begins_name (get_or text 0 0)) → all ≡ list_all is_in_name (drop 1 text) → IsTrue all ↔ HasNameShape text
+name-shape [] all some first e = absurd (omega arith)
+name-shape (byte ∷ text) all some first e = (λ t. (first, sym e ∙ t), λ shape. e ∙ shape.1)
 
 pub in-name-ascii : (byte : ℕ) → IsTrue (is_in_name byte) → byte < 128
 in-name-ascii byte h = grind (arith, nat_tests)

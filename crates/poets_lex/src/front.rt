@@ -1,8 +1,9 @@
 //! The longest front of a text whose bytes are of one kind.
-ghost use Rattle.std.specs.Prelude.{◌≡◌, ◌≤◌, ◌<◌, ◌^◌, length, pos, IfSome, IfNone, IsTrue};
+ghost use Rattle.std.specs.Prelude.{◌≡◌, ◌≤◌, ◌<◌, ◌^◌, ◌↔◌, length, pos, IfSome, IfNone, IsTrue};
 ghost use Rattle.std.specs.List.{prefix_len, list_all};
 ghost use Rattle.std.specs.Char.{is_ascii_digit};
 ghost use Rattle.poets_lex.specs.Bytes.{is_blank, is_in_line, begins_name, is_in_name, decimal};
+ghost use Rattle.poets_lex.specs.Table.{HasNameShape};
 
 // A space, tab, LF or CR.
 pub(crate) fn is_blank(byte: u8) -> bool
@@ -23,6 +24,16 @@ fn is_in_name(byte: u8) -> bool
     ensures { result ≡ is_in_name byte }
 {
     byte.is_ascii_alphanumeric() || byte == b'_'
+}
+
+// A letter or `_`, then letters, digits and `_`.
+pub(crate) fn has_name_shape(text: &[u8]) -> bool
+    ensures { IsTrue result ↔ HasNameShape text.now }
+{
+    match text {
+        [first, rest @ ..] => begins_name(*first) && rest.iter().all(|byte| is_in_name(*byte)),
+        [] => false,
+    }
 }
 
 // The length of the line, up to its LF.

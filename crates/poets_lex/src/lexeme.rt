@@ -1,13 +1,14 @@
 //! The token that begins a text.
-ghost use Rattle.std.specs.Prelude.{◌≡◌, ◌+◌, ◌<◌, ◌^◌, length, IfOk, IfErr, OnErr, IfSome, IfNone};
+ghost use Rattle.std.specs.Prelude.{◌≡◌, ◌+◌, ◌<◌, ◌^◌, ◌↔◌, length, IfOk, IfErr, OnErr, IfSome, IfNone, IsTrue};
 ghost use Rattle.std.specs.Char.{is_ascii_digit};
 ghost use Rattle.poets_lex.specs.Texts.{sign_text};
 ghost use Rattle.poets_lex.specs.Bytes.{begins_name, Begins};
 ghost use Rattle.poets_lex.specs.Lexes.{IsFaultAt, UnlessMemory};
+ghost use Rattle.poets_lex.specs.Table.{IsName};
 ghost use Rattle.poets_lex.specs.code.Front.{BeginsWith, BeginsWithNoDay, FirstToken, FirstForEachTable, is_in_lexeme};
 ghost use Rattle.poets_lex.specs.declared.token.Sign.{Sign};
 
-use crate::front::{begins_name, decimal, digit_count, name_length};
+use crate::front::{begins_name, decimal, digit_count, has_name_shape, name_length};
 use crate::sign::sign_of;
 use crate::word::word_of;
 use crate::{LexFault, Names, Tok, Token};
@@ -15,6 +16,13 @@ use poets_value::Day;
 
 // The most bytes that a name may have.
 const MOST_OF_NAME: usize = 64;
+
+/// Whether the text is a name, from its first byte to its last.
+pub fn is_name(text: &str) -> bool
+    ensures { IsTrue result ↔ IsName text.now }
+{
+    text.len() <= MOST_OF_NAME && has_name_shape(text.as_bytes()) && word_of(text).is_none()
+}
 
 // The number that begins the text, which begins at the place.
 pub(crate) fn number(text: &[u8], place: u32) -> Result<Token, LexFault>

@@ -13,6 +13,7 @@ mod token;
 mod word;
 
 pub use fault::LexFault;
+pub use lexeme::is_name;
 pub use lexer::tokens;
 pub use names::Names;
 pub use token::{Sign, Tok, Token, Word};

@@ -107,6 +107,11 @@ abbrev pub binders_text : Table → Binders → List ℕ
 binders_text names b =
     listed (name_text names) (b.sender ∷ b.receiver ∷ b.what ∷ b.day ∷ [])
 
+-- `transmit(a, b, r, t | P)`: a transmission without its continuation
+abbrev pub step_text : Table → Binders → Expression → List ℕ
+step_text names b p =
+    codes "transmit(" ++ binders_text names b ++ codes " | " ++ expression_text names p ++ codes ")"
+
 -- a left part stands in brackets where its level is below its parent's, a right part where it is not above it, and the continuation
 -- of a transmit where it is below 4
 abbrev pub contract_text : Table → Contract → List ℕ

@@ -3,6 +3,7 @@ ghost use Rattle.std.specs.Prelude.{OnOk, IfOk, map};
 ghost use Rattle.poets_expr.specs.Expression.{expression_of};
 ghost use Rattle.poets_syntax.specs.Contract.{contract_of};
 ghost use Rattle.poets_print.specs.Texts.{IsText, contract_text, call_text, binders_text};
+ghost use Rattle.poets_print.specs.Texts as texts;
 ghost use Rattle.poets_value.specs.code.Texts.{Puts};
 ghost use Rattle.poets_print.specs.code.Putting.{more_arguments, contract_part};
 
@@ -26,6 +27,17 @@ fn put_binders(out: &mut String, names: &Names, binders: &Binders) -> Result<(),
     put_name(out, names, binders.what)?;
     put(out, ", ")?;
     put_name(out, names, binders.day)
+}
+
+// Puts a transmission without its continuation.
+fn put_step(out: &mut String, names: &Names, binders: &Binders, when: &Expr) -> Result<(), Memory>
+    ensures { OnOk result (Puts out.old out.new (texts.step_text names.now binders.now (expression_of when.now))) }
+{
+    put(out, "transmit(")?;
+    put_binders(out, names, binders)?;
+    put(out, " | ")?;
+    put_expression(out, names, when)?;
+    put(out, ")")
 }
 
 // Puts each argument after a comma.
@@ -70,11 +82,8 @@ pub(crate) fn put_contract(out: &mut String, names: &Names, term: &Term) -> Resu
             when,
             then,
         } => {
-            put(out, "transmit(")?;
-            put_binders(out, names, binders)?;
-            put(out, " | ")?;
-            put_expression(out, names, when)?;
-            put(out, "). ")?;
+            put_step(out, names, binders, when)?;
+            put(out, ". ")?;
             put_part(out, names, contract_level(then) < 4, then)
         }
         Term::Plus(left, right) => {
@@ -117,5 +126,21 @@ pub fn term_text(alloc: Global, names: &Names, term: &Term) -> Result<String, Me
 {
     let mut text = String::new(alloc);
     put_contract(&mut text, names, term)?;
+    Ok(text)
+}
+
+/// The text of an open transmission: the names that it gives to the parts of the event, and its predicate.
+///
+/// A name that the table does not have prints as nothing.
+pub fn step_text(
+    alloc: Global,
+    names: &Names,
+    binders: &Binders,
+    when: &Expr,
+) -> Result<String, Memory>
+    ensures { IfOk result (IsText (texts.step_text names.now binders.now (expression_of when.now))) }
+{
+    let mut text = String::new(alloc);
+    put_step(&mut text, names, binders, when)?;
     Ok(text)
 }

@@ -14,7 +14,7 @@ mod replies;
 mod words;
 
 pub use commands::command_text;
-pub use contracts::term_text;
+pub use contracts::{step_text, term_text};
 pub use lines::line_text;
 pub use replies::reply_text;
 pub use words::{name_text, type_text};

@@ -32,7 +32,7 @@ abbrev pub Follows : Book → Event → Contract → Contract → Type 0
 Follows book e c r = (s : List Event) (n : ℕ) → May book [] r s n ↔ May book [] c (e ∷ s) n
 
 -- the first event of a trace goes to the first part, or the first part is over
-first_event : {e : Event} {s : List Event} {s₁ s₂ : List Event} → e ∷ s ≡ s₁ ++ s₂ → {P : Type 0} →
+pub first_event : {e : Event} {s : List Event} {s₁ s₂ : List Event} → e ∷ s ≡ s₁ ++ s₂ → {P : Type 0} →
     (s₁ ≡ [] → e ∷ s ≡ s₂ → P) → ((s' : List Event) → s₁ ≡ e ∷ s' → s ≡ s' ++ s₂ → P) → P
 first_event {s₁ = []} q none some = none refl q
 first_event {e = e} {s = s} {s₁ = x ∷ s₁} {s₂ = s₂} q none some =

@@ -12,7 +12,7 @@ pub mod Arguments
 pub mod TypedResiduals
 pub mod Noted
 mod Derived
-mod Ready
+pub mod Ready
 mod Spending
 mod Asking
 mod ReadyArguments

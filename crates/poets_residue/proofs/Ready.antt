@@ -91,15 +91,15 @@ module _ (book : Book) (marks : Marks) where
   ready_at-transmit zero b p c = refl
   ready_at-transmit (suc d) b p c = refl
 
-  ready_at-plus : (d : ℕ) (a b : Contract) → ready_at d book marks (Plus a b) ≡ ready_at d book marks a ++ ready_at d book marks b
+  pub ready_at-plus : (d : ℕ) (a b : Contract) → ready_at d book marks (Plus a b) ≡ ready_at d book marks a ++ ready_at d book marks b
   ready_at-plus zero a b = refl
   ready_at-plus (suc d) a b = refl
 
-  ready_at-par : (d : ℕ) (a b : Contract) → ready_at d book marks (Par a b) ≡ ready_at d book marks a ++ ready_at d book marks b
+  pub ready_at-par : (d : ℕ) (a b : Contract) → ready_at d book marks (Par a b) ≡ ready_at d book marks a ++ ready_at d book marks b
   ready_at-par zero a b = refl
   ready_at-par (suc d) a b = refl
 
-  ready_at-seq : (d : ℕ) (a b : Contract) →
+  pub ready_at-seq : (d : ℕ) (a b : Contract) →
       ready_at d book marks (Seq a b) ≡ ready_at d book marks a ++ (if nullable marks a then ready_at d book marks b else [])
   ready_at-seq zero a b = refl
   ready_at-seq (suc d) a b = refl

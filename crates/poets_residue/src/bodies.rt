@@ -8,7 +8,8 @@ ghost use Rattle.poets_norm.specs.Asking.{to_ask};
 ghost use Rattle.poets_norm.specs.Questions.{operated, questions};
 ghost use Rattle.poets_norm.specs.Rows.{Enters};
 ghost use Rattle.poets_cons.specs.Table.{Extends};
-ghost use Rattle.poets_residue.specs.code.Bodies.{unfolded, with_body, AreGivens, Unfolds};
+ghost use Rattle.poets_residue.specs.Bodies.{unfolded, with_body, Unfolds};
+ghost use Rattle.poets_residue.specs.code.Bodies.{AreGivens};
 
 use poets_cons::Arena;
 use poets_expr::{Asks, Decls, Env, Expr, Given, eval};
@@ -71,9 +72,9 @@ fn arguments<L>(
     Ok(pairs)
 }
 
-// The number of the row of the body of a template with its parameters replaced, in normal form, which is entered in the
-// table. What the arguments and the body ask is not asked again.
-pub(crate) fn unfold<L>(
+/// The number of the row of the body of a template with its parameters replaced, in normal form, which is entered in the
+/// table. What the arguments and the body ask is not asked again.
+pub fn unfold<L>(
     alloc: Global,
     studied: &Studied,
     template: &Template,

@@ -11,6 +11,7 @@ mod row_widths;
 mod shared;
 mod transmits;
 
+pub use bodies::unfold;
 pub use derivation::residual_rows;
 pub use endings::may_end;
 pub use limits::past_limit;

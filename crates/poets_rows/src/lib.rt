@@ -6,6 +6,8 @@ mod books;
 #[cfg(test)]
 mod ends;
 #[cfg(test)]
+mod explanations;
+#[cfg(test)]
 mod gate;
 #[cfg(test)]
 mod journals;

@@ -27,6 +27,9 @@ fn unread<R: Abort + Threads + Wait + Sync>(
     Ok(())
 }
 
+// A name of 65 bytes.
+const LONG_NAME: &str = "a2345678901234567890123456789012345678901234567890123456789012345";
+
 // The words are no command form. The first write would fail.
 fn no_form<R: Abort + Threads + Wait + Sync>(
     rt: &R,
@@ -49,7 +52,11 @@ fn other_words_read_and_write_nothing(rt: HostRuntime) -> Result<(), Fail> {
     for number in ["0", "1001", "01", "+5"] {
         no_form(&rt, alloc, &["demo", number])?;
     }
-    Ok(())
+    // No name of the language, from its first byte to its last.
+    for name in ["", "1", "c ", " c", "c#", "7c", "c;", "register", LONG_NAME] {
+        no_form(&rt, alloc, &["explain", name])?;
+    }
+    no_form(&rt, alloc, &["explain", "a", "b"])
 }
 
 // The number, how many entries there are, and what is written.

@@ -14,6 +14,8 @@ mod norm;
 #[cfg(test)]
 mod norm_book;
 #[cfg(test)]
+mod opening;
+#[cfg(test)]
 mod residue;
 #[cfg(test)]
 mod sentences;
@@ -21,3 +23,5 @@ mod sentences;
 mod syntax;
 #[cfg(test)]
 mod types;
+#[cfg(test)]
+mod ways;

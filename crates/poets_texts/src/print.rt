@@ -3,8 +3,8 @@
 use poets_call::{Reply, Statement};
 use poets_lex::{Names, tokens};
 use poets_parse::statement;
-use poets_print::{command_text, reply_text, term_text};
-use poets_syntax::Template;
+use poets_print::{command_text, reply_text, step_text, term_text};
+use poets_syntax::{Template, Term};
 use poets_value::Memory;
 use std::alloc::Global;
 
@@ -17,9 +17,9 @@ fn text_of(alloc: Global, names: &Names, statement: &Statement) -> Result<String
     }
 }
 
-// How the command of the text is printed, or the contract of the template.
+// What the text says, and its names.
 #[tactic(auto, using(poets_grammar::proofs::Lexed::read_natural))]
-fn printed(alloc: Global, text: &str) -> Result<String, Memory> {
+fn said(alloc: Global, text: &str) -> Result<(Names, Statement), Memory> {
     let mut names = Names::new(alloc);
     if text.len() > 1 << 16 {
         return Err(Memory);
@@ -30,7 +30,27 @@ fn printed(alloc: Global, text: &str) -> Result<String, Memory> {
     let Ok(statement) = statement(alloc, tokens.as_slice()) else {
         return Err(Memory);
     };
+    Ok((names, statement))
+}
+
+// How the command of the text is printed, or the contract of the template.
+fn printed(alloc: Global, text: &str) -> Result<String, Memory> {
+    let (names, statement) = said(alloc, text)?;
     text_of(alloc, &names, &statement)
+}
+
+// How the transmission of the template is printed without its continuation.
+fn printed_step(alloc: Global, text: &str) -> Result<String, Memory> {
+    let (names, statement) = said(alloc, text)?;
+    match &statement {
+        Statement::Template(
+            Template {
+                body: Term::Transmit { binders, when, .. },
+                ..
+            },
+        ) => step_text(alloc, &names, binders, when),
+        _ => Err(Memory),
+    }
 }
 
 // Operators with both parts in brackets, and how they are printed.
@@ -100,6 +120,17 @@ fn what_is_printed_is_what_the_tree_asks_for(rt: HostRuntime) -> Result<(), Memo
             assert!(rt; found.as_str() == *wanted, "{text}: {found}");
         }
     }
+    Ok(())
+}
+
+#[test]
+fn a_step_is_printed(rt: HostRuntime) -> Result<(), Memory> {
+    let text = "template f() = transmit(x, y, r, t | (amount(r)) = (5)). Success";
+    let found = printed_step(rt.alloc(), text)?;
+    assert!(rt;
+        found.as_str() == "transmit(x, y, r, t | amount(r) = 5)",
+        "{found}"
+    );
     Ok(())
 }
 

@@ -5,4 +5,5 @@ pub mod Fewness
 pub mod Making
 pub mod Owning
 pub mod Endings
+pub mod Telling
 mod Entries

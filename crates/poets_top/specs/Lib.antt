@@ -2,6 +2,7 @@ pub mod Tasks
 pub mod Checking
 pub mod Running
 pub mod Replaying
+pub mod Explaining
 pub mod Demonstrating
 pub mod Writing
 pub mod Runs

@@ -9,3 +9,4 @@ abbrev pub form_of : Task → Form
 form_of T.Check = F.Book
 form_of T.Run = F.Clerks
 form_of T.Replay = F.Journal
+form_of (T.Explain name) = F.Journal

@@ -3,6 +3,7 @@
 
 mod checking;
 mod demonstrating;
+mod explaining;
 pub mod laws;
 mod outcome;
 mod program;
@@ -15,3 +16,4 @@ mod writing;
 
 pub use outcome::{DONE, NO_MEMORY, NO_SESSION, Outcome, READ_FAULT, TOO_LONG, USAGE, WRITE_FAULT};
 pub use program::run;
+pub use tasks::form_of;

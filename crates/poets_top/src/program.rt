@@ -1,5 +1,6 @@
 //! The program's one call.
-ghost use Rattle.std.specs.Prelude.{◌≡◌, ◌≢◌, ◌≤◌, ℕ, [], length};
+ghost use Rattle.std.specs.Prelude.{◌≡◌, ◌≢◌, ◌≤◌, ℕ, List, [], length};
+ghost use Rattle.poets_top.specs.Explaining.{HasExplained};
 ghost use Rattle.poets_top.specs.Promises.{AreNoForm, AskTo, AskToShow, Demonstrates, EndsAsAsked, EndsAsDeserved, IfDone};
 ghost use Rattle.poets_top.specs.Replaying.{HasReplayed};
 ghost use Rattle.poets_top.specs.Running.{HasRun};
@@ -10,6 +11,7 @@ ghost use Rattle.poets_words.specs.declared.mode.Task.TheVariants as T;
 
 use crate::checking::check;
 use crate::demonstrating::demonstrate;
+use crate::explaining::explain;
 use crate::outcome::{
     NO_MEMORY, NO_SESSION, Outcome, READ_FAULT, TOO_LONG, USAGE, without_history,
 };
@@ -27,9 +29,10 @@ use std::sync::Wait;
 use std::thread::Threads;
 
 /// Does all that the program does: reads a session, makes its calls, and writes the history, one line by each call of
-/// `write` where the sink takes whole pieces; or reads a book, and writes what it declares; or reads nothing, and shows
-/// a demonstration. The clerks of a session or a demonstration work at once, each in a thread of its own where one
-/// can be started. The gate is told of the stages of their calls, and may hold them back.
+/// `write` where the sink takes whole pieces, or what explains one of its contracts; or reads a book, and writes what
+/// it declares; or reads nothing, and shows a demonstration. The clerks of a session or a demonstration work at once,
+/// each in a thread of its own where one can be started. The gate is told of the stages of their calls, and may hold
+/// them back.
 ///
 /// The words and the statuses are those of `docs/LANGUAGE.md`, "Words and statuses". A source that does not tell
 /// its bytes, as standard input does not, may have given any: the clauses then say only that there are some bytes for
@@ -51,6 +54,8 @@ pub fn run<S: Source, K: Sink, G: Gate + Sync, R: Threads + Wait + Sync>(
         IfDone result (HasRun (S.left source.old) (S.left source.new) (K.held sink.old) (K.held sink.new)) }
     ensures has_replayed { AskTo words.now T.Replay →
         IfDone result (HasReplayed (S.left source.old) (S.left source.new) (K.held sink.old) (K.held sink.new)) }
+    ensures has_explained { (name : List ℕ) → AskTo words.now (T.Explain name) →
+        IfDone result (HasExplained name (S.left source.old) (S.left source.new) (K.held sink.old) (K.held sink.new)) }
     ensures has_demonstrated { (sales : ℕ) → AskToShow words.now sales →
         Demonstrates sales source.old source.new (K.held sink.old) (K.held sink.new) result }
     ensures status { EndsAsDeserved words.now (change S.left S.faults source.old source.new)
@@ -64,7 +69,7 @@ pub fn run<S: Source, K: Sink, G: Gate + Sync, R: Threads + Wait + Sync>(
         return without_history(alloc, USAGE);
     };
     match mode {
-        Mode::Read(task) => read_and_answer(rt, alloc, task, source, sink, gate),
+        Mode::Read(task) => read_and_answer(rt, alloc, &task, source, sink, gate),
         Mode::Demo(sales) => demonstrate(rt, alloc, sink, sales, gate),
     }
 }
@@ -73,13 +78,13 @@ pub fn run<S: Source, K: Sink, G: Gate + Sync, R: Threads + Wait + Sync>(
 fn read_and_answer<S: Source, K: Sink, G: Gate + Sync, R: Threads + Wait + Sync>(
     rt: &R,
     alloc: Global,
-    task: Task,
+    task: &Task,
     source: &mut S,
     sink: &mut K,
     gate: &G,
 ) -> Outcome
     ensures status { result.status ≢ USAGE }
-    ensures ends { EndsTask task (change S.left S.faults source.old source.new)
+    ensures ends { EndsTask task.now (change S.left S.faults source.old source.new)
         (change K.held K.faults sink.old sink.new) result }
 {
     match read_up_to(alloc, source, LONGEST_TEXT) {
@@ -99,13 +104,13 @@ fn read_and_answer<S: Source, K: Sink, G: Gate + Sync, R: Threads + Wait + Sync>
 fn answer<K: Sink, G: Gate + Sync, R: Threads + Wait + Sync>(
     rt: &R,
     alloc: Global,
-    task: Task,
+    task: &Task,
     text: &[u8],
     sink: &mut K,
     gate: &G,
 ) -> Outcome
     requires { length text.now ≤ longest }
-    ensures { Writes (IsAnswerTo text.now task) (change K.held K.faults sink.old sink.new) result }
+    ensures { Writes (IsAnswerTo text.now task.now) (change K.held K.faults sink.old sink.new) result }
 {
     let session = match read(alloc, text, form_of(task)) {
         Ok(session) => session,
@@ -115,6 +120,7 @@ fn answer<K: Sink, G: Gate + Sync, R: Threads + Wait + Sync>(
         Task::Check => check(alloc, sink, &session),
         Task::Run => run_scripts(rt, alloc, sink, session, gate),
         Task::Replay => replay(rt, alloc, sink, session),
+        Task::Explain(name) => explain(rt, alloc, sink, session, name),
     }
 }
 

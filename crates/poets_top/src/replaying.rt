@@ -30,7 +30,7 @@ pub(crate) fn replay<K: Sink, R: Threads + Sync>(
         journal,
     } = session;
     match make_calls(rt, alloc, rules, journal.as_slice()) {
-        Ok(history) => write(alloc, sink, &names, history),
+        Ok((_, history)) => write(alloc, sink, &names, history),
         Err(_) => without_history(alloc, NO_MEMORY),
     }
 }

@@ -6,12 +6,12 @@ use poets_session::Form;
 use poets_words::Task;
 
 /// The form of the sessions that a task takes.
-pub(crate) fn form_of(task: Task) -> Form
-    ensures { result ≡ tasks.form_of task }
+pub fn form_of(task: &Task) -> Form
+    ensures { result ≡ tasks.form_of task.now }
 {
     match task {
         Task::Check => Form::Book,
         Task::Run => Form::Clerks,
-        Task::Replay => Form::Journal,
+        Task::Replay | Task::Explain(_) => Form::Journal,
     }
 }

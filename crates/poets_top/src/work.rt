@@ -42,17 +42,19 @@ fn call<R: Threads + Sync>(
     push(entries, entry)
 }
 
-/// The entries of the history of the calls, in their order.
+/// The engine after the calls, made in their order, and the entries of their history.
 pub(crate) fn make_calls<R: Threads + Sync>(
     rt: &R,
     alloc: Global,
     rules: Rules,
     calls: &[(u32, Arc<Command>)],
-) -> Result<List<Entry>, Memory>
+) -> Result<(Engine, List<Entry>), Memory>
     requires whole { IsWholeBook (book_of_rules rules) }
     requires taken { AreTaken rules calls.now }
-    ensures right { IfOk result (AreRight rules) }
-    ensures calls { IfOk result (HaveCalls (calls_in calls.now)) }
+    ensures rules { IfOk result (λ made. made.0.rules ≡ rules) }
+    ensures noted { IfOk result (λ made. AreNoted made.0 (history_of made.1.items)) }
+    ensures right { IfOk result (λ made. AreRight rules made.1) }
+    ensures calls { IfOk result (λ made. HaveCalls (calls_in calls.now) made.1) }
 {
     // The book is checked and guarded, and the marks are right.
     let _book = rules.studied.book();
@@ -68,5 +70,5 @@ pub(crate) fn make_calls<R: Threads + Sync>(
             &numbered.1,
         )?;
     }
-    Ok(entries)
+    Ok((engine, entries))
 }

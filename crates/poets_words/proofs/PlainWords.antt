@@ -18,16 +18,16 @@ use Rattle.poets_words.specs.code.Reading.{FindsPlainWords, IsPlain, words_found
 
 -- ---- the command
 
--- the word of a task
-abbrev pub task : Rule
-task = record (new_rule (codes "task")) { required = true; action = Some Set }
+-- the first word
+abbrev pub first : Rule
+first = record (new_rule (codes "first")) { required = true; action = Some Set }
 
--- the number after it
-abbrev pub number : Rule
-number = record (new_rule (codes "number")) { action = Some Set }
+-- the word after it
+abbrev pub second : Rule
+second = record (new_rule (codes "second")) { action = Some Set }
 
 abbrev pub poets : App
-poets = with_rule (with_rule (on_top (λ s. record s { no_binary_name = true }) (new_app (codes "poets"))) task) number
+poets = with_rule (with_rule (on_top (λ s. record s { no_binary_name = true }) (new_app (codes "poets"))) first) second
 
 abbrev rules : List Rule
 rules = (built poets).top.rules
@@ -60,11 +60,11 @@ turn_plain s h position w e = rw (word_plain s.rules position w h e, passes_plai
 
 -- the command takes the words, and finds each of them
 abbrev Finds : List (List ℕ) → Type 0
-Finds words = (takes poets words ≡ true) × (words_found (first_of (codes "task") (matches_of poets words)) (first_of (codes "number") (matches_of poets words)) ≡ words)
+Finds words = (takes poets words ≡ true) × (words_found (first_of (codes "first") (matches_of poets words)) (first_of (codes "second") (matches_of poets words)) ≡ words)
 
 -- what is held after the first of two words
 abbrev after_first : List ℕ → Held
-after_first w = record nothing_held { pending = Some (codes "task", w ∷ []) }
+after_first w = record nothing_held { pending = Some (codes "first", w ∷ []) }
 
 finds_one : (w : List ℕ) → starts_with_minus w ≡ false → Finds (w ∷ [])
 unfolding walk_passes
@@ -100,6 +100,6 @@ value_of_rows f id = rows_first id f.entries.items
 
 -- what was found are the words
 pub words_are_found : (f : Found) (app : App) (words : List (List ℕ)) (w n : Option (List ℕ)) → FindsPlainWords app → IsPlain words → rows_of f ≡ matches_of app words →
-    w ≡ first_value f (codes "task") → n ≡ first_value f (codes "number") → words_found w n ≡ words
+    w ≡ first_value f (codes "first") → n ≡ first_value f (codes "second") → words_found w n ≡ words
 words_are_found f app words w n finds plain rows d e =
-    ap₂ words_found (d ∙ value_of_rows f (codes "task") ∙ ap (first_of (codes "task")) rows) (e ∙ value_of_rows f (codes "number") ∙ ap (first_of (codes "number")) rows) ∙ finds.found words plain
+    ap₂ words_found (d ∙ value_of_rows f (codes "first") ∙ ap (first_of (codes "first")) rows) (e ∙ value_of_rows f (codes "second") ∙ ap (first_of (codes "second")) rows) ∙ finds.found words plain

@@ -2,7 +2,9 @@
 #![tactic(auto)]
 
 mod mode;
+mod name;
 mod reading;
 mod sales;
 
 pub use mode::{Mode, Task, mode_of};
+pub use name::ContractName;

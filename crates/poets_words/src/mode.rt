@@ -3,6 +3,7 @@ ghost use Rattle.std.specs.Prelude.{IfOk, IfSome, IfNone};
 ghost use Rattle.poets_words.specs.Words.{AskFor, IsCommandForm, texts_of};
 ghost use Rattle.poets_words.specs.code.Reading.{texts_found};
 
+use crate::name::ContractName;
 use crate::reading::{command, is_plain};
 use crate::sales::sales_of;
 use clap::error::ErrorKind;
@@ -10,21 +11,23 @@ use poets_value::Memory;
 use std::alloc::Global;
 
 /// What the program is asked to do with the text that it reads.
-#[derive(Debug, Clone, Copy, PartialEq, Eq)]
-pub enum Task {
+#[derive(Debug, Drop)]
+pub enum Task<'a> {
     /// Check a book.
     Check,
     /// Run a session of clerks.
     Run,
     /// Replay a journal.
     Replay,
+    /// Replay a journal, and explain the contract with a name.
+    Explain(ContractName<'a>),
 }
 
 /// What the program is asked to do.
-#[derive(Debug, Clone, Copy, PartialEq, Eq)]
-pub enum Mode {
+#[derive(Debug, Drop)]
+pub enum Mode<'a> {
     /// Read a text, and do the task with it.
-    Read(Task),
+    Read(Task<'a>),
     /// Read nothing, and show a demonstration: so many sales of each of eight clerks, 1 to 1,000.
     Demo(u32),
 }
@@ -32,7 +35,7 @@ pub enum Mode {
 /// What the words ask for, or `None` where they are no command form. The program's name is none of the words.
 ///
 /// An `Err` is want of memory, of which the clauses say nothing.
-pub fn mode_of(alloc: Global, words: &[String]) -> Result<Option<Mode>, Memory>
+pub fn mode_of<'a>(alloc: Global, words: &'a [String]) -> Result<Option<Mode<'a>>, Memory>
     ensures some { IfOk result (λ found. IfSome found (AskFor (texts_of words.now))) }
     ensures none { IfOk result (λ found. IfNone found (¬ (IsCommandForm (texts_of words.now)))) }
 {
@@ -42,9 +45,9 @@ pub fn mode_of(alloc: Global, words: &[String]) -> Result<Option<Mode>, Memory>
     let command = command(alloc)?;
     match command.try_get_matches_from(words) {
         Ok(found) => {
-            let task = found.get_str("task");
-            let number = found.get_str("number");
-            Ok(mode_from(task, number))
+            let first = found.get_str("first");
+            let second = found.get_str("second");
+            Ok(mode_from(first, second))
         }
         Err(error) => match error.kind() {
             ErrorKind::OutOfMemory => Err(Memory),
@@ -54,14 +57,15 @@ pub fn mode_of(alloc: Global, words: &[String]) -> Result<Option<Mode>, Memory>
 }
 
 // What a first and a second word ask for.
-fn mode_from(task: Option<&str>, number: Option<&str>) -> Option<Mode>
-    ensures some { IfSome result (AskFor (texts_found task.entry number.entry)) }
-    ensures none { IfNone result (¬ (IsCommandForm (texts_found task.entry number.entry))) }
+fn mode_from<'a>(first: Option<&'a str>, second: Option<&'a str>) -> Option<Mode<'a>>
+    ensures some { IfSome result (AskFor (texts_found first.entry second.entry)) }
+    ensures none { IfNone result (¬ (IsCommandForm (texts_found first.entry second.entry))) }
 {
-    match (task, number) {
+    match (first, second) {
         (Some("check"), None) => Some(Mode::Read(Task::Check)),
         (Some("run"), None) => Some(Mode::Read(Task::Run)),
         (Some("replay"), None) => Some(Mode::Read(Task::Replay)),
+        (Some("explain"), Some(name)) => Some(Mode::Read(Task::Explain(ContractName::new(name)?))),
         (Some("demo"), Some(number)) => Some(Mode::Demo(sales_of(number)?)),
         _ => None,
     }

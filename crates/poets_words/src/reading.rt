@@ -14,16 +14,16 @@ pub(crate) fn is_plain(words: &[String]) -> bool
     (1..=2).contains(&words.len()) && !words.iter().any(|word| word.starts_with('-'))
 }
 
-/// A word for the task, and a number that may stay away.
+/// A first word, and a second that may be left out.
 pub(crate) fn command<'a>(alloc: Global) -> Result<Command<'a>, AllocError>
     ensures { IfOk result (λ command. FindsPlainWords (app_of command)) }
 {
-    let task = Arg::new(alloc, "task")
+    let first = Arg::new(alloc, "first")
         .required(true)
         .action(ArgAction::Set);
-    let number = Arg::new(alloc, "number").action(ArgAction::Set);
+    let second = Arg::new(alloc, "second").action(ArgAction::Set);
     Command::new(alloc, "poets")
         .no_binary_name(true)
-        .arg(task)?
-        .arg(number)
+        .arg(first)?
+        .arg(second)
 }

@@ -12,12 +12,12 @@ IsPlain words = (1 ≤ length words) × (length words ≤ 2) × (list_any starts
 -- a first word and one after it, as far as they were found
 abbrev pub words_found : Option (List ℕ) → Option (List ℕ) → List (List ℕ)
 words_found None _ = []
-words_found (Some task) None = task ∷ []
-words_found (Some task) (Some number) = task ∷ number ∷ []
+words_found (Some first) None = first ∷ []
+words_found (Some first) (Some second) = first ∷ second ∷ []
 
 -- the texts that a first word and one after it refer to, as far as they were found
 abbrev pub texts_found : Option (Bor (List ℕ)) → Option (Bor (List ℕ)) → List (List ℕ)
-texts_found task number = words_found (option_map (λ w. w.now) task) (option_map (λ w. w.now) number)
+texts_found first second = words_found (option_map (λ w. w.now) first) (option_map (λ w. w.now) second)
 
 -- the command takes plain words, and finds each of them
 pub record FindsPlainWords (app : App) : Type 0 where
@@ -25,4 +25,4 @@ pub record FindsPlainWords (app : App) : Type 0 where
   pub taken : (words : List (List ℕ)) → IsPlain words → takes app words ≡ true
   pub found : (words : List (List ℕ)) → IsPlain words →
       let found = matches_of app words in
-      words_found (first_of (codes "task") found) (first_of (codes "number") found) ≡ words
+      words_found (first_of (codes "first") found) (first_of (codes "second") found) ≡ words

@@ -13,5 +13,5 @@ pub returns-in-Ok : goal.returns-in-Ok
 returns-in-Ok c =
     let finds = c.in_ok-command.ensures in
     let rows = (c.in-Ok.ensures.matches finds.simple).0 in
-    let same = words_are_found (found_of c.in-Ok.found) (app_of c.in_ok-command.command) (map string_bytes c.args.words.now) _ _ finds (search rules) rows c.get_str-task.ensures c.get_str-number.ensures in
+    let same = words_are_found (found_of c.in-Ok.found) (app_of c.in_ok-command.command) (map string_bytes c.args.words.now) _ _ finds (search rules) rows c.get_str-first.ensures c.get_str-second.ensures in
     record { some = rw same at c.mode_from.ensures.some; none = rw same at c.mode_from.ensures.none }

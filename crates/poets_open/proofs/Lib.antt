@@ -1,0 +1,4 @@
+mod Listing
+mod Opened
+mod Taking
+mod OpenForEvents

@@ -1,0 +1,15 @@
+pub mod Choices
+pub mod Saying
+pub mod Joined
+pub mod Regrouped
+pub mod Undone
+pub mod Backing
+pub mod Backed
+pub mod Through
+pub mod Made
+pub mod Ready
+pub mod Parted
+pub mod Heads
+pub mod Ends
+pub mod Regrouping
+pub mod Stepped

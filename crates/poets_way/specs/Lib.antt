@@ -1,0 +1,9 @@
+pub mod Way
+pub mod Ways
+pub mod Texts
+pub mod Laws
+pub mod Moves
+pub mod Reading
+pub mod Coding
+pub mod Trails
+pub mod code

@@ -1,0 +1,20 @@
+//! In which way a trace performs a contract, and how that is checked.
+#![tactic(auto)]
+
+pub mod laws;
+mod node;
+mod parts;
+mod sides;
+mod table;
+mod texts;
+mod trails;
+#[cfg(test)]
+mod tries;
+mod verifying;
+mod way;
+
+pub use node::Node;
+pub use texts::way_text;
+pub use trails::Trails;
+pub use verifying::verify;
+pub use way::Way;
