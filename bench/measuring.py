@@ -74,7 +74,7 @@ def prints(program, case):
     """Whether the program prints what the case gives, if it gives that. Else tells where it first differs."""
     if case.printed is None:
         return True
-    run = subprocess.run([program, case.words], input=case.text, stdout=subprocess.PIPE, check=False)
+    run = subprocess.run([program, *case.words.split()], input=case.text, stdout=subprocess.PIPE, check=False)
     if run.stdout == case.printed:
         return True
     at = len(os.path.commonprefix([run.stdout, case.printed]))

@@ -1,16 +1,19 @@
-" Session texts of poets. Copy `syntax` and `ftdetect` into ~/.vim or ~/.config/nvim.
+" Session texts of poets. Copy `syntax`, `ftdetect` and `compiler` into ~/.vim or ~/.config/nvim.
 if exists("b:current_syntax")
   finish
 endif
 
 syntax keyword poetsStatement agents kinds template report clerk journal
-syntax keyword poetsCommand register transmit void end show tally portfolio over watch read
+syntax keyword poetsCommand register transmit void show tally portfolio over watch read
 syntax keyword poetsReserved total
 syntax keyword poetsFold fold with in by if then else
 syntax keyword poetsContract Success Failure
 syntax keyword poetsOperator and or not amount kind res
 syntax keyword poetsConstant true false undefined
 syntax keyword poetsType Int Bool Agent Kind Resource Day
+" `end` closes an `if`; before a name and `;;` it is the command.
+syntax match poetsFold "\<end\>"
+syntax match poetsCommand "\<end\ze\_s\+\h\w*\_s*;;"
 syntax match poetsNumber "\<\d\+"
 syntax match poetsDay "@\d\{4}-\d\d-\d\d"
 syntax match poetsEnd ";;"
