@@ -5,14 +5,17 @@ use Rattle.poets_turn.specs.code.Turnstile.{OnlyClerks}
 
 -- the calls of each clerk are its script, in order, and no other clerk's stand there
 pub record HasScripts {C : Type 0} (scripts : List (List C)) (history : List (ℕ × C)) : Type 0 where
-  pub own : (place : ℕ) (script : List C) → slice_get scripts place ≡ Some script → own_calls (place + 1) history ≡ script
+  pub own : (place : ℕ) (script : List C) → slice_get scripts place ≡ Some script →
+      own_calls (place + 1) history ≡ script
   pub clerks : OnlyClerks (length scripts) history
 
 -- each call has a reply, which is right after the calls before it
-pub record AreReplies {C R : Type 0} (answers : List (ℕ × C) → ℕ → C → R → Type 0) (history : List (ℕ × C)) (replies : List R) : Type 0 where
+pub record AreReplies {C R : Type 0} (answers : List (ℕ × C) → ℕ → C → R → Type 0) (history : List (ℕ × C))
+    (replies : List R) : Type 0 where
   pub as_many : length replies ≡ length history
   pub right : (place clerk : ℕ) (call : C) (reply : R)
-      → slice_get history place ≡ Some (clerk, call) → slice_get replies place ≡ Some reply → answers (take place history) clerk call reply
+      → slice_get history place ≡ Some (clerk, call) → slice_get replies place ≡ Some reply →
+      answers (take place history) clerk call reply
 
 module _ {R : Type 0} where
   -- the places of the answers are those below their number
@@ -29,4 +32,5 @@ module _ {R : Type 0} where
   pub record HoldReplies (count : ℕ) (answers : List (ℕ × R)) (slots : List (Option R)) : Type 0 where
     pub count_is : length slots ≡ count
     pub from : (place : ℕ) (reply : R) → slice_get slots place ≡ Some (Some reply) → Contains answers (place, reply)
-    pub each : (place : ℕ) (reply : R) → Contains answers (place, reply) → (other : R) × (slice_get slots place ≡ Some (Some other))
+    pub each : (place : ℕ) (reply : R) → Contains answers (place, reply) →
+        (other : R) × (slice_get slots place ≡ Some (Some other))

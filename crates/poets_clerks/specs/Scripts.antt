@@ -1,5 +1,6 @@
 -- What comes of the scripts of clerks.
-use Rattle.std.specs.Prelude.{◌≡◌, ◌⊎◌, ℕ, ◌+◌, ◌<◌, ◌≤◌, Bool, true, false, List, [], ◌∷◌, ◌++◌, length, map, take, All}
+use Rattle.std.specs.Prelude.{◌≡◌, ◌⊎◌, ℕ, ◌+◌, ◌<◌, ◌≤◌, Bool, true, false, List, [], ◌∷◌, ◌++◌, length, map, take}
+use Rattle.std.specs.Prelude.{All}
 use Rattle.std.specs.declared.alloc.Global.{Global}
 use Rattle.std.specs.declared.sync.Arc.{Arc}
 use Rattle.std.specs.Arc.{arc_value}
@@ -43,10 +44,12 @@ module _ {C R : Type 0} (answers : List (ℕ × C) → ℕ → C → R → Type 
   abbrev pub AreAnswers : List (ℕ × C) → ℕ → ℕ → List C → List (ℕ × R) → Type 0
   AreAnswers front clerk low calls [] = low ≤ length front
   AreAnswers front clerk low [] (d ∷ done) = ⊥
-  AreAnswers front clerk low (c ∷ calls) (d ∷ done) = IsAnswer front clerk c d.0 d.1 × (low ≤ d.0) × AreAnswers front clerk (d.0 + 1) calls done
+  AreAnswers front clerk low (c ∷ calls) (d ∷ done) =
+      IsAnswer front clerk c d.0 d.1 × (low ≤ d.0) × AreAnswers front clerk (d.0 + 1) calls done
 
   -- one call more has this answer, and the clerk, which saw this and had made these calls, now saw that and made those
-  pub record IsAnswered (clerk : ℕ) (saw saw' : List (ℕ × C)) (made made' : List C) (call : C) (d : ℕ × R) : Type 0 where
+  pub record IsAnswered (clerk : ℕ) (saw saw' : List (ℕ × C)) (made made' : List C) (call : C) (d : ℕ × R) :
+      Type 0 where
     pub longer : IsPrefix saw saw'
     pub answer : IsAnswer saw' clerk call d.0 d.1
     pub after : length saw ≤ d.0
@@ -58,7 +61,8 @@ pub record IsUnanswered {C : Type 0} (saw saw' : List (ℕ × C)) (made made' : 
   pub longer : IsPrefix saw saw'
   pub calls : (made' ≡ made) ⊎ (made' ≡ made ++ call ∷ [])
 
-module _ {M C R K F : Type 0} (frame : M → F) (answers : F → List (ℕ × C) → ℕ → C → R → Type 0) (turn : Turn M C R K F) where
+module _ {M C R K F : Type 0} (frame : M → F) (answers : F → List (ℕ × C) → ℕ → C → R → Type 0)
+    (turn : Turn M C R K F) where
   -- the clerk v worked at its script and became w, with these answers
   pub record HasWorked (memory : Bool) (script : List C) (v w : ClerkOf M C F) (done : List (ℕ × R)) : Type 0 where
     pub of : IsClerkOf frame turn w
@@ -72,14 +76,18 @@ module _ {M C R K F : Type 0} (frame : M → F) (answers : F → List (ℕ × C)
     pub part : (calls w ≡ calls v ++ take (length done) script) ⊎ (calls w ≡ calls v ++ take (length done + 1) script)
 
   -- place by place, each clerk worked at its script
-  pub data EachWorked (memory : Bool) : List (List C) → List (ClerkOf M C F) → List (ClerkOf M C F) → List (List (ℕ × R)) → Type 0 where
+  pub data EachWorked (memory : Bool) :
+      List (List C) → List (ClerkOf M C F) → List (ClerkOf M C F) → List (List (ℕ × R)) → Type 0 where
     None : EachWorked memory [] [] [] []
     More :
-        {script : List C} {v w : ClerkOf M C F} {done : List (ℕ × R)} {scripts : List (List C)} {vs ws : List (ClerkOf M C F)} {dones : List (List (ℕ × R))} →
-        HasWorked memory script v w done → EachWorked memory scripts vs ws dones → EachWorked memory (script ∷ scripts) (v ∷ vs) (w ∷ ws) (done ∷ dones)
+        {script : List C} {v w : ClerkOf M C F} {done : List (ℕ × R)}
+        {scripts : List (List C)} {vs ws : List (ClerkOf M C F)} {dones : List (List (ℕ × R))} →
+        HasWorked memory script v w done → EachWorked memory scripts vs ws dones →
+        EachWorked memory (script ∷ scripts) (v ∷ vs) (w ∷ ws) (done ∷ dones)
 
   -- what came of all scripts
-  pub data HaveWorked (memory : Bool) (scripts : List (List C)) (vs ws : List (ClerkOf M C F)) (dones : List (List (ℕ × R))) : Type 0 where
+  pub data HaveWorked (memory : Bool) (scripts : List (List C)) (vs ws : List (ClerkOf M C F))
+      (dones : List (List (ℕ × R))) : Type 0 where
     -- each clerk worked
     Each : EachWorked memory scripts vs ws dones → HaveWorked memory scripts vs ws dones
     -- there was no memory for the answers, and no call was made
@@ -87,4 +95,5 @@ module _ {M C R K F : Type 0} (frame : M → F) (answers : F → List (ℕ × C)
 
   -- the clerks worked at the scripts, and this came of it
   abbrev pub IsWorkOf : Listed (Listed (Arc C Global)) → Listed (ClerkOf M C F) → WorkedOf M C F R → Type 0
-  IsWorkOf scripts clerks work = HaveWorked work.memory (calls_of_all scripts) clerks.items work.clerks.items (map answers_of work.answers.items)
+  IsWorkOf scripts clerks work =
+      HaveWorked work.memory (calls_of_all scripts) clerks.items work.clerks.items (map answers_of work.answers.items)

@@ -11,7 +11,8 @@ numbers_to n = range_with_len 1 n
 abbrev pub line : List ℕ → List ℕ
 line text = text ++ 10 ∷ []
 
--- the contract of a sale: the shop hands over the oil, and within 30 days the buyer pays three dollars for each unit of it
+-- the contract of a sale: the shop hands over the oil, and within 30 days the buyer pays three dollars for each unit of
+-- it
 abbrev pub sale_template : List ℕ
 sale_template =
     codes "template sale(s: Agent, b: Agent, n: Int) = "
@@ -41,12 +42,15 @@ registration clerk sale =
 -- the shop hands over the oil: `transmit c1_2 shop buyer 2 Oil @2006-05-03;;`
 abbrev pub delivery : (clerk sale : ℕ) → List ℕ
 delivery clerk sale =
-    line (codes "transmit " ++ sale_name clerk sale ++ codes " shop buyer " ++ decimal sale ++ codes " Oil @2006-05-03;;")
+    line
+    (codes "transmit " ++ sale_name clerk sale ++ codes " shop buyer " ++ decimal sale ++ codes " Oil @2006-05-03;;")
 
 -- the buyer pays dollars on a day: `transmit c1_2 buyer shop 6 USD @2006-06-02;;`
 abbrev pub payment : (clerk sale : ℕ) → (dollars : ℕ) → (day : List ℕ) → List ℕ
 payment clerk sale dollars day =
-    line (codes "transmit " ++ sale_name clerk sale ++ codes " buyer shop " ++ decimal dollars ++ codes " USD @" ++ day ++ codes ";;")
+    line
+    (codes "transmit " ++ sale_name clerk sale ++ codes " buyer shop " ++ decimal dollars ++ codes " USD @" ++ day
+    ++ codes ";;")
 
 -- `end c1_2;;`
 abbrev pub ending : (clerk sale : ℕ) → List ℕ

@@ -25,8 +25,8 @@ use std::marker::Model;
 use std::sync::Arc;
 use std::thread::Threads;
 
-/// An engine with a history of calls. Contracts see its rules, its calls, and what it keeps of them: the rows and the log of
-/// its contracts and the watches, which are the ledger of a legal history of these calls.
+/// An engine with a history of calls. Contracts see its rules, its calls, and what it keeps of them: the rows and the
+/// log of its contracts and the watches, which are the ledger of a legal history of these calls.
 #[derive(Drop)]
 pub struct Engine {
     rules: Rules,
@@ -47,7 +47,8 @@ impl Model for Engine {
     ghost use Rattle.poets_expr.specs.contracts.expr.Expr as x;
     ghost use Rattle.std.specs.Coded.{codes};
 
-    ghost coded = { Prim.hlevel (codes, t.the_row.coded, b.the_row.coded, c.the_row.coded, r.the_row.coded, x.the_row.coded) };
+    ghost coded = { Prim.hlevel
+        (codes, t.the_row.coded, b.the_row.coded, c.the_row.coded, r.the_row.coded, x.the_row.coded) };
 
     ghost use Rattle.poets_engine.specs.State.{commands_of, plain_calls};
     ghost use Rattle.poets_engine.specs.Rows.{Stands};
@@ -59,7 +60,8 @@ impl Model for Engine {
       store = e.store;
     } };
 
-    ghost invariant = { λ e. Stands e.rules (plain_calls (commands_of e.history.items)) e.store × AreCopies e.rules e.copies };
+    ghost invariant = { λ e. Stands e.rules (plain_calls (commands_of e.history.items)) e.store
+        × AreCopies e.rules e.copies };
 }
 
 impl Engine {

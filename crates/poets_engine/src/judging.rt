@@ -42,8 +42,8 @@ fn is_failure(rows: &Rows) -> bool
     }
 }
 
-/// Refuses by the given reply a contract that no number of granted steps performs, and as too large one that is past the
-/// limit.
+/// Refuses by the given reply a contract that no number of granted steps performs, and as too large one that is past
+/// the limit.
 pub(crate) fn judge(
     alloc: Global,
     studied: &Studied,

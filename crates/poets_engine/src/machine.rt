@@ -30,9 +30,11 @@ impl Machine for Engine {
 
     ghost takes = { λ rules command. IsTaken (book_of_rules rules) (reports_of_rules rules) (command_of command) };
 
-    ghost answers = { λ rules before clerk command reply. AnswersIn (book_of_rules rules) (reports_of_rules rules) (plain_calls before) (command_of command) (reply_of reply) };
+    ghost answers = { λ rules before clerk command reply. AnswersIn (book_of_rules rules) (reports_of_rules rules)
+        (plain_calls before) (command_of command) (reply_of reply) };
 
-    ghost owes = { λ rules before clerk command kept. Owes (book_of_rules rules) (reports_of_rules rules) (plain_calls before) (command_of command) kept };
+    ghost owes = { λ rules before clerk command kept. Owes (book_of_rules rules) (reports_of_rules rules)
+        (plain_calls before) (command_of command) kept };
 
     /// Makes the call, as `Engine::apply` does, with a counter of its own.
     fn turn<R: Threads + Sync>(

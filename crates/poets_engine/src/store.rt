@@ -1,10 +1,12 @@
 //! What an engine keeps.
 ghost use Rattle.std.specs.Prelude.{◌≡◌, ◌+◌, ◌*◌, ◌-◌, ◌<◌, ◌≤◌, [], length, IfOk, OnOk, OnErr, Some, None, slice_get};
 ghost use Rattle.poets_table.specs.Pieces.{joined};
-ghost use Rattle.poets_table.specs.TableView.{AreEventsOf, IsCutOf, IsLive, IsPlaceOf, changed_at, finished, number_named, row_view};
+ghost use Rattle.poets_table.specs.TableView.{AreEventsOf, IsCutOf, IsLive, IsPlaceOf, changed_at, finished};
+ghost use Rattle.poets_table.specs.TableView.{number_named, row_view};
 ghost use Rattle.poets_live.specs.Watching.{AllFollowLog, IsAnswerOfWatch};
 ghost use Rattle.poets_engine.specs.Evaluations.{asked_of_watches};
-ghost use Rattle.poets_engine.specs.code.Changes.{AddsContract, AddsWatchUnder, CutsStore, RecordsUnder, WithdrawsUnder};
+ghost use Rattle.poets_engine.specs.code.Changes.{AddsContract, AddsWatchUnder, CutsStore, RecordsUnder};
+ghost use Rattle.poets_engine.specs.code.Changes.{WithdrawsUnder};
 
 use poets_cons::Rows;
 use poets_expr::{Asks, Decls};

@@ -46,7 +46,8 @@ fn go_on<T>(
     asks: &mut Asks<T>,
 ) -> Result<Decision, Memory>
     requires { CountsFit (book_of studied.now.book) (contract_of_rows (arc_value owed)) }
-    ensures choice { IfOk result (λ d. judgement_of d ≡ by_events studied.now (contract_of_rows (arc_value owed)) events.now) }
+    ensures choice { IfOk result (λ d.
+        judgement_of d ≡ by_events studied.now (contract_of_rows (arc_value owed)) events.now) }
     ensures fits { IfOk result (λ d. KeptFits (book_of studied.now.book) (judgement_of d)) }
     ensures asks { asks.new ≤ asks.old + asked_along studied.now (contract_of_rows (arc_value owed)) events.now }
     ensures rises { asks.old ≤ asks.new }
@@ -92,7 +93,8 @@ fn renew<T>(
     requires number { number < length points.now.items }
     requires fits { FitsAt studied.now points.now number }
     ensures owed { IfOk result (IsRenewed studied.now points.now events.now.pieces number) }
-    ensures asks { asks.new ≤ asks.old + asked_along studied.now (owed_at points.now number) (joined (drop number events.now.pieces)) }
+    ensures asks { asks.new ≤ asks.old
+        + asked_along studied.now (owed_at points.now number) (joined (drop number events.now.pieces)) }
     ensures rises { asks.old ≤ asks.new }
 {
     let was = points.as_slice();

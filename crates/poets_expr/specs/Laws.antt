@@ -17,7 +17,8 @@ use Rattle.poets_expr.specs.Whole.{IsWholeExpression, IsWholeOption, IsWholeEnv,
 
 -- where no pair has a declared name, declared names stand for themselves
 abbrev pub UndeclaredPairsKeepDeclared : Type 0
-UndeclaredPairsKeepDeclared = (declared : Declared) (env : Env) → PairsAreUndeclared declared env → KeepsDeclared declared env
+UndeclaredPairsKeepDeclared =
+    (declared : Declared) (env : Env) → PairsAreUndeclared declared env → KeepsDeclared declared env
 
 -- an expression with names replaced by literals has the value that it has with these names and values as the newest
 -- pairs of the environment
@@ -34,7 +35,9 @@ ReplacedKeepsValueAlone = (declared : Declared) (given : Givens) (e : Expression
 
 -- each value has a literal
 abbrev pub LiteralHasValue : Type 0
-LiteralHasValue = (declared : Declared) (env : Env) (o : Option Value) (t : Ty) → PairsAreUndeclared declared env → IsDeclared declared o →
+LiteralHasValue =
+    (declared : Declared) (env : Env) (o : Option Value) (t : Ty) → PairsAreUndeclared declared env →
+    IsDeclared declared o →
     val declared env (literal_of o t) ≡ o
 
 -- folding keeps the value, where a closed expression has no value that is an undeclared agent or kind
@@ -46,20 +49,26 @@ FoldedKeepsValue = (declared : Declared) (env : Env) (e : Expression) (t : Ty) �
 -- folding an `Expr` keeps the value, where a closed one has no value that is an undeclared kind
 abbrev pub FoldedKeepsValueOfExpr : Type 0
 FoldedKeepsValueOfExpr = (declared : Declared) (env : Env) (e : Expr) (t : Ty) → PairsAreUndeclared declared env →
-    (IsTrue (is_closed declared (expression_of e)) → (k : Name) → val declared [] (expression_of e) ≡ Some (V.Kind k) → declared k ≡ Some T.Kind) →
+    (IsTrue (is_closed declared (expression_of e)) → (k : Name) → val declared [] (expression_of e) ≡ Some (V.Kind k) →
+    declared k ≡ Some T.Kind) →
     val declared env (fold_closed declared (expression_of e) t) ≡ val declared env (expression_of e)
 
 -- where the literals are of declared agents and kinds, so are the values
 abbrev pub DeclaredLiteralsGiveDeclared : Type 0
-DeclaredLiteralsGiveDeclared = (declared : Declared) (e : Expression) → HasDeclaredLiterals declared e → IsDeclared declared (val declared [] e)
+DeclaredLiteralsGiveDeclared =
+    (declared : Declared) (e : Expression) → HasDeclaredLiterals declared e → IsDeclared declared (val declared [] e)
 
 -- closed are the expressions of which every free name is declared
 abbrev pub ClosedNamesAreDeclared : Type 0
-ClosedNamesAreDeclared = (declared : Declared) (e : Expression) → is_closed declared e ≡ list_all (λ x. is_some (declared x)) (free_names_of e)
+ClosedNamesAreDeclared =
+    (declared : Declared) (e : Expression) →
+    is_closed declared e ≡ list_all (λ x. is_some (declared x)) (free_names_of e)
 
 -- the value of a whole expression is whole
 abbrev pub ValueIsWhole : Type 0
-ValueIsWhole = (declared : Declared) (env : Env) (e : Expression) → IsWholeEnv env → IsWholeExpression e → IsWholeOption (val declared env e)
+ValueIsWhole =
+    (declared : Declared) (env : Env) (e : Expression) → IsWholeEnv env → IsWholeExpression e →
+    IsWholeOption (val declared env e)
 
 -- the literal of a whole value is whole
 abbrev pub LiteralIsWhole : Type 0
@@ -67,8 +76,10 @@ LiteralIsWhole = (o : Option Value) (t : Ty) → IsWholeOption o → IsWholeExpr
 
 -- where names are replaced by whole values, a whole expression stays whole
 abbrev pub ReplacedIsWhole : Type 0
-ReplacedIsWhole = (given : Givens) (e : Expression) → AreWholeGivens given → IsWholeExpression e → IsWholeExpression (subst given e)
+ReplacedIsWhole =
+    (given : Givens) (e : Expression) → AreWholeGivens given → IsWholeExpression e → IsWholeExpression (subst given e)
 
 -- a whole expression is whole once it is folded
 abbrev pub FoldedIsWhole : Type 0
-FoldedIsWhole = (declared : Declared) (e : Expression) (t : Ty) → IsWholeExpression e → IsWholeExpression (fold_closed declared e t)
+FoldedIsWhole =
+    (declared : Declared) (e : Expression) (t : Ty) → IsWholeExpression e → IsWholeExpression (fold_closed declared e t)

@@ -1,5 +1,5 @@
--- The grammar of contracts. `ReadsContract rule ts c rest` says that the tokens ts are what the rule says, with the tree c, and then
--- the tokens rest.
+-- The grammar of contracts. `ReadsContract rule ts c rest` says that the tokens ts are what the rule says, with the
+-- tree c, and then the tokens rest.
 use Rattle.std.specs.Prelude.{List, [], ◌∷◌}
 use Rattle.poets_value.specs.declared.value.Name.{Name}
 use Rattle.poets_expr.specs.Expression.{Expression}
@@ -17,7 +17,8 @@ pub data ReadsBinders : List Tok → Binders → List Tok → Type 0 where
   Four :
       {sender receiver what day : Name} {rest : List Tok} →
       ReadsBinders
-      (K.Name sender ∷ K.Sign S.Comma ∷ K.Name receiver ∷ K.Sign S.Comma ∷ K.Name what ∷ K.Sign S.Comma ∷ K.Name day ∷ rest)
+      (K.Name sender ∷ K.Sign S.Comma ∷ K.Name receiver ∷ K.Sign S.Comma ∷ K.Name what ∷ K.Sign S.Comma
+      ∷ K.Name day ∷ rest)
       (record { sender = sender; receiver = receiver; what = what; day = day }) rest
 
 -- the rules; a whole contract is a choice
@@ -33,17 +34,21 @@ pub data ReadsContract : ContractRule → List Tok → Contract → List Tok →
   OneParallel : {ts rest : List Tok} {c : Contract} → ReadsContract Parallel ts c rest → ReadsContract Choice ts c rest
   MoreParallels :
       {ts mid rest : List Tok} {a b : Contract} →
-      ReadsContract Choice ts a (K.Sign S.Plus ∷ mid) → ReadsContract Parallel mid b rest → ReadsContract Choice ts (C.Plus a b) rest
+      ReadsContract Choice ts a (K.Sign S.Plus ∷ mid) → ReadsContract Parallel mid b rest →
+      ReadsContract Choice ts (C.Plus a b) rest
   -- parallel = sequence { "||" sequence }
-  OneSequence : {ts rest : List Tok} {c : Contract} → ReadsContract Sequence ts c rest → ReadsContract Parallel ts c rest
+  OneSequence : {ts rest : List Tok} {c : Contract} → ReadsContract Sequence ts c rest →
+      ReadsContract Parallel ts c rest
   MoreSequences :
       {ts mid rest : List Tok} {a b : Contract} →
-      ReadsContract Parallel ts a (K.Sign S.DoubleBar ∷ mid) → ReadsContract Sequence mid b rest → ReadsContract Parallel ts (C.Par a b) rest
+      ReadsContract Parallel ts a (K.Sign S.DoubleBar ∷ mid) → ReadsContract Sequence mid b rest →
+      ReadsContract Parallel ts (C.Par a b) rest
   -- sequence = simple { ";" simple }
   OneSimple : {ts rest : List Tok} {c : Contract} → ReadsContract Simple ts c rest → ReadsContract Sequence ts c rest
   MoreSimples :
       {ts mid rest : List Tok} {a b : Contract} →
-      ReadsContract Sequence ts a (K.Sign S.Semicolon ∷ mid) → ReadsContract Simple mid b rest → ReadsContract Sequence ts (C.Seq a b) rest
+      ReadsContract Sequence ts a (K.Sign S.Semicolon ∷ mid) → ReadsContract Simple mid b rest →
+      ReadsContract Sequence ts (C.Seq a b) rest
   -- simple = "transmit" "(" NAME "," NAME "," NAME "," NAME "|" expression ")" "." simple
   Transmit :
       {ts mid more rest : List Tok} {b : Binders} {p : Expression} {c : Contract} →

@@ -1,5 +1,5 @@
--- The grammar of expressions. `ReadsExpression rule ts e rest` says that the tokens ts are what the rule says, with the tree e, and
--- then the tokens rest.
+-- The grammar of expressions. `ReadsExpression rule ts e rest` says that the tokens ts are what the rule says, with the
+-- tree e, and then the tokens rest.
 use Rattle.std.specs.Prelude.{◌≡◌, ℕ, List, [], ◌∷◌, Some, Bool, true, false, ℤ, pos, neg_ℤ}
 use Rattle.poets_value.specs.declared.value.Name.{Name}
 use Rattle.poets_value.specs.declared.value.Ty.{Ty}
@@ -33,22 +33,27 @@ begins_number _ = false
 -- operators of one level group to the left, and brackets leave no trace in the tree
 pub data ReadsExpression : Rule → List Tok → Expression → List Tok → Type 0 where
   -- disjunction = conjunction { "or" conjunction }
-  OneConjunction : {ts rest : List Tok} {e : Expression} → ReadsExpression Conjunction ts e rest → ReadsExpression Disjunction ts e rest
+  OneConjunction : {ts rest : List Tok} {e : Expression} → ReadsExpression Conjunction ts e rest →
+      ReadsExpression Disjunction ts e rest
   MoreConjunctions :
       {ts mid rest : List Tok} {a b : Expression} {t : Tok} {o : Op} →
-      infix_operator t ≡ Some (1, o) → ReadsExpression Disjunction ts a (t ∷ mid) → ReadsExpression Conjunction mid b rest →
+      infix_operator t ≡ Some (1, o) → ReadsExpression Disjunction ts a (t ∷ mid) →
+      ReadsExpression Conjunction mid b rest →
       ReadsExpression Disjunction ts (E.Binary o a b) rest
   -- conjunction = negation { "and" negation }
-  OneNegation : {ts rest : List Tok} {e : Expression} → ReadsExpression Negation ts e rest → ReadsExpression Conjunction ts e rest
+  OneNegation : {ts rest : List Tok} {e : Expression} → ReadsExpression Negation ts e rest →
+      ReadsExpression Conjunction ts e rest
   MoreNegations :
       {ts mid rest : List Tok} {a b : Expression} {t : Tok} {o : Op} →
-      infix_operator t ≡ Some (2, o) → ReadsExpression Conjunction ts a (t ∷ mid) → ReadsExpression Negation mid b rest →
+      infix_operator t ≡ Some (2, o) → ReadsExpression Conjunction ts a (t ∷ mid) →
+      ReadsExpression Negation mid b rest →
       ReadsExpression Conjunction ts (E.Binary o a b) rest
   -- negation = "not" negation | comparison
   Not :
       {ts rest : List Tok} {e : Expression} →
       ReadsExpression Negation ts e rest → ReadsExpression Negation (K.Word W.Not ∷ ts) (E.Unary E.Not e) rest
-  OneComparison : {ts rest : List Tok} {e : Expression} → ReadsExpression Comparison ts e rest → ReadsExpression Negation ts e rest
+  OneComparison : {ts rest : List Tok} {e : Expression} → ReadsExpression Comparison ts e rest →
+      ReadsExpression Negation ts e rest
   -- comparison = sum [ ( "=" | "<>" | "<" | "<=" | ">" | ">=" ) sum ]
   OneSum : {ts rest : List Tok} {e : Expression} → ReadsExpression Sum ts e rest → ReadsExpression Comparison ts e rest
   TwoSums :
@@ -62,7 +67,8 @@ pub data ReadsExpression : Rule → List Tok → Expression → List Tok → Typ
       infix_operator t ≡ Some (5, o) → ReadsExpression Sum ts a (t ∷ mid) → ReadsExpression Product mid b rest →
       ReadsExpression Sum ts (E.Binary o a b) rest
   -- product = prefixed { ( "*" | "/" | "%" ) prefixed }
-  OnePrefixed : {ts rest : List Tok} {e : Expression} → ReadsExpression Prefixed ts e rest → ReadsExpression Product ts e rest
+  OnePrefixed : {ts rest : List Tok} {e : Expression} → ReadsExpression Prefixed ts e rest →
+      ReadsExpression Product ts e rest
   MorePrefixed :
       {ts mid rest : List Tok} {a b : Expression} {t : Tok} {o : Op} →
       infix_operator t ≡ Some (6, o) → ReadsExpression Product ts a (t ∷ mid) → ReadsExpression Prefixed mid b rest →
@@ -73,10 +79,13 @@ pub data ReadsExpression : Rule → List Tok → Expression → List Tok → Typ
       ReadsExpression Prefixed (K.Sign S.Minus ∷ K.Number (pos n) ∷ rest) (E.Literal (V.Int (neg_ℤ (pos n)))) rest
   Minus :
       {ts rest : List Tok} {e : Expression} →
-      begins_number ts ≡ false → ReadsExpression Prefixed ts e rest → ReadsExpression Prefixed (K.Sign S.Minus ∷ ts) (E.Unary E.Minus e) rest
-  OnePrimary : {ts rest : List Tok} {e : Expression} → ReadsExpression Primary ts e rest → ReadsExpression Prefixed ts e rest
+      begins_number ts ≡ false → ReadsExpression Prefixed ts e rest →
+      ReadsExpression Prefixed (K.Sign S.Minus ∷ ts) (E.Unary E.Minus e) rest
+  OnePrimary : {ts rest : List Tok} {e : Expression} → ReadsExpression Primary ts e rest →
+      ReadsExpression Prefixed ts e rest
   -- primary = NUMBER | DAY | "true" | "false" | NAME | "undefined" type
-  Number : {n : ℕ} {rest : List Tok} → ReadsExpression Primary (K.Number (pos n) ∷ rest) (E.Literal (V.Int (pos n))) rest
+  Number : {n : ℕ} {rest : List Tok} →
+      ReadsExpression Primary (K.Number (pos n) ∷ rest) (E.Literal (V.Int (pos n))) rest
   ADay : {d : ℤ} {rest : List Tok} → ReadsExpression Primary (K.Day d ∷ rest) (E.Literal (V.Day d)) rest
   True : {rest : List Tok} → ReadsExpression Primary (K.Word W.True ∷ rest) (E.Literal (V.Bool true)) rest
   False : {rest : List Tok} → ReadsExpression Primary (K.Word W.False ∷ rest) (E.Literal (V.Bool false)) rest
@@ -91,7 +100,8 @@ pub data ReadsExpression : Rule → List Tok → Expression → List Tok → Typ
       (E.Literal (V.Resource (record { amount = pos n; kind = x }))) rest
   NegativeResource :
       {n : ℕ} {x : Name} {rest : List Tok} →
-      ReadsExpression Primary (K.Sign S.LeftBracket ∷ K.Sign S.Minus ∷ K.Number (pos n) ∷ K.Name x ∷ K.Sign S.RightBracket ∷ rest)
+      ReadsExpression Primary
+      (K.Sign S.LeftBracket ∷ K.Sign S.Minus ∷ K.Number (pos n) ∷ K.Name x ∷ K.Sign S.RightBracket ∷ rest)
       (E.Literal (V.Resource (record { amount = neg_ℤ (pos n); kind = x }))) rest
   -- | "amount" "(" disjunction ")" | "kind" "(" disjunction ")" | "res" "(" disjunction "," disjunction ")"
   AmountOf :
@@ -104,16 +114,20 @@ pub data ReadsExpression : Rule → List Tok → Expression → List Tok → Typ
       ReadsExpression Primary (K.Word W.Kind ∷ K.Sign S.LeftParen ∷ ts) (E.Unary E.KindOf e) rest
   Make :
       {ts mid rest : List Tok} {a b : Expression} →
-      ReadsExpression Disjunction ts a (K.Sign S.Comma ∷ mid) → ReadsExpression Disjunction mid b (K.Sign S.RightParen ∷ rest) →
+      ReadsExpression Disjunction ts a (K.Sign S.Comma ∷ mid) →
+      ReadsExpression Disjunction mid b (K.Sign S.RightParen ∷ rest) →
       ReadsExpression Primary (K.Word W.Res ∷ K.Sign S.LeftParen ∷ ts) (E.Make a b) rest
   -- | "if" disjunction "then" disjunction "else" disjunction "end" | "(" disjunction ")"
   If :
       {ts mid more rest : List Tok} {a b c : Expression} →
-      ReadsExpression Disjunction ts a (K.Word W.Then ∷ mid) → ReadsExpression Disjunction mid b (K.Word W.Else ∷ more) →
-      ReadsExpression Disjunction more c (K.Word W.End ∷ rest) → ReadsExpression Primary (K.Word W.If ∷ ts) (E.If a b c) rest
+      ReadsExpression Disjunction ts a (K.Word W.Then ∷ mid) →
+      ReadsExpression Disjunction mid b (K.Word W.Else ∷ more) →
+      ReadsExpression Disjunction more c (K.Word W.End ∷ rest) →
+      ReadsExpression Primary (K.Word W.If ∷ ts) (E.If a b c) rest
   Brackets :
       {ts rest : List Tok} {e : Expression} →
-      ReadsExpression Disjunction ts e (K.Sign S.RightParen ∷ rest) → ReadsExpression Primary (K.Sign S.LeftParen ∷ ts) e rest
+      ReadsExpression Disjunction ts e (K.Sign S.RightParen ∷ rest) →
+      ReadsExpression Primary (K.Sign S.LeftParen ∷ ts) e rest
 
 -- the tokens are an expression with this tree
 abbrev pub IsExpression : List Tok → Expression → Type 0

@@ -1,5 +1,5 @@
--- Lists of the grammar, over what one item of them is. `ReadsList Item ts xs rest` says that the tokens ts are the items xs with
--- commas between them, and then the tokens rest.
+-- Lists of the grammar, over what one item of them is. `ReadsList Item ts xs rest` says that the tokens ts are the
+-- items xs with commas between them, and then the tokens rest.
 use Rattle.std.specs.Prelude.{List, [], ◌∷◌}
 use Rattle.poets_value.specs.declared.value.Name.{Name}
 use Rattle.poets_lex.specs.declared.token.Sign.TheVariants as S
@@ -14,7 +14,8 @@ pub data ReadsList {A : Type 0} (Item : List Tok → A → List Tok → Type 0) 
       Item ts x (K.Sign S.Comma ∷ mid) → ReadsList Item mid xs rest → ReadsList Item ts (x ∷ xs) rest
 
 -- "(" [ item { "," item } ] ")"
-pub data ReadsBracketed {A : Type 0} (Item : List Tok → A → List Tok → Type 0) : List Tok → List A → List Tok → Type 0 where
+pub data ReadsBracketed {A : Type 0} (Item : List Tok → A → List Tok → Type 0) :
+    List Tok → List A → List Tok → Type 0 where
   Empty : {rest : List Tok} → ReadsBracketed Item (K.Sign S.LeftParen ∷ K.Sign S.RightParen ∷ rest) [] rest
   Full :
       {ts rest : List Tok} {xs : List A} →

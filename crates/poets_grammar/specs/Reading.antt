@@ -1,12 +1,14 @@
--- Reading of expressions as functions on lists: what stands at the front of the tokens, as long as possible, and what stands after it.
--- What is an expression Expressions.antt says; that both agree is proved.
-use Rattle.std.specs.Prelude.{ℕ, zero, suc, ◌+◌, nat_eq, Bool, true, false, if◌then◌else◌, List, [], ◌∷◌, length, Option, Some, None, ℤ, pos, neg_ℤ}
+-- Reading of expressions as functions on lists: what stands at the front of the tokens, as long as possible, and what
+-- stands after it. What is an expression Expressions.antt says; that both agree is proved.
+use Rattle.std.specs.Prelude.{ℕ, zero, suc, ◌+◌, nat_eq, Bool, true, false, if◌then◌else◌, List, [], ◌∷◌, length}
+use Rattle.std.specs.Prelude.{Option, Some, None, ℤ, pos, neg_ℤ}
 use Rattle.poets_value.specs.declared.value.Name.{Name}
 use Rattle.poets_value.specs.declared.value.Ty.{Ty}
 use Rattle.poets_value.specs.declared.value.Resource.{Resource}
 use Rattle.poets_value.specs.declared.value.Value.TheVariants as V
 use Rattle.poets_expr.specs.declared.expr.Op.{Op}
-use Rattle.poets_expr.specs.Expression.{UnaryOp, Minus, Not, AmountOf, KindOf, Expression, Literal, Undefined, Named, Unary, Make, Binary, If}
+use Rattle.poets_expr.specs.Expression.{UnaryOp, Minus, Not, AmountOf, KindOf, Expression, Literal, Undefined, Named}
+use Rattle.poets_expr.specs.Expression.{Unary, Make, Binary, If}
 use Rattle.poets_lex.specs.declared.token.Word.{Word}
 use Rattle.poets_lex.specs.declared.token.Word.TheVariants as W
 use Rattle.poets_lex.specs.declared.token.Sign.{Sign}
@@ -79,17 +81,20 @@ whole x (t ∷ ts) = None
 
 -- ---- operands that links join
 
-abbrev pub turn : {J A : Type 0} → (J → A → A → A) → (List Tok → Reading A) → (A → List Tok → Reading A) → A → List Tok → Reading J → Reading A
+abbrev pub turn : {J A : Type 0} → (J → A → A → A) → (List Tok → Reading A) → (A → List Tok → Reading A) → A →
+    List Tok → Reading J → Reading A
 turn join operand next left ts None = Some (left, ts)
 turn join operand next left ts (Some j) = operand j.1 >>= λ right. next (join j.0 left right.0) right.1
 
 -- what is joined to the first operand: fewer operands than the number, each after a link
-unfoldable pub more : {J A : Type 0} → (List Tok → Reading J) → (J → A → A → A) → (List Tok → Reading A) → ℕ → A → List Tok → Reading A
+unfoldable pub more : {J A : Type 0} → (List Tok → Reading J) → (J → A → A → A) → (List Tok → Reading A) → ℕ → A →
+    List Tok → Reading A
 more link join operand zero left ts = None
 more link join operand (suc turns) left ts = turn join operand (more link join operand turns) left ts (link ts)
 
 -- operands with a link between them, grouped to the left
-unfoldable pub joined : {J A : Type 0} → (List Tok → Reading J) → (J → A → A → A) → (List Tok → Reading A) → List Tok → Reading A
+unfoldable pub joined : {J A : Type 0} → (List Tok → Reading J) → (J → A → A → A) → (List Tok → Reading A) → List Tok →
+    Reading A
 joined link join operand ts = do
   left ← operand ts
   more link join operand (length left.1 + 1) left.0 left.1

@@ -13,7 +13,8 @@ use Rattle.poets_lex.specs.declared.token.Word.TheVariants as W
 use Rattle.poets_lex.specs.declared.token.Sign.TheVariants as S
 use Rattle.poets_lex.specs.declared.token.Tok.{Tok}
 use Rattle.poets_lex.specs.declared.token.Tok.TheVariants as K
-use Rattle.poets_grammar.specs.Reading.{Reading, ◌>>=◌, behind_sign, behind_word, name, number, type_name, whole, listed, bracketed, expression, whole_expression, arguments}
+use Rattle.poets_grammar.specs.Reading.{Reading, ◌>>=◌, behind_sign, behind_word, name, number, type_name, whole}
+use Rattle.poets_grammar.specs.Reading.{listed, bracketed, expression, whole_expression, arguments}
 use Rattle.poets_grammar.specs.ContractReading.{binders, whole_contract}
 
 -- ---- parts
@@ -73,7 +74,8 @@ transmission ts = do
   n ← number receiver.1
   kind ← name n.1
   day ← last_day kind.1
-  Some (Transmit x.0 (record { sender = sender.0; receiver = receiver.0; what = record { kind = kind.0; amount = n.0 }; day = day }))
+  Some (Transmit x.0
+      (record { sender = sender.0; receiver = receiver.0; what = record { kind = kind.0; amount = n.0 }; day = day }))
 
 unfoldable pub withdrawal : List Tok → Option plain.Command
 withdrawal ts = do

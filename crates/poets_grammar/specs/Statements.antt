@@ -23,7 +23,8 @@ use Rattle.poets_grammar.specs.ContractGrammar.{ReadsBinders, IsContract}
 pub data ReadsParameter : List Tok → Param → List Tok → Type 0 where
   Typed :
       {x : Name} {w : Word} {t : Ty} {rest : List Tok} →
-      type_of w ≡ Some t → ReadsParameter (K.Name x ∷ K.Sign S.Colon ∷ K.Word w ∷ rest) (record { name = x; ty = t }) rest
+      type_of w ≡ Some t →
+      ReadsParameter (K.Name x ∷ K.Sign S.Colon ∷ K.Word w ∷ rest) (record { name = x; ty = t }) rest
 
 -- "(" [ params ] ")", where params = NAME ":" type { "," NAME ":" type }
 abbrev pub ReadsParameters : List Tok → List Param → List Tok → Type 0
@@ -46,7 +47,8 @@ pub data IsCommand : List Tok → plain.Command → Type 0 where
       {x sender receiver kind : Name} {n : ℕ} {day : ℤ} →
       IsCommand
       (K.Word W.Transmit ∷ K.Name x ∷ K.Name sender ∷ K.Name receiver ∷ K.Number (pos n) ∷ K.Name kind ∷ K.Day day ∷ [])
-      (plain.Transmit x (record { sender = sender; receiver = receiver; what = record { kind = kind; amount = pos n }; day = day }))
+      (plain.Transmit x
+      (record { sender = sender; receiver = receiver; what = record { kind = kind; amount = pos n }; day = day }))
   -- "void" NAME NUMBER
   Void : {x : Name} {n : ℕ} → IsCommand (K.Word W.Void ∷ K.Name x ∷ K.Number (pos n) ∷ []) (plain.Void x n)
   -- "end" NAME | "show" NAME
@@ -71,17 +73,21 @@ pub data IsCommand : List Tok → plain.Command → Type 0 where
 -- the tokens are a statement that says this
 pub data IsStatement : List Tok → Statement → Type 0 where
   -- "agents" names | "kinds" names
-  Agents : {ts : List Tok} {names : List Name} → ReadsNames ts names [] → IsStatement (K.Word W.Agents ∷ ts) (said.Agents names)
-  Kinds : {ts : List Tok} {names : List Name} → ReadsNames ts names [] → IsStatement (K.Word W.Kinds ∷ ts) (said.Kinds names)
+  Agents : {ts : List Tok} {names : List Name} → ReadsNames ts names [] →
+      IsStatement (K.Word W.Agents ∷ ts) (said.Agents names)
+  Kinds : {ts : List Tok} {names : List Name} → ReadsNames ts names [] →
+      IsStatement (K.Word W.Kinds ∷ ts) (said.Kinds names)
   -- "template" NAME "(" [ params ] ")" "=" contract
   Template :
       {f : Name} {ts mid : List Tok} {params : List Param} {body : Contract} →
       ReadsParameters ts params (K.Sign S.Equal ∷ mid) → IsContract mid body →
-      IsStatement (K.Word W.Template ∷ K.Name f ∷ ts) (said.Template (record { name = f; params = params; body = body }))
+      IsStatement (K.Word W.Template ∷ K.Name f ∷ ts)
+      (said.Template (record { name = f; params = params; body = body }))
   -- "report" NAME "(" [ params ] ")" ":" type "=" "fold" NAME "=" expression
   -- "with" "(" NAME "," NAME "," NAME "," NAME ")" "in" expression [ "by" expression ]
   Report :
-      {q carry : Name} {ts from_start from_binders from_step : List Tok} {params : List Param} {w : Word} {ty : Ty} {start step : Expression}
+      {q carry : Name} {ts from_start from_binders from_step : List Tok} {params : List Param} {w : Word} {ty : Ty}
+      {start step : Expression}
       {binders : Binders} {key : Option Expression} →
       ReadsParameters ts params
       (K.Sign S.Colon ∷ K.Word w ∷ K.Sign S.Equal ∷ K.Word W.Fold ∷ K.Name carry ∷ K.Sign S.Equal ∷ from_start) →
@@ -91,7 +97,16 @@ pub data IsStatement : List Tok → Statement → Type 0 where
       IsStep from_step step key →
       IsStatement (K.Word W.Report ∷ K.Name q ∷ ts)
       (said.Report
-      (record { name = q; params = params; ty = ty; start = start; carry = carry; binders = binders; step = step; key = key }))
+      (record {
+        name = q;
+        params = params;
+        ty = ty;
+        start = start;
+        carry = carry;
+        binders = binders;
+        step = step;
+        key = key;
+      }))
   -- "clerk" | "journal"
   Clerk : IsStatement (K.Word W.Clerk ∷ []) said.Clerk
   Journal : IsStatement (K.Word W.Journal ∷ []) said.Journal

@@ -53,8 +53,8 @@ sign_operator S.Slash = Some (6, O.Div)
 sign_operator S.Percent = Some (6, O.Rem)
 sign_operator _ = None
 
--- the level of a token between two operands, and which operator it is: `or` 1, `and` 2, comparisons 4, sums 5, products 6
--- (3 is the level of `not`)
+-- the level of a token between two operands, and which operator it is: `or` 1, `and` 2, comparisons 4, sums 5, products
+-- 6 (3 is the level of `not`)
 abbrev pub infix_operator : Tok → Option (ℕ × Op)
 infix_operator (K.Word w) = word_operator w
 infix_operator (K.Sign s) = sign_operator s

@@ -8,7 +8,9 @@ ghost use Rattle.poets_grammar.specs.Expressions.{IsExpression};
 ghost use Rattle.poets_grammar.specs.ContractGrammar.{IsContract};
 ghost use Rattle.poets_grammar.specs.Statements.{IsStatement};
 ghost use Rattle.poets_grammar.specs.TooDeep.{IsTooDeep};
-ghost use Rattle.poets_grammar.specs.Examples.{mixed, mixed_tree, less, less_tree, chained, negative, negative_tree, negated, negated_tree, joint, joint_tree, agents, agents_said, registered, registered_said, cut_off, nested, added};
+ghost use Rattle.poets_grammar.specs.Examples.{mixed, mixed_tree, less, less_tree, chained, negative, negative_tree};
+ghost use Rattle.poets_grammar.specs.Examples.{negated, negated_tree, joint, joint_tree, agents, agents_said};
+ghost use Rattle.poets_grammar.specs.Examples.{registered, registered_said, cut_off, nested, added};
 
 /// `1 or 2 and not 3 = 4` goes by levels, `1 - 2 - 3` to the left, and `1 = 2 = 3` is no expression.
 pub fn levels()

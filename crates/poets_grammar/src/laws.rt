@@ -1,5 +1,6 @@
 //! The laws of the grammar, each carried by a function that does nothing.
-ghost use Rattle.poets_grammar.specs.Laws.{OneExpression, OneContract, OneStatement, ExpressionRead, ContractRead, StatementRead};
+ghost use Rattle.poets_grammar.specs.Laws.{OneExpression, OneContract, OneStatement, ExpressionRead, ContractRead};
+ghost use Rattle.poets_grammar.specs.Laws.{StatementRead};
 
 /// No tokens have two trees as an expression.
 pub fn one_expression()

@@ -31,7 +31,8 @@ IsTextOf table (K.Sign sign) bytes = bytes ≡ sign_text sign
 
 -- no longer sign begins the text that this sign begins
 abbrev pub IsLongestSign : Sign → List ℕ → Type 0
-IsLongestSign sign text = (other : Sign) → Begins (sign_text other) text → length (sign_text other) ≤ length (sign_text sign)
+IsLongestSign sign text =
+    (other : Sign) → Begins (sign_text other) text → length (sign_text other) ≤ length (sign_text sign)
 
 -- what follows a token would not make it longer
 abbrev pub IsLongest : Tok → List ℕ → Type 0
@@ -56,17 +57,23 @@ pub record IsToken (before : Table) (place : ℕ) (bytes rest : List ℕ) (token
 
 -- one piece of a text: a blank, a comment or a token
 pub data Piece : Table → ℕ → List ℕ → List ℕ → List Token → Table → Type 0 where
-  Blank : {table : Table} {place : ℕ} {rest : List ℕ} (byte : ℕ) → IsTrue (is_blank byte) → Piece table place (byte ∷ []) rest [] table
+  Blank : {table : Table} {place : ℕ} {rest : List ℕ} (byte : ℕ) → IsTrue (is_blank byte) →
+      Piece table place (byte ∷ []) rest [] table
   -- from `#` (35) to before the next LF, or to the end
-  Comment : {table : Table} {place : ℕ} {rest : List ℕ} (bytes : List ℕ) → IsTrue (list_all is_in_line bytes) → BeginsWithout is_in_line rest → Piece table place (35 ∷ bytes) rest [] table
-  Lexeme : {before after : Table} {place : ℕ} {bytes rest : List ℕ} (token : Token) → IsToken before place bytes rest token after → Piece before place bytes rest (token ∷ []) after
+  Comment : {table : Table} {place : ℕ} {rest : List ℕ} (bytes : List ℕ) → IsTrue (list_all is_in_line bytes) →
+      BeginsWithout is_in_line rest → Piece table place (35 ∷ bytes) rest [] table
+  Lexeme : {before after : Table} {place : ℕ} {bytes rest : List ℕ} (token : Token) →
+      IsToken before place bytes rest token after → Piece before place bytes rest (token ∷ []) after
 
 -- piece by piece: the text, which begins at the place, is read as these tokens up to the rest
 pub data Reads : Table → List ℕ → ℕ → List Token → Table → List ℕ → Type 0 where
   Nothing : {table : Table} {text : List ℕ} {place : ℕ} → Reads table text place [] table text
-  Next : {before between after : Table} {bytes text rest : List ℕ} {place : ℕ} {here tokens : List Token} → Piece before place bytes text here between → Reads between text (place + length bytes) tokens after rest → Reads before (bytes ++ text) place (here ++ tokens) after rest
+  Next : {before between after : Table} {bytes text rest : List ℕ} {place : ℕ} {here tokens : List Token} →
+      Piece before place bytes text here between → Reads between text (place + length bytes) tokens after rest →
+      Reads before (bytes ++ text) place (here ++ tokens) after rest
 
--- the whole text, which begins at the place, is these tokens; names are numbered from the table before to the table after
+-- the whole text, which begins at the place, is these tokens; names are numbered from the table before to the table
+-- after
 abbrev pub Lexes : Table → List ℕ → ℕ → List Token → Table → Type 0
 Lexes before text place tokens after = Reads before text place tokens after []
 

@@ -1,5 +1,6 @@
 -- Names, and their table: the list of their texts, in which a name is a place.
-use Rattle.std.specs.Prelude.{◌≡◌, ◌≢◌, ℕ, ◌≤◌, List, [], ◌∷◌, ◌++◌, length, map, position, Option, Some, if◌then◌else◌, slice_get, IsTrue, String, string_bytes}
+use Rattle.std.specs.Prelude.{◌≡◌, ◌≢◌, ℕ, ◌≤◌, List, [], ◌∷◌, ◌++◌, length, map, position, Option, Some, if◌then◌else◌}
+use Rattle.std.specs.Prelude.{slice_get, IsTrue, String, string_bytes}
 use Rattle.std.specs.List.{list_any, list_all}
 use Rattle.std.specs.Str.{bytes_eq}
 use Rattle.std.specs.declared.alloc.Global.{Global}
@@ -32,7 +33,8 @@ with_text text table = if list_any (bytes_eq text) table then table else table +
 
 -- each text is a name, and stands once
 abbrev pub IsTable : Table → Type 0
-IsTable table = (text : List ℕ) (place : ℕ) → slice_get table place ≡ Some text → IsName text × (place_of text table ≡ Some place)
+IsTable table =
+    (text : List ℕ) (place : ℕ) → slice_get table place ≡ Some text → IsName text × (place_of text table ≡ Some place)
 
 -- the new table has more texts after those of the old one
 abbrev pub Extends : Table → Table → Type 0

@@ -23,7 +23,8 @@ NeedsNoMark text form = length text ≤ longest_text → IsSomeSession text form
 
 -- the spot where the first fault of the text stands
 abbrev pub IsFaultSpot : Text → Form → Spot → Type 0
-IsFaultSpot text form spot = (fault : SessionFault) × IsFirstFault text form fault × IsPlaceOf text fault.what spot.place × IsSpot text spot
+IsFaultSpot text form spot =
+    (fault : SessionFault) × IsFirstFault text form fault × IsPlaceOf text fault.what spot.place × IsSpot text spot
 
 -- the lines that show where the first fault of the text stands
 abbrev pub IsMarkOf : Text → Form → List ℕ → Type 0

@@ -1,5 +1,6 @@
 -- Where a fault stands in its text.
-use Rattle.std.specs.Prelude.{◌≡◌, ℕ, zero, suc, ◌-◌, List, [], ◌∷◌, length, Option, None, Some, unwrap_or, drop, ◌≤◌, if◌then◌else◌}
+use Rattle.std.specs.Prelude.{◌≡◌, ℕ, zero, suc, ◌-◌, List, [], ◌∷◌, length, Option, None, Some, unwrap_or, drop, ◌≤◌}
+use Rattle.std.specs.Prelude.{if◌then◌else◌}
 use Rattle.poets_lex.specs.declared.token.Token.{Token}
 use Rattle.poets_lex.specs.declared.fault.LexFault.{LexFault}
 use Rattle.poets_lex.specs.declared.fault.LexFault.TheVariants as L
@@ -31,15 +32,16 @@ abbrev pub first_place : List Token → Option ℕ
 first_place [] = None
 first_place (t ∷ ts) = Some t.from
 
--- the statement with the number, counted from 1, begins here: where its first token stands (its `;;`, if it has no other), or at
--- the end of the text, if there is no such statement
+-- the statement with the number, counted from 1, begins here: where its first token stands (its `;;`, if it has no
+-- other), or at the end of the text, if there is no such statement
 pub record IsBeginOf (text : Text) (number place : ℕ) : Type 0 where
   pub tokens : List Token
   pub names : Table
   pub lexed : Lexes [] text 0 tokens names
   pub here : place ≡ unwrap_or (first_place (statement_tokens (number - 1) tokens)) (length text)
 
--- the statement with the number is left here: at one of its tokens, or at what stands after them, its `;;` or the end of the text
+-- the statement with the number is left here: at one of its tokens, or at what stands after them, its `;;` or the end
+-- of the text
 pub record IsWithin (text : Text) (number place : ℕ) : Type 0 where
   pub tokens : List Token
   pub names : Table

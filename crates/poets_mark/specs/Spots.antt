@@ -7,7 +7,8 @@ use Rattle.poets_mark.specs.declared.spots.Spot.{Spot}
 abbrev pub IsBreak : List ℕ → ℕ → Type 0
 IsBreak text place = Passes (is_byte 10) text place
 
--- the line of the place begins here: at the begin of the text or after an LF, and no line ends from here up to the place
+-- the line of the place begins here: at the begin of the text or after an LF, and no line ends from here up to the
+-- place
 pub record IsLineBegin (text : List ℕ) (place begin : ℕ) : Type 0 where
   pub before : begin ≤ place
   pub first : (begin ≡ 0) ⊎ IsBreak text (begin - 1)

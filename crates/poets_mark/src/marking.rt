@@ -85,8 +85,9 @@ fn place_line(alloc: Global, spot: &Spot) -> Result<String, Memory>
     Ok(format!(in alloc; "line {}, column {}\n", spot.line, spot.column)?)
 }
 
-/// Where the first fault of the text stands, as a session of the form: its line and its column, counted from 1, the part of
-/// the line around it, and a mark below its first byte. None where the text is a session, or is longer than one may be.
+/// Where the first fault of the text stands, as a session of the form: its line and its column, counted from 1, the
+/// part of the line around it, and a mark below its first byte. None where the text is a session, or is longer than one
+/// may be.
 pub fn mark_of(alloc: Global, text: &[u8], form: Form) -> Result<Option<String>, Memory>
     ensures none { IfOk result (λ found. IfNone found (NeedsNoMark text.now form)) }
     ensures some { IfOk result (λ found. IfSome found (ShowsMark text.now form)) }

@@ -91,8 +91,8 @@ fn begin_of(alloc: Global, text: &[u8], number: u64) -> Result<usize, Memory>
     Ok(place_of_first(rest, text))
 }
 
-// Where the statement with the number, which is no sentence, ceases to begin one: at the first of its tokens that cannot stand
-// there, or after them all.
+// Where the statement with the number, which is no sentence, ceases to begin one: at the first of its tokens that
+// cannot stand there, or after them all.
 fn stop_of(alloc: Global, text: &[u8], number: u64) -> Result<usize, Memory>
     requires { length text.now ≤ longest_text }
     ensures { IfOk result (IsWithin text.now number) }
@@ -106,8 +106,9 @@ fn stop_of(alloc: Global, text: &[u8], number: u64) -> Result<usize, Memory>
     Ok(place_of_first(&rest[count..], text))
 }
 
-/// Where a fault of the text stands: the byte that it tells, or the begin of its statement, or of a statement that is no
-/// sentence the first token with which it begins none. Bytes count from 0. `Err` is want of memory, also where the fault is that.
+/// Where a fault of the text stands: the byte that it tells, or the begin of its statement, or of a statement that is
+/// no sentence the first token with which it begins none. Bytes count from 0. `Err` is want of memory, also where the
+/// fault is that.
 pub(crate) fn place_of(alloc: Global, text: &[u8], cause: &SessionCause) -> Result<usize, Memory>
     requires { length text.now ≤ longest_text }
     ensures { IfOk result (IsPlaceOf text.now cause.now) }

@@ -5,7 +5,8 @@ ghost use Rattle.poets_mark.specs.Spots.{IsLineBegin, IsLineEnd, IsSpot};
 
 use memchr::{memchr, memchr_iter, memrchr};
 
-/// Where a byte stands: its place, its line and its column, counted from 1, and the places where the line begins and ends.
+/// Where a byte stands: its place, its line and its column, counted from 1, and the places where the line begins and
+/// ends.
 #[derive(Debug, Clone, Copy, PartialEq, Eq)]
 pub(crate) struct Spot {
     pub(crate) place: usize,

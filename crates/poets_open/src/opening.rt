@@ -90,8 +90,8 @@ fn add_open<L>(
     }
 }
 
-/// The open transmissions of a contract in normal form, from left to right, each once. Each application has to have as many
-/// arguments as its template has parameters, as it has in typed contracts.
+/// The open transmissions of a contract in normal form, from left to right, each once. Each application has to have as
+/// many arguments as its template has parameters, as it has in typed contracts.
 pub fn next(alloc: Global, studied: &Studied, term: &Term) -> Result<List<Step>, Memory>
     requires { CountsFitIn studied.now (contract_of term.now) }
     ensures { IfOk result (λ r. map step_of r.items ≡ next_in studied.now (contract_of term.now)) }

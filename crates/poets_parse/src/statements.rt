@@ -59,9 +59,9 @@ fn read_statement(alloc: Global, tokens: &[Token]) -> Result<Statement, ReadFaul
 
 /// The statement that the tokens are, which stand before a `;;`.
 ///
-/// The time is linear in the tokens. How deep the readers call themselves is bounded by the limits of the language, since a
-/// statement that is nested too deep is refused before it is read: they do so only after brackets, `not`, `-`, `if` and the dot
-/// of a transmit.
+/// The time is linear in the tokens. How deep the readers call themselves is bounded by the limits of the language,
+/// since a statement that is nested too deep is refused before it is read: they do so only after brackets, `not`, `-`,
+/// `if` and the dot of a transmit.
 pub fn statement(alloc: Global, tokens: &[Token]) -> Result<Statement, SyntaxFault>
     requires natural { AreNatural tokens.now }
     ensures found { IfOk result (λ s. IsStatement (toks tokens.now) (statement_of s)) }
@@ -75,8 +75,8 @@ pub fn statement(alloc: Global, tokens: &[Token]) -> Result<Statement, SyntaxFau
     Ok(read_statement(alloc, tokens)?)
 }
 
-/// How many of the tokens, which stand before a `;;`, begin a sentence: all, or those ahead of the first one that cannot stand
-/// where it does. Of tokens that are nested too deep it is none.
+/// How many of the tokens, which stand before a `;;`, begin a sentence: all, or those ahead of the first one that
+/// cannot stand where it does. Of tokens that are nested too deep it is none.
 ///
 /// The readers look at one token, take it or give up, and never go back.
 pub fn begun(alloc: Global, tokens: &[Token]) -> Result<usize, Memory>

@@ -54,7 +54,8 @@ CanWriteContract names (App f args) = IsListed names f × All (CanWrite names) a
 abbrev pub CanWriteCommand : Table → plain.Command → Type 0
 CanWriteCommand names (plain.Command.Register x c) = IsListed names x × CanWriteContract names c
 CanWriteCommand names (plain.Command.Transmit x e) =
-    IsListed names x × IsListed names e.sender × IsListed names e.receiver × (pos 0 ≤ℤ e.what.amount) × IsListed names e.what.kind
+    IsListed names x × IsListed names e.sender × IsListed names e.receiver × (pos 0 ≤ℤ e.what.amount)
+    × IsListed names e.what.kind
 CanWriteCommand names (plain.Command.Void x k) = IsListed names x
 CanWriteCommand names (plain.Command.End x) = IsListed names x
 CanWriteCommand names (plain.Command.Show x) = IsListed names x
@@ -74,4 +75,5 @@ ContractReadsBack =
 abbrev pub CommandReadsBack : Type 0
 CommandReadsBack =
     (names : Table) (command : plain.Command) → IsTable names → IsWholeCommand command → CanWriteCommand names command
-    → (tokens : List Token) × Lexes names (command_text names command) 0 tokens names × IsStatement (toks tokens) (Command command)
+    → (tokens : List Token) × Lexes names (command_text names command) 0 tokens names
+    × IsStatement (toks tokens) (Command command)

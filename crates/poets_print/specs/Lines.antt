@@ -18,17 +18,20 @@ amount_text names r = signed_decimal r.amount ++ codes " " ++ name_text names r.
 -- `ann bob 7 Oil @2006-05-03`
 abbrev pub event_text : Table → Event → List ℕ
 event_text names e =
-    name_text names e.sender ++ codes " " ++ name_text names e.receiver ++ codes " " ++ amount_text names e.what ++ codes " @" ++ day_text e.day
+    name_text names e.sender ++ codes " " ++ name_text names e.receiver ++ codes " " ++ amount_text names e.what
+    ++ codes " @" ++ day_text e.day
 
 -- the text of a command
 abbrev pub command_text : Table → Command → List ℕ
-command_text names (Command.Register x c) = codes "register " ++ name_text names x ++ codes " = " ++ contract_text names c
+command_text names (Command.Register x c) =
+    codes "register " ++ name_text names x ++ codes " = " ++ contract_text names c
 command_text names (Command.Transmit x e) = codes "transmit " ++ name_text names x ++ codes " " ++ event_text names e
 command_text names (Command.Void x k) = codes "void " ++ name_text names x ++ codes " " ++ decimal k
 command_text names (Command.End x) = codes "end " ++ name_text names x
 command_text names (Command.Show x) = codes "show " ++ name_text names x
 command_text names (Command.Tally q args) = codes "tally " ++ call_text names q args
-command_text names (Command.Portfolio q args over) = codes "portfolio " ++ call_text names q args ++ codes " over " ++ listed (name_text names) over
+command_text names (Command.Portfolio q args over) =
+    codes "portfolio " ++ call_text names q args ++ codes " over " ++ listed (name_text names) over
 command_text names (Command.Watch q args) = codes "watch " ++ call_text names q args
 command_text names (Command.Read n) = codes "read " ++ decimal n
 

@@ -1,5 +1,6 @@
 -- The printed texts of expressions and contracts.
-use Rattle.std.specs.Prelude.{◌≡◌, ℕ, Bool, true, false, nat_lt, nat_le, List, [], ◌∷◌, ◌++◌, unwrap_or, slice_get, codes, String, string_bytes}
+use Rattle.std.specs.Prelude.{◌≡◌, ℕ, Bool, true, false, nat_lt, nat_le, List, [], ◌∷◌, ◌++◌, unwrap_or, slice_get}
+use Rattle.std.specs.Prelude.{codes, String, string_bytes}
 use Rattle.std.specs.Fmt.{signed_decimal}
 use Rattle.std.specs.declared.alloc.Global.{Global}
 use Rattle.std.specs.List.{flat_map}
@@ -12,11 +13,13 @@ use Rattle.poets_value.specs.declared.value.Value.TheVariants as V
 use Rattle.poets_value.specs.Civil.{day_text}
 use Rattle.poets_expr.specs.declared.expr.Op.{Op}
 use Rattle.poets_expr.specs.declared.expr.Op.TheVariants as O
-use Rattle.poets_expr.specs.Expression.{Expression, Minus, Not, AmountOf, KindOf, Literal, Undefined, Named, Unary, Make, Binary, If}
+use Rattle.poets_expr.specs.Expression.{Expression, Minus, Not, AmountOf, KindOf, Literal, Undefined, Named, Unary}
+use Rattle.poets_expr.specs.Expression.{Make, Binary, If}
 use Rattle.poets_syntax.specs.declared.term.Binders.{Binders}
 use Rattle.poets_syntax.specs.Contract.{Contract, Success, Failure, Transmit, Plus, Par, Seq, App}
 use Rattle.poets_lex.specs.Table.{Table}
-use Rattle.poets_print.specs.Levels.{left_in_brackets, right_in_brackets, negated_in_brackets, denied_in_brackets, contract_level}
+use Rattle.poets_print.specs.Levels.{left_in_brackets, right_in_brackets, negated_in_brackets, denied_in_brackets}
+use Rattle.poets_print.specs.Levels.{contract_level}
 
 -- the string is this text
 abbrev pub IsText : List ℕ → String Global → Type 0
@@ -89,7 +92,8 @@ expression_text names (Unary Minus a) = codes "-" ++ bracketed (negated_in_brack
 expression_text names (Unary Not a) = codes "not " ++ bracketed (denied_in_brackets a) (expression_text names a)
 expression_text names (Unary AmountOf a) = codes "amount(" ++ expression_text names a ++ codes ")"
 expression_text names (Unary KindOf a) = codes "kind(" ++ expression_text names a ++ codes ")"
-expression_text names (Make a b) = codes "res(" ++ expression_text names a ++ codes ", " ++ expression_text names b ++ codes ")"
+expression_text names (Make a b) =
+    codes "res(" ++ expression_text names a ++ codes ", " ++ expression_text names b ++ codes ")"
 expression_text names (Binary o a b) =
     bracketed (left_in_brackets o a) (expression_text names a)
     ++ codes " " ++ op_text o ++ codes " "
@@ -112,8 +116,8 @@ abbrev pub step_text : Table → Binders → Expression → List ℕ
 step_text names b p =
     codes "transmit(" ++ binders_text names b ++ codes " | " ++ expression_text names p ++ codes ")"
 
--- a left part stands in brackets where its level is below its parent's, a right part where it is not above it, and the continuation
--- of a transmit where it is below 4
+-- a left part stands in brackets where its level is below its parent's, a right part where it is not above it, and the
+-- continuation of a transmit where it is below 4
 abbrev pub contract_text : Table → Contract → List ℕ
 contract_text names Success = codes "Success"
 contract_text names Failure = codes "Failure"

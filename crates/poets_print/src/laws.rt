@@ -1,7 +1,8 @@
 //! Laws of printed texts, each stated by a function that does nothing: what is printed reads back.
 //!
-//! A text has one list of tokens (`poets_lex`, `one_reading`), and no tokens have two trees (`poets_grammar`, `one_contract` and
-//! `one_statement`). So no other tree has that text, and what reads the text finds the tree that was printed.
+//! A text has one list of tokens (`poets_lex`, `one_reading`), and no tokens have two trees (`poets_grammar`,
+//! `one_contract` and `one_statement`). So no other tree has that text, and what reads the text finds the tree that was
+//! printed.
 ghost use Rattle.poets_print.specs.Laws.{ContractReadsBack, CommandReadsBack};
 
 /// The text of a contract is cut into tokens, without a new name, and the tokens are that contract.

@@ -39,7 +39,8 @@ pub record AreRows
       Contains rows (k, v) ↔ IsFoldOfKey declared q args (key_on declared q args key) events k v
 
 -- by the report's key, if it has one
-abbrev pub IsAnswer_by : Option Expression → Declared → Report → List (Option Value) → List Event → plain.Answer → Type 0
+abbrev pub IsAnswer_by : Option Expression → Declared → Report → List (Option Value) → List Event → plain.Answer →
+    Type 0
 IsAnswer_by None declared q args events (Single v) = v ≡ folded declared q args events
 IsAnswer_by None declared q args events (Rows rows) = ⊥
 IsAnswer_by (Some key) declared q args events (Single v) = ⊥

@@ -32,4 +32,5 @@ BringsUnder decls report e fold c = Brings (declared_of decls.names) (report_of 
 
 -- this is the report's answer over the events, under the declared names and these arguments
 abbrev pub IsAnswerUnder : Decls → Report → List (Option Value) → List Event → Answer → Type 0
-IsAnswerUnder decls report args events a = IsAnswer (declared_of decls.names) (report_of report) args events (answer_of a)
+IsAnswerUnder decls report args events a =
+    IsAnswer (declared_of decls.names) (report_of report) args events (answer_of a)

@@ -1,14 +1,23 @@
 -- Applications unfolded.
-use Rattle.std.specs.Prelude.{◌+◌, ◌≤◌, ℕ, List, map, Some}
+use Rattle.std.specs.Prelude.{◌≡◌, ◌+◌, ◌≤◌, ℕ, List, map, reverse, Some}
+use Rattle.poets_expr.specs.declared.env.Decls.{Decls}
 use Rattle.poets_expr.specs.declared.expr.Expr.{Expr}
+use Rattle.poets_expr.specs.Env.{declared_of}
 use Rattle.poets_expr.specs.Expression.{expression_of}
+use Rattle.poets_expr.specs.Subst.{Givens}
+use Rattle.poets_syntax.specs.declared.term.Param.{Param}
 use Rattle.poets_syntax.specs.declared.term.Template.{Template}
 use Rattle.poets_syntax.specs.Book.{template_of, book_of}
 use Rattle.poets_syntax.specs.Contract.{Contract, contract_of}
-use Rattle.poets_syntax.specs.Residual.{body_of}
+use Rattle.poets_syntax.specs.Residual.{argument_givens, body_of}
 use Rattle.poets_syntax.specs.Studied.{StudiedBook, marks_of}
 use Rattle.poets_norm.specs.Asking.{to_ask}
 use Rattle.poets_norm.specs.Questions.{questions}
+
+-- the pairs are what the arguments give for the parameters, the newest last
+abbrev pub AreGivens : Decls → List Param → List Expr → Givens → Type 0
+AreGivens decls params args pairs =
+    reverse pairs ≡ argument_givens (declared_of decls.names) params (map expression_of args)
 
 -- the template's body with its parameters replaced, in normal form
 abbrev pub unfolded : StudiedBook → Template → List Expr → Contract

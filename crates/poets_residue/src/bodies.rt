@@ -8,8 +8,7 @@ ghost use Rattle.poets_norm.specs.Asking.{to_ask};
 ghost use Rattle.poets_norm.specs.Questions.{operated, questions};
 ghost use Rattle.poets_norm.specs.Rows.{Enters};
 ghost use Rattle.poets_cons.specs.Table.{Extends};
-ghost use Rattle.poets_residue.specs.Bodies.{unfolded, with_body, Unfolds};
-ghost use Rattle.poets_residue.specs.code.Bodies.{AreGivens};
+ghost use Rattle.poets_residue.specs.Bodies.{unfolded, with_body, AreGivens, Unfolds};
 
 use poets_cons::Arena;
 use poets_expr::{Asks, Decls, Env, Expr, Given, eval};
@@ -48,8 +47,8 @@ fn value_of<L>(decls: &Decls, arg: &Expr, asks: &mut Asks<L>) -> Option<Value>
     }
 }
 
-// What the parameters stand for, the newest last.
-fn arguments<L>(
+/// What the parameters stand for, the newest last. The value of an argument that is a literal or a name is not asked for.
+pub fn argument_givens<L>(
     alloc: Global,
     decls: &Decls,
     params: &[Param],
@@ -72,8 +71,8 @@ fn arguments<L>(
     Ok(pairs)
 }
 
-/// The number of the row of the body of a template with its parameters replaced, in normal form, which is entered in the
-/// table. What the arguments and the body ask is not asked again.
+/// The number of the row of the body of a template with its parameters replaced, in normal form, which is entered in
+/// the table. What the arguments and the body ask is not asked again.
 pub fn unfold<L>(
     alloc: Global,
     studied: &Studied,
@@ -90,7 +89,7 @@ pub fn unfold<L>(
     ensures questions { OnOk result (Unfolds studied.now template.now args.now asks.old asks.new) }
 {
     let decls = &studied.book().decls;
-    let pairs = arguments(alloc, decls, template.params.as_slice(), args, asks)?;
+    let pairs = argument_givens(alloc, decls, template.params.as_slice(), args, asks)?;
     let body = subst(alloc, &template.body, pairs.as_slice())?;
     enter_normal(alloc, studied, arena, body, asks)
 }

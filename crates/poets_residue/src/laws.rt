@@ -1,6 +1,11 @@
 //! The laws of residuals, each carried by a function that does nothing.
-ghost use Rattle.poets_residue.specs.Laws.{StudiedBooks, ResidualFollows, ResidualOne, ResidualIs, ResidualAt, ResidualOfApplication, ResidualWellFormed, ResidualAtWellFormed, ResidualAtCountsFit, ResidualAtNormal, ResidualAtWhole, TraceFollowed, TracePerformed, TraceHopeless, TraceHopeful, TraceWellFormed, TraceNormal, TraceWhole, EnoughUnfoldings, ReadyUnfolds, ReadyOfApplication};
-ghost use Rattle.poets_residue.specs.TypedLaws.{ResidualTyped, ResidualAtTyped, TraceTyped, ReadyLiterals, NoneOperated, AskedOfBody, TraceAskedOfBody};
+ghost use Rattle.poets_residue.specs.Laws.{StudiedBooks, ResidualFollows, ResidualOne, ResidualIs, ResidualAt};
+ghost use Rattle.poets_residue.specs.Laws.{ResidualOfApplication, ResidualWellFormed, ResidualAtWellFormed};
+ghost use Rattle.poets_residue.specs.Laws.{ResidualAtCountsFit, ResidualAtNormal, ResidualAtWhole, TraceFollowed};
+ghost use Rattle.poets_residue.specs.Laws.{TracePerformed, TraceHopeless, TraceHopeful, TraceWellFormed, TraceNormal};
+ghost use Rattle.poets_residue.specs.Laws.{TraceWhole, EnoughUnfoldings, ReadyUnfolds, ReadyOfApplication};
+ghost use Rattle.poets_residue.specs.TypedLaws.{ResidualTyped, ResidualAtTyped, TraceTyped, ReadyLiterals};
+ghost use Rattle.poets_residue.specs.TypedLaws.{NoneOperated, AskedOfBody, TraceAskedOfBody};
 
 /// A studied book meets the premises of these laws.
 pub fn studied_books()
@@ -32,8 +37,8 @@ pub fn residual_of_application()
     ensures { ResidualOfApplication }
 {}
 
-/// The residual of a well-formed contract is well-formed, that of a normal form a normal form, and that of a whole contract whole.
-/// Where the numbers of arguments fit, they fit in the residual.
+/// The residual of a well-formed contract is well-formed, that of a normal form a normal form, and that of a whole
+/// contract whole. Where the numbers of arguments fit, they fit in the residual.
 pub fn residual_well_formed()
     ensures formed { ResidualWellFormed }
     ensures formed_at { ResidualAtWellFormed }
@@ -48,7 +53,8 @@ pub fn trace_followed()
     ensures performed { TracePerformed }
 {}
 
-/// After a trace the residual is `Failure` exactly where no number of granted steps finishes; where it is not, some number does.
+/// After a trace the residual is `Failure` exactly where no number of granted steps finishes; where it is not, some
+/// number does.
 pub fn trace_hopeless()
     ensures hopeless { TraceHopeless }
     ensures hopeful { TraceHopeful }

@@ -41,7 +41,8 @@ fn less_rows(nodes: &[Node], left: u64) -> u64
     left
 }
 
-// Notes the applications in unguarded positions of a row. The same walk tells whether the row may end, as `may_end_at` does.
+// Notes the applications in unguarded positions of a row. The same walk tells whether the row may end, as `may_end_at`
+// does.
 fn expose(
     studied: &Studied,
     nodes: &[Node],

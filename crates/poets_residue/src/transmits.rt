@@ -16,8 +16,8 @@ use poets_syntax::{Binders, Studied};
 use poets_value::{Event, Memory, Name, Ty, Value};
 use std::alloc::Global;
 
-// What the binders stand for once the event is taken, the newest last.
-fn event_givens(binders: &Binders, event: &Event) -> [(Name, Given); 4]
+/// What the binders stand for once the event is taken, the newest last.
+pub fn event_givens(binders: &Binders, event: &Event) -> [(Name, Given); 4]
     ensures { reverse result ≡ spec.event_givens binders.now event.now }
 {
     let sender = Given {
@@ -109,7 +109,8 @@ pub(crate) fn transmit_at<L>(
 ) -> Result<usize, Memory>
     requires { then < length arena.old }
     ensures grows { Extends arena.old arena.new }
-    ensures residual { Enters arena.new result (after_in studied.now event.now (sending binders.now when.now arena.old then)) }
+    ensures residual { Enters arena.new result
+        (after_in studied.now event.now (sending binders.now when.now arena.old then)) }
     ensures rises { asks.old ≤ asks.new }
     ensures asks { asks.new ≤ asks.old + questions (sending binders.now when.now arena.old then) }
     ensures once { asks.new ≤ asks.old + 1 + arguments (contract_at arena.old then) }

@@ -8,7 +8,8 @@ ghost use Rattle.poets_syntax.specs.Residual.{event_givens};
 ghost use Rattle.poets_way.specs.Trails.{way_at};
 ghost use Rattle.poets_way.specs.Way.{Nothing};
 ghost use Rattle.poets_route.specs.Explained.{DeclaredIn, FormedIn};
-ghost use Rattle.poets_route.specs.code.Back.{BacksBodyIn, BacksIn, BacksWholeIn, BeginsIn, ByFirstIn, BySecondIn, IsReadyIn};
+ghost use Rattle.poets_route.specs.code.Back.{BacksBodyIn, BacksIn, BacksWholeIn, BeginsIn, ByFirstIn, BySecondIn};
+ghost use Rattle.poets_route.specs.code.Back.{IsReadyIn};
 ghost use Rattle.poets_route.specs.code.Choices.{Embeds};
 ghost use Rattle.poets_route.specs.code.Making.{Gives, GivesTwo};
 ghost use Rattle.poets_route.specs.code.Undone.{IsFormedIn, UndoesIn};
@@ -28,8 +29,8 @@ use poets_value::{Event, Memory, Name};
 use poets_way::Trails;
 use std::alloc::Global;
 
-/// A way of a contract by an event and then so many events, from a way of its residual by these. What is no such way stays
-/// as it is, here and below.
+/// A way of a contract by an event and then so many events, from a way of its residual by these. What is no such way
+/// stays as it is, here and below.
 #[cycle(back)]
 pub(crate) fn back(
     alloc: Global,

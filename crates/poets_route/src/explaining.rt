@@ -13,7 +13,8 @@ ghost use Rattle.poets_way.specs.Ways.{Ways};
 ghost use Rattle.poets_route.specs.Explained.{IsExplained, DeclaredIn, AreDeclaredIn, FormedIn};
 ghost use Rattle.poets_route.specs.code.Back.{BacksWholeIn, IsReadyIn};
 ghost use Rattle.poets_route.specs.code.Making.{Gives};
-ghost use Rattle.poets_route.specs.code.Through.{through_in, ArePieces, AreResiduals, BacksAllIn, BacksOverIn, IsFound, Passes};
+ghost use Rattle.poets_route.specs.code.Through.{through_in, ArePieces, AreResiduals, BacksAllIn, BacksOverIn, IsFound};
+ghost use Rattle.poets_route.specs.code.Through.{Passes};
 ghost use Rattle.poets_route.specs.code.Undone.{EndsIn};
 
 use crate::backward::back;
@@ -215,9 +216,9 @@ fn over(
 
 /// A way in which the events perform the contract, and none exactly where they do not.
 ///
-/// It goes forward by residuals, and then back through them, from a way of the last one to a way of the first. On the way
-/// forward it keeps the residual ahead of each 256 events; on the way back it makes those of one such piece again, so each
-/// event is taken twice.
+/// It goes forward by residuals, and then back through them, from a way of the last one to a way of the first. On the
+/// way forward it keeps the residual ahead of each 256 events; on the way back it makes those of one such piece again,
+/// so each event is taken twice.
 pub fn explain(
     alloc: Global,
     studied: &Studied,

@@ -12,7 +12,8 @@ use poets_value::Memory;
 use poets_way::Trails;
 use std::alloc::Global;
 
-// A way of one contract and two others, which are side by side, by the sides and the ways of the three grouped to the left.
+// A way of one contract and two others, which are side by side, by the sides and the ways of the three grouped to the
+// left.
 fn grouped(
     alloc: Global,
     trails: &mut Trails,
@@ -36,8 +37,8 @@ fn grouped(
     trails.both(outer, a, others)
 }
 
-/// A way of a contract and a second one side by side, from a way of the contract with the parts of the second joined to it.
-/// What is no such way stays as it is.
+/// A way of a contract and a second one side by side, from a way of the contract with the parts of the second joined to
+/// it. What is no such way stays as it is.
 pub(crate) fn beside(
     alloc: Global,
     second: &Term,

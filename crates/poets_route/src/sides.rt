@@ -34,8 +34,8 @@ fn listed(alloc: Global, trails: &Trails, sides: usize) -> Result<List<bool>, Me
     Ok(list)
 }
 
-/// Of three contracts, grouped to the left: whose each event is, of the first or of the other two, and whose each event of
-/// these is.
+/// Of three contracts, grouped to the left: whose each event is, of the first or of the other two, and whose each event
+/// of these is.
 pub(crate) fn regroup(
     alloc: Global,
     trails: &mut Trails,

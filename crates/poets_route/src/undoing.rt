@@ -19,7 +19,8 @@ use poets_value::Memory;
 use poets_way::Trails;
 use std::alloc::Global;
 
-/// A way of a contract, from a way of its normal form by so many events. What is no such way stays as it is, here and below.
+/// A way of a contract, from a way of its normal form by so many events. What is no such way stays as it is, here and
+/// below.
 #[cycle(undone)]
 pub(crate) fn undone(
     alloc: Global,

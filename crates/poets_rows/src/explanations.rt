@@ -151,8 +151,8 @@ template tail() = Success + transmit(a, b, r, t | kind(r) = Oil). (tail() ; Succ
 template nest() = Success + transmit(a, b, r, t | kind(r) = Oil). (nest() || usd());;
 journal;; ";
 
-// A contract, the kinds of what is delivered on it, how many calls that makes, and what explains it then. No way but the
-// one is there.
+// A contract, the kinds of what is delivered on it, how many calls that makes, and what explains it then. No way but
+// the one is there.
 type Delivered<'a> = (&'a str, &'a [&'a str], usize, &'a str);
 
 const DELIVERED: [Delivered; 8] = [

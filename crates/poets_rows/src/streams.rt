@@ -23,8 +23,8 @@ const LINES: [&str; 4] = [
 
 const REFUSED: &str = "agents ann, ann;;";
 
-// The program, called with the words, answers the text so over such a source and sink: the status, the number of entries,
-// and how many of the lines are written.
+// The program, called with the words, answers the text so over such a source and sink: the status, the number of
+// entries, and how many of the lines are written.
 fn answered<R: Abort + Threads + Wait + Sync>(
     rt: &R,
     alloc: Global,

@@ -32,8 +32,8 @@ register p = d8() => registered 4
 register q = d9() => too large
 ",
     ),
-    // d8() and its body are 2,302, d7() 1,150, d6() 574, d2() 34, d1() 16, the transmission with its continuation 5, and
-    // five `||` 3 each: 4,096 in all. Each further node of the predicate is one more.
+    // d8() and its body are 2,302, d7() 1,150, d6() 574, d2() 34, d1() 16, the transmission with its continuation 5,
+    // and five `||` 3 each: 4,096 in all. Each further node of the predicate is one more.
     Row("a part that is repeated counts once, and a spread of 4,096 is kept"),
     Text(DOUBLES),
     Steps(

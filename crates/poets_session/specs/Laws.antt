@@ -29,12 +29,15 @@ NoSessionRefused =
 
 -- statements that are refused are no valid session
 abbrev pub NoValidRefused : Type 0
-NoValidRefused = (form : Form) (statements : List Statement) (r : Refusal) → AreRefused form statements r → ¬ (AreValid form statements)
+NoValidRefused =
+    (form : Form) (statements : List Statement) (r : Refusal) → AreRefused form statements r →
+    ¬ (AreValid form statements)
 
 -- the same refusal, or cycles that begin with one template
 pub data AreAlike : Refusal → Refusal → Type 0 where
   Same : {r : Refusal} → AreAlike r r
-  Cycles : {number : ℕ} {f : Name} {others more : List Name} → AreAlike (Unguarded number (f ∷ others)) (Unguarded number (f ∷ more))
+  Cycles : {number : ℕ} {f : Name} {others more : List Name} →
+      AreAlike (Unguarded number (f ∷ others)) (Unguarded number (f ∷ more))
 
 -- a text is refused in one way at most as a session of a form, but for how the first cycle goes on
 abbrev pub OneRefusal : Type 0
@@ -45,7 +48,8 @@ OneRefusal =
 -- statements are refused in one way at most as a session of a form, but for how the first cycle goes on
 abbrev pub OneRefusalOfStatements : Type 0
 OneRefusalOfStatements =
-    (form : Form) (statements : List Statement) (r s : Refusal) → AreRefused form statements r → AreRefused form statements s → AreAlike r s
+    (form : Form) (statements : List Statement) (r s : Refusal) → AreRefused form statements r →
+    AreRefused form statements s → AreAlike r s
 
 -- a text is refused by one line at most
 abbrev pub OneLine : Type 0
@@ -55,12 +59,15 @@ OneLine =
 
 -- of a text that is no session of the form it cannot be that no refusal holds
 abbrev pub EveryTextIsRead : Type 0
-EveryTextIsRead = (text : Text) (form : Form) → IsNoSession text form → ¬ ((names : Table) (r : Refusal) → ¬ (IsRefused text form names r))
+EveryTextIsRead =
+    (text : Text) (form : Form) → IsNoSession text form →
+    ¬ ((names : Table) (r : Refusal) → ¬ (IsRefused text form names r))
 
 -- of statements that are no valid session of the form it cannot be that no refusal holds
 abbrev pub AllStatementsAreJudged : Type 0
 AllStatementsAreJudged =
-    (form : Form) (statements : List Statement) → ¬ (AreValid form statements) → ¬ ((r : Refusal) → ¬ (AreRefused form statements r))
+    (form : Form) (statements : List Statement) → ¬ (AreValid form statements) →
+    ¬ ((r : Refusal) → ¬ (AreRefused form statements r))
 
 -- the names of a text make a table, and what the text says is written with them
 abbrev pub SessionsAreWritten : Type 0
@@ -68,10 +75,11 @@ SessionsAreWritten =
     (text : Text) (names : Table) (statements : List Statement)
     → IsReadAs text names statements → IsTable names × All (IsWritten names) statements
 
--- what tokens say as a statement is written with a table, where each name among the tokens stands in it, and the numbers and
--- days are those of the language
+-- what tokens say as a statement is written with a table, where each name among the tokens stands in it, and the
+-- numbers and days are those of the language
 abbrev pub StatementIsWritten : Type 0
-StatementIsWritten = (names : Table) (ts : List Tok) (s : Statement) → AllFit names ts → IsStatement ts s → IsWritten names s
+StatementIsWritten =
+    (names : Table) (ts : List Tok) (s : Statement) → AllFit names ts → IsStatement ts s → IsWritten names s
 
 -- the commands of statements that are written with the names of a table are written with them: each can be printed, and
 -- reads back
@@ -79,11 +87,13 @@ abbrev pub CommandsAreWritten : Type 0
 CommandsAreWritten =
     (names : Table) (statements : List Statement)
     → All (IsWritten names) statements
-    → All (All (IsWrittenCommand names)) (scripts_of statements) × All (λ call. IsWrittenCommand names call.1) (journal_of statements)
+    → All (All (IsWrittenCommand names)) (scripts_of statements)
+    × All (λ call. IsWrittenCommand names call.1) (journal_of statements)
 
 -- the names in a text's first fault stand in its table
 abbrev pub FaultsOfTextsAreListed : Type 0
-FaultsOfTextsAreListed = (text : Text) (form : Form) (fault : SessionFault) → IsFirstFault text form fault → HasListedNames fault
+FaultsOfTextsAreListed =
+    (text : Text) (form : Form) (fault : SessionFault) → IsFirstFault text form fault → HasListedNames fault
 
 -- the names in the first fault of statements stand in its table, where the statements are written with the names of
 -- that table

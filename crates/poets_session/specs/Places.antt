@@ -1,5 +1,6 @@
 -- Where statements may stand, and how many of them.
-use Rattle.std.specs.Prelude.{ℕ, ◌+◌, Bool, true, false, ◌||◌, not, nat_le, nat_lt, List, [], ◌∷◌, ◌++◌, length, Option, Some, None, is_some, fold, option_and_then, if◌then◌else◌, count_by}
+use Rattle.std.specs.Prelude.{ℕ, ◌+◌, Bool, true, false, ◌||◌, not, nat_le, nat_lt, List, [], ◌∷◌, ◌++◌, length, Option}
+use Rattle.std.specs.Prelude.{Some, None, is_some, fold, option_and_then, if◌then◌else◌, count_by}
 use Rattle.poets_value.specs.Limits.{most_clerks}
 use Rattle.poets_call.specs.Said.{Statement, Agents, Kinds, Template, Report, Clerk, Journal, Command, Numbered}
 use Rattle.poets_session.specs.declared.form.Form.{Form}
@@ -75,7 +76,8 @@ is_too_many before Clerk = has_all most_clerks is_clerk before
 is_too_many before (Template t) = has_all most_templates is_template before
 is_too_many before (Report q) = has_all most_reports is_report before
 is_too_many before (Command command) = has_all most_commands is_command before
-is_too_many before (Numbered clerk command) = nat_lt clerk 1 || nat_lt most_clerks clerk || has_all most_commands is_command before
+is_too_many before (Numbered clerk command) =
+    nat_lt clerk 1 || nat_lt most_clerks clerk || has_all most_commands is_command before
 is_too_many before s = false
 
 -- the number of a statement, from 1, that may not stand in its place or is one too many

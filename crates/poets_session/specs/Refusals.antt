@@ -43,7 +43,8 @@ refusal_at_byte L.Memory = None
 -- the statement with the number is too deep, or no sentence; one that is not ended is none
 pub data IsUnread (piece : Piece) (number : ℕ) : Refusal → Type 0 where
   IsDeep : IsTooDeep piece.tokens → IsUnread piece number (TooDeep number)
-  IsNoSentence : ¬ (IsTooDeep piece.tokens) → (IsTrue piece.ended → (s : Statement) → ¬ (IsStatement piece.tokens s)) → IsUnread piece number (NoSentence number)
+  IsNoSentence : ¬ (IsTooDeep piece.tokens) → (IsTrue piece.ended → (s : Statement) → ¬ (IsStatement piece.tokens s)) →
+      IsUnread piece number (NoSentence number)
 
 -- all statements up to this one say something, and this one does not
 pub record IsStopped (pieces : List Piece) (r : Refusal) : Type 0 where
@@ -63,20 +64,25 @@ pub record IsTemplateAt (statements : List Statement) (number : ℕ) (f : Name) 
   pub stands : slice_get statements place ≡ Some (Template template)
   pub named : template.name ≡ f
 
--- why a text says no statements: a fault of its bytes, else the first statement that says nothing; the names are those of its tokens
+-- why a text says no statements: a fault of its bytes, else the first statement that says nothing; the names are those
+-- of its tokens
 pub data IsUnreadable (text : Text) (names : Table) : Refusal → Type 0 where
   -- a byte that begins no token, a number or a name that is too long
-  AtByte : {r : Refusal} (fault : LexFault) → FirstFault [] text fault → refusal_at_byte fault ≡ Some r → IsUnreadable text names r
+  AtByte : {r : Refusal} (fault : LexFault) → FirstFault [] text fault → refusal_at_byte fault ≡ Some r →
+      IsUnreadable text names r
   -- a statement that is too deep or no sentence
-  AtStatement : {tokens : List Token} {r : Refusal} → Lexes [] text 0 tokens names → IsStopped (pieces_of (toks tokens)) r → IsUnreadable text names r
+  AtStatement : {tokens : List Token} {r : Refusal} → Lexes [] text 0 tokens names →
+      IsStopped (pieces_of (toks tokens)) r → IsUnreadable text names r
 
 -- why statements are no valid session of the form: phase by phase, and in each phase the least statement
 pub data AreRefused (form : Form) (statements : List Statement) : Refusal → Type 0 where
   -- one that may not stand in its place, or is one too many
-  OutOfPlace : {fault : PlaceFault} → place_fault form statements ≡ Some fault → AreRefused form statements (Place fault)
+  OutOfPlace : {fault : PlaceFault} → place_fault form statements ≡ Some fault →
+      AreRefused form statements (Place fault)
   -- one that is not typed
   NotTyped :
-      {number : ℕ} {fault : TypeCause} → place_fault form statements ≡ None → first_fault statements ≡ Some (number, fault) →
+      {number : ℕ} {fault : TypeCause} → place_fault form statements ≡ None →
+      first_fault statements ≡ Some (number, fault) →
       AreRefused form statements (Mistyped number fault)
   -- a book with a cycle of unguarded edges: one that begins with the first template that lies on any
   NotGuarded :
@@ -87,4 +93,5 @@ pub data AreRefused (form : Form) (statements : List Statement) : Refusal → Ty
 -- why a text is no session of the form: it says no statements, or those that it says are refused
 pub data IsRefused (text : Text) (form : Form) (names : Table) : Refusal → Type 0 where
   Unreadable : {r : Refusal} → IsUnreadable text names r → IsRefused text form names r
-  Invalid : {statements : List Statement} {r : Refusal} → IsReadAs text names statements → AreRefused form statements r → IsRefused text form names r
+  Invalid : {statements : List Statement} {r : Refusal} → IsReadAs text names statements →
+      AreRefused form statements r → IsRefused text form names r

@@ -93,4 +93,5 @@ pub record Represents (statements : List Statement) (session : Session) : Type 0
 
 -- the text is a session of the form, and the code's session holds what it says
 abbrev pub HoldsText : Text → Form → Session → Type 0
-HoldsText text form session = (statements : List Statement) × IsSession text form session.names statements × Represents statements session
+HoldsText text form session =
+    (statements : List Statement) × IsSession text form session.names statements × Represents statements session

@@ -6,7 +6,8 @@ use Rattle.poets_lex.specs.Table.{Table}
 use Rattle.poets_syntax.specs.Plain.{TypeCause, Twice, Unknown, WrongCount, WrongType}
 use Rattle.poets_print.specs.Texts.{name_text, type_text}
 use Rattle.poets_session.specs.Places.{Misplaced, TooMany}
-use Rattle.poets_session.specs.Refusals.{Refusal, BadByte, LongNumber, LongName, TooDeep, NoSentence, Place, Mistyped, Unguarded}
+use Rattle.poets_session.specs.Refusals.{Refusal, BadByte, LongNumber, LongName, TooDeep, NoSentence, Place, Mistyped}
+use Rattle.poets_session.specs.Refusals.{Unguarded}
 
 -- `refused at byte 13: BadByte`, and LF (10)
 abbrev pub at_byte : ℕ → List ℕ → List ℕ
@@ -22,7 +23,8 @@ fault_text names (Twice x) = codes "Twice " ++ name_text names x
 fault_text names (Unknown x) = codes "Unknown " ++ name_text names x
 fault_text names (WrongCount x wanted found) =
     codes "WrongCount " ++ name_text names x ++ codes ": wanted " ++ decimal wanted ++ codes ", found " ++ decimal found
-fault_text names (WrongType wanted found) = codes "WrongType: wanted " ++ type_text wanted ++ codes ", found " ++ type_text found
+fault_text names (WrongType wanted found) =
+    codes "WrongType: wanted " ++ type_text wanted ++ codes ", found " ++ type_text found
 
 -- the text of the first name; no cycle is empty
 abbrev pub first_text : Table → List Name → List ℕ

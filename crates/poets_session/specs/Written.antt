@@ -1,4 +1,5 @@
--- What a text says is written with its names, and with numbers and days of the language; and a fault tells names of the text.
+-- What a text says is written with its names, and with numbers and days of the language; and a fault tells names of the
+-- text.
 use Rattle.std.specs.Prelude.{pos, ◌<◌, ◌^◌, IsTrue, List, [], ◌∷◌, All, IfSome}
 use Rattle.poets_value.specs.Whole.{is_day}
 use Rattle.poets_expr.specs.Expression.{Expression}

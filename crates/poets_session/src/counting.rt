@@ -3,7 +3,8 @@ ghost use Rattle.std.specs.Prelude.{◌≡◌, None, Some, IfErr, OnOk, IfSome};
 ghost use Rattle.poets_call.specs.Statements.{statement_of, statements_of};
 ghost use Rattle.poets_session.specs.Places.{place_fault};
 ghost use Rattle.poets_session.specs.Places as places;
-ghost use Rattle.poets_session.specs.code.Counting.{part_of, IsNextPart, IsPlaceFault, AreFew, CountsMore, FewIfSome, ManyIfNone};
+ghost use Rattle.poets_session.specs.code.Counting.{part_of, IsNextPart, IsPlaceFault, AreFew, CountsMore, FewIfSome};
+ghost use Rattle.poets_session.specs.code.Counting.{ManyIfNone};
 
 use crate::Form;
 use poets_call::Statement;

@@ -1,5 +1,9 @@
 //! The laws of sessions.
-ghost use Rattle.poets_session.specs.Laws.{OneSession, NoSessionRefused, NoValidRefused, OneRefusal, OneRefusalOfStatements, OneLine, EveryTextIsRead, AllStatementsAreJudged, SessionsAreWritten, StatementIsWritten, CommandsAreWritten, FaultsOfTextsAreListed, FaultsOfStatementsAreListed, PlacesByShape, MisplacedByShape, WholeByShape, FirstMisplaced, PlacedHaveShape};
+ghost use Rattle.poets_session.specs.Laws.{OneSession, NoSessionRefused, NoValidRefused, OneRefusal};
+ghost use Rattle.poets_session.specs.Laws.{OneRefusalOfStatements, OneLine, EveryTextIsRead, AllStatementsAreJudged};
+ghost use Rattle.poets_session.specs.Laws.{SessionsAreWritten, StatementIsWritten, CommandsAreWritten};
+ghost use Rattle.poets_session.specs.Laws.{FaultsOfTextsAreListed, FaultsOfStatementsAreListed, PlacesByShape};
+ghost use Rattle.poets_session.specs.Laws.{MisplacedByShape, WholeByShape, FirstMisplaced, PlacedHaveShape};
 
 /// A text is one session of a form at most.
 pub fn one_session()

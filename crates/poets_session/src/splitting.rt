@@ -5,7 +5,8 @@ ghost use Rattle.poets_session.specs.Pieces.{pieces_of};
 ghost use Rattle.poets_session.specs.Pieces as pieces;
 ghost use Rattle.poets_session.specs.Refusals.{IsUnread, IsStopped};
 ghost use Rattle.poets_session.specs.Causes.{IsCauseOf, syntax_cause};
-ghost use Rattle.poets_session.specs.code.Splitting.{piece, Says, Say, AreCutInto, StandAheadOfEnd, HaveNoEnd, TellsUnended};
+ghost use Rattle.poets_session.specs.code.Splitting.{piece, Says, Say, AreCutInto, StandAheadOfEnd, HaveNoEnd};
+ghost use Rattle.poets_session.specs.code.Splitting.{TellsUnended};
 
 use crate::SessionCause;
 use poets_call::Statement;

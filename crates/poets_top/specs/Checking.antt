@@ -7,7 +7,8 @@ use Rattle.poets_call.specs.Declarations.{book_from, reports_of}
 
 -- `book: templates 2, reports 1`, and LF (10)
 abbrev pub book_line : (templates reports : ℕ) → List ℕ
-book_line templates reports = codes "book: templates " ++ decimal templates ++ codes ", reports " ++ decimal reports ++ 10 ∷ []
+book_line templates reports =
+    codes "book: templates " ++ decimal templates ++ codes ", reports " ++ decimal reports ++ 10 ∷ []
 
 -- the line of a book
 abbrev pub book_text : List Statement → List ℕ

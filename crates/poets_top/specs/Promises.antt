@@ -30,8 +30,10 @@ abbrev pub IfDone : Outcome → (List Entry → Type 0) → Type 0
 IfDone outcome Holds = outcome.status ≡ DONE → Holds (history_of outcome.history.items)
 
 -- a demonstration reads nothing, and where the run ends with the status 0, it was shown
-abbrev pub Demonstrates : {S : Type 0} → (sales : ℕ) → (source source' : S) → (held held' : Option (List ℕ)) → Outcome → Type 0
-Demonstrates sales source source' held held' outcome = (source' ≡ source) × IfDone outcome (HasDemonstrated sales held held')
+abbrev pub Demonstrates : {S : Type 0} → (sales : ℕ) → (source source' : S) → (held held' : Option (List ℕ)) → Outcome →
+    Type 0
+Demonstrates sales source source' held held' outcome =
+    (source' ≡ source) × IfDone outcome (HasDemonstrated sales held held')
 
 -- the run ends as one that was asked for what the words ask for
 abbrev pub EndsAsAsked : List (String Global) → (source sink : Change) → Outcome → Type 0
@@ -43,4 +45,5 @@ EndsAsAsked words source sink outcome =
 abbrev pub EndsAsDeserved : List (String Global) → (source sink : Change) → Outcome → Type 0
 EndsAsDeserved words source sink outcome =
     (mode : Mode) (wanted : ℕ) → AskFor (map string_bytes words) mode → DeservesRun source.before.bytes mode wanted →
-    NoFaultRose source.before.faults source.after.faults sink.before.faults sink.after.faults → IsStatusOrMemory wanted outcome.status
+    NoFaultRose source.before.faults source.after.faults sink.before.faults sink.after.faults →
+    IsStatusOrMemory wanted outcome.status

@@ -22,7 +22,8 @@ pub record ReplaysJournal (names : Table) (statements : List Statement) (h : Lis
   pub history : IsReplayOf statements h
   pub lines : text ≡ history_text names h
 
--- a journal was replayed: what the source had left before and after, what the sink held before and after, and the history
+-- a journal was replayed: what the source had left before and after, what the sink held before and after, and the
+-- history
 pub record HasReplayed (left left' held held' : Option (List ℕ)) (h : List Entry) : Type 0 where
   -- the source was read to its end, and its bytes are the text of a session with a journal
   pub text : Text

@@ -15,7 +15,8 @@ use Rattle.poets_session.specs.Sessions.{Text, IsSession, scripts_of}
 -- a right history in which the commands of each clerk are his script, in order, and no other clerk's stand there
 pub record IsHistoryOf (statements : List Statement) (h : List Entry) : Type 0 where
   pub right : IsRightHistory (book_from statements) (reports_of statements) h
-  pub own : (place : ℕ) (script : List Command) → slice_get (scripts_of statements) place ≡ Some script → own (suc place) h ≡ script
+  pub own : (place : ℕ) (script : List Command) → slice_get (scripts_of statements) place ≡ Some script →
+      own (suc place) h ≡ script
   pub clerks : All (λ e. (1 ≤ e.clerk) × (e.clerk ≤ length (scripts_of statements))) h
 
 -- of the clerks' scripts a history is made, and its lines are to be written

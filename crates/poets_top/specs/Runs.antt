@@ -46,45 +46,55 @@ pub data IsAnswerTo (text : Text) (task : Task) : (status : ℕ) → List Entry 
   -- a session
   Made :
       {names : Table} {statements : List Statement} {h : List Entry} {written : List ℕ} →
-      IsSession text (form_of task) names statements → IsMade task names statements h written → IsAnswerTo text task DONE h written
+      IsSession text (form_of task) names statements → IsMade task names statements h written →
+      IsAnswerTo text task DONE h written
   -- no session: the line of its first fault
-  Refused : {names : Table} {r : Refusal} → IsRefused text (form_of task) names r → IsAnswerTo text task NO_SESSION [] (refusal_text names r)
+  Refused : {names : Table} {r : Refusal} → IsRefused text (form_of task) names r →
+      IsAnswerTo text task NO_SESSION [] (refusal_text names r)
 
 -- what a source asks for that was like this before the run, and like that after it
 pub data IsResult (task : Task) (source source' : Stream) : (status : ℕ) → List Entry → List ℕ → Type 0 where
   -- it was read to its end
   Read :
       {text written : List ℕ} {status : ℕ} {h : List Entry} →
-      GivesAll source.bytes source'.bytes text → length text ≤ longest → IsAnswerTo text task status h written → IsResult task source source' status h written
+      GivesAll source.bytes source'.bytes text → length text ≤ longest → IsAnswerTo text task status h written →
+      IsResult task source source' status h written
   -- it gave more bytes than a session may have; they come in blocks, so that at most a block too many was taken
-  TooLong : LosesFront (longest + 1) (longest + block) source.bytes source'.bytes → IsResult task source source' TOO_LONG [] too_long_text
+  TooLong : LosesFront (longest + 1) (longest + block) source.bytes source'.bytes →
+      IsResult task source source' TOO_LONG [] too_long_text
 
 -- how a run ends, by its source and its sink before and after
 pub data IsEnding (task : Task) (source source' sink sink' : Stream) : (status : ℕ) → List Entry → Type 0 where
   -- the source had no fault, and its result was written, or as much of it as the sink or memory allowed
   Answered :
       {status : ℕ} {h : List Entry} →
-      source'.faults ≡ source.faults → IsWritten (IsResult task source source') sink sink' status h → IsEnding task source source' sink sink' status h
+      source'.faults ≡ source.faults → IsWritten (IsResult task source source') sink sink' status h →
+      IsEnding task source source' sink sink' status h
   -- the source failed, and nothing was written
   ReadFailed :
-      HasFailed source source' → LosesFront 0 longest source.bytes source'.bytes → sink' ≡ sink → IsEnding task source source' sink sink' READ_FAULT []
+      HasFailed source source' → LosesFront 0 longest source.bytes source'.bytes → sink' ≡ sink →
+      IsEnding task source source' sink sink' READ_FAULT []
 
 -- how a run ends that was asked for a task with a text, or for a demonstration
 pub data Ends (source source' sink sink' : Stream) (status : ℕ) (h : List Entry) : Mode → Type 0 where
-  OfTask : {task : Task} → IsEnding task source source' sink sink' status h → Ends source source' sink sink' status h (M.Read task)
+  OfTask : {task : Task} → IsEnding task source source' sink sink' status h →
+      Ends source source' sink sink' status h (M.Read task)
   -- a demonstration reads nothing
-  OfDemo : {sales : ℕ} → source' ≡ source → IsWritten (IsDemonstration sales) sink sink' status h → Ends source source' sink sink' status h (M.Demo sales)
+  OfDemo : {sales : ℕ} → source' ≡ source → IsWritten (IsDemonstration sales) sink sink' status h →
+      Ends source source' sink sink' status h (M.Demo sales)
 
 -- the status that a text deserves
 pub data Deserves (task : Task) (text : Text) : (status : ℕ) → Type 0 where
-  OfSession : {names : Table} {statements : List Statement} → length text ≤ longest → IsSession text (form_of task) names statements → Deserves task text DONE
+  OfSession : {names : Table} {statements : List Statement} → length text ≤ longest →
+      IsSession text (form_of task) names statements → Deserves task text DONE
   OfNoSession : length text ≤ longest → IsNoSession text (form_of task) → Deserves task text NO_SESSION
   OfTooLong : longest < length text → Deserves task text TOO_LONG
 
 -- the status that a run deserves: for a task that of the text that the source has left, where it tells it; for a
 -- demonstration 0
 pub data DeservesRun (left : Option Text) : Mode → (status : ℕ) → Type 0 where
-  OfTask : {task : Task} {text : Text} {status : ℕ} → left ≡ Some text → Deserves task text status → DeservesRun left (M.Read task) status
+  OfTask : {task : Task} {text : Text} {status : ℕ} → left ≡ Some text → Deserves task text status →
+      DeservesRun left (M.Read task) status
   OfDemo : {sales : ℕ} → DeservesRun left (M.Demo sales) DONE
 
 -- the status, or that of want of memory

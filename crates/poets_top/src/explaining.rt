@@ -141,8 +141,8 @@ fn next_line(alloc: Global, names: &Names, step: &Step) -> Result<String, Memory
     Ok(format!(in alloc; "next {open}\n")?)
 }
 
-// The line of a way in which the recorded events perform the contract, or the line that there is none. A way is verified
-// before it is written.
+// The line of a way in which the recorded events perform the contract, or the line that there is none. A way is
+// verified before it is written.
 fn way_line(alloc: Global, studied: &Studied, account: &Account) -> Result<String, Memory>
     requires { IsFormedAccount studied.now account.now }
     ensures { IfOk result (λ line. TellsWay (book_of studied.now.book)

@@ -1,7 +1,8 @@
 //! The program's one call.
 ghost use Rattle.std.specs.Prelude.{◌≡◌, ◌≢◌, ◌≤◌, ℕ, List, [], length};
 ghost use Rattle.poets_top.specs.Explaining.{HasExplained};
-ghost use Rattle.poets_top.specs.Promises.{AreNoForm, AskTo, AskToShow, Demonstrates, EndsAsAsked, EndsAsDeserved, IfDone};
+ghost use Rattle.poets_top.specs.Promises.{AreNoForm, AskTo, AskToShow, Demonstrates, EndsAsAsked, EndsAsDeserved};
+ghost use Rattle.poets_top.specs.Promises.{IfDone};
 ghost use Rattle.poets_top.specs.Replaying.{HasReplayed};
 ghost use Rattle.poets_top.specs.Running.{HasRun};
 ghost use Rattle.poets_top.specs.Runs.{IsAnswerTo, IsStatusOrMemory, longest};

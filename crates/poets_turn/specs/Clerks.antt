@@ -1,5 +1,6 @@
 -- What contracts say of a turnstile, its clerks and its notes.
-use Rattle.std.specs.Prelude.{◌≡◌, ◌⊎◌, ℕ, ◌+◌, ◌<◌, ◌≤◌, ◌^◌, List, [], ◌∷◌, ◌++◌, length, map, slice_index_or, Option, Some, Contains, All, Result, MatchResult}
+use Rattle.std.specs.Prelude.{◌≡◌, ◌⊎◌, ℕ, ◌+◌, ◌<◌, ◌≤◌, ◌^◌, List, [], ◌∷◌, ◌++◌, length, map, slice_index_or, Option}
+use Rattle.std.specs.Prelude.{Some, Contains, All, Result, MatchResult}
 use Rattle.std.specs.declared.alloc.Global.{Global}
 use Rattle.std.specs.declared.sync.Arc.{Arc}
 use Rattle.std.specs.Arc.{arc_value}
@@ -86,8 +87,10 @@ module _ {M C F : Type 0} where
   abbrev pub AreAll : ℕ → List (ClerkOf M C F) → Type 0
   AreAll count clerks = (k : ℕ) → 0 < k → k ≤ count → Contains (map (λ c. number c) clerks) k
 
--- the clerk of a number, of so many, made the call, of which this was kept: it saw and had made this before, and that after
-pub record IsCall {C K : Type 0} (owes : List (ℕ × C) → ℕ → C → K → Type 0) (count number : ℕ) (call : C) (kept : K) (saw saw' : List (ℕ × C)) (made made' : List C) : Type 0 where
+-- the clerk of a number, of so many, made the call, of which this was kept: it saw and had made this before, and that
+-- after
+pub record IsCall {C K : Type 0} (owes : List (ℕ × C) → ℕ → C → K → Type 0) (count number : ℕ) (call : C) (kept : K)
+    (saw saw' : List (ℕ × C)) (made made' : List C) : Type 0 where
   -- the entries before the call, which begin with what the clerk had seen
   pub before : List (ℕ × C)
   pub longer : IsPrefix saw before
@@ -106,12 +109,14 @@ pub record IsCall {C K : Type 0} (owes : List (ℕ × C) → ℕ → C → K →
 
 module _ {M C R K F T : Type 0} where
   -- the clerk made the call, and this was kept of it
-  abbrev pub HasCalled : (F → List (ℕ × C) → ℕ → C → T → Type 0) → (M → F) → Turn M C R K F → C → T → (clerk clerk' : ClerkOf M C F) → Type 0
+  abbrev pub HasCalled : (F → List (ℕ × C) → ℕ → C → T → Type 0) → (M → F) → Turn M C R K F → C → T →
+      (clerk clerk' : ClerkOf M C F) → Type 0
   HasCalled owes frame turn call kept clerk clerk' =
-      IsCall (owes (turn_frame frame turn)) (clerk_count turn) (number clerk) call kept (front clerk) (front clerk') (calls clerk) (calls clerk')
+      IsCall (owes (turn_frame frame turn)) (clerk_count turn) (number clerk) call kept (front clerk) (front clerk')
+      (calls clerk) (calls clerk')
 
-  -- the clerk's call is over: it made the call, and this was kept of it; or nothing was kept, and it saw no more and made
-  -- no call
+  -- the clerk's call is over: it made the call, and this was kept of it; or nothing was kept, and it saw no more and
+  -- made no call
   abbrev pub CallEnded :
       {E : Type 0} → (F → List (ℕ × C) → ℕ → C → T → Type 0) → (M → F) → Turn M C R K F → Arc C Global → Result T E →
       (clerk clerk' : ClerkOf M C F) → Type 0
@@ -119,8 +124,10 @@ module _ {M C R K F T : Type 0} where
       (λ kept. HasCalled owes frame turn (arc_value call) kept clerk clerk')
       (λ _. SawNoMore clerk clerk')
 
--- the history begins with all that the clerk of the number saw, and of this clerk it has just its own calls, each once, in order
-pub record IsClerkIn {C : Type 0} (history : List (ℕ × C)) (number : ℕ) (saw : List (ℕ × C)) (made : List C) : Type 0 where
+-- the history begins with all that the clerk of the number saw, and of this clerk it has just its own calls, each once,
+-- in order
+pub record IsClerkIn {C : Type 0} (history : List (ℕ × C)) (number : ℕ) (saw : List (ℕ × C)) (made : List C) :
+    Type 0 where
   pub front : IsPrefix saw history
   pub calls : own_calls number history ≡ made
 

@@ -32,7 +32,8 @@ TermIsTyped book reports term = IsTyped (book_of book) (report_names (map report
 
 -- whether the contract is typed in the book beside the reports, or its first fault
 abbrev pub term_verdict : Book → List Report → Term → Verdict (Unit {0})
-term_verdict book reports term = check_contract (book_of book) (report_names (map report_of reports)) [] (contract_of term)
+term_verdict book reports term =
+    check_contract (book_of book) (report_names (map report_of reports)) [] (contract_of term)
 
 -- the command is typed in the book with the reports
 abbrev pub CommandIsTyped : Book → List Report → Command → Type 0

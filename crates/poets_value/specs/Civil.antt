@@ -1,5 +1,6 @@
 -- Civil days of the years 1 to 9999, counted from 1970-01-01, and their ten bytes.
-use Rattle.std.specs.Prelude.{◌≡◌, ℕ, zero, suc, ◌+◌, ◌/◌, ◌%◌, ◌≤◌, ◌<◌, List, [], ◌∷◌, ℤ, pos, neg_ℤ, ◌-ℤ◌, ◌≤ℤ◌, int_le, unsigned_abs, if◌then◌else◌}
+use Rattle.std.specs.Prelude.{◌≡◌, ℕ, zero, suc, ◌+◌, ◌/◌, ◌%◌, ◌≤◌, ◌<◌, List, [], ◌∷◌, ℤ, pos, neg_ℤ, ◌-ℤ◌, ◌≤ℤ◌}
+use Rattle.std.specs.Prelude.{int_le, unsigned_abs, if◌then◌else◌}
 use Rattle.jiff_core.specs.Calendar.{IsCivilDate, days_from_civil}
 
 -- the day number of a civil day from 0001-01-01 to 9999-12-31
@@ -40,7 +41,8 @@ last_year (suc year) day = if int_le (days_from_civil (pos (suc year)) 1 1) day 
 -- the last of the year's months up to this one whose first day is not after the day
 unfoldable pub last_month : ℕ → ℕ → ℤ → ℕ
 last_month year zero day = 0
-last_month year (suc month) day = if int_le (days_from_civil (pos year) (suc month) 1) day then suc month else last_month year month day
+last_month year (suc month) day =
+    if int_le (days_from_civil (pos year) (suc month) 1) day then suc month else last_month year month day
 
 abbrev pub year_of : ℤ → ℕ
 year_of day = last_year 9999 day

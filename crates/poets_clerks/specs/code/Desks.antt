@@ -8,7 +8,8 @@ AtEach {D} P items = (k : ℕ) (d : D) → k < length items → P k (slice_index
 
 -- a relation of each place of a list, the item there, and that of another list
 abbrev pub AtEachOfTwo : {D : Type 0} → (ℕ → D → D → Type 0) → List D → List D → Type 0
-AtEachOfTwo {D} P items others = (k : ℕ) (d : D) → k < length items → P k (slice_index_or items k d) (slice_index_or others k d)
+AtEachOfTwo {D} P items others =
+    (k : ℕ) (d : D) → k < length items → P k (slice_index_or items k d) (slice_index_or others k d)
 
 -- two empty lists with room for so many items
 abbrev pub AreEmptyWithRoom : {X Y : Type 0} → ℕ → Listed X → Listed Y → Type 0

@@ -44,7 +44,8 @@ holding says t = (cut (own says t.body), exposures says t.body)
 
 -- each of the templates has its node, and nothing else has one
 abbrev pub IsGraph : List Template → (says : Name → Bool) → BTreeMap Name Node → Type 0
-IsGraph templates says graph = (f : Name) → option_map held (get name_cmp graph f) ≡ option_map (holding says) (template_in templates f)
+IsGraph templates says graph =
+    (f : Name) → option_map held (get name_cmp graph f) ≡ option_map (holding says) (template_in templates f)
 
 -- an edge leads from a name to each that its node exposes
 abbrev pub HasEdge : BTreeMap Name Node → Name → Name → Type 0

@@ -1,5 +1,6 @@
 -- What follows from facts by rules of two premises.
-use Rattle.std.specs.Prelude.{◌≡◌, ◌⊎◌, ℕ, ◌+◌, ◌*◌, ◌<◌, ◌≤◌, Bool, true, false, not, List, [], ◌∷◌, ◌++◌, length, map, All, Contains, slice_index_or, slice_set}
+use Rattle.std.specs.Prelude.{◌≡◌, ◌⊎◌, ℕ, ◌+◌, ◌*◌, ◌<◌, ◌≤◌, Bool, true, false, not, List, [], ◌∷◌, ◌++◌, length, map}
+use Rattle.std.specs.Prelude.{All, Contains, slice_index_or, slice_set}
 use Rattle.std.specs.List.{count_by, sum_by}
 use Rattle.std.specs.declared.alloc.Global.{Global}
 use Rattle.std.specs.declared.vec.Vec.{Vec}
@@ -49,7 +50,8 @@ abbrev pub IsPlaced : List Bool → (lists : List (List Rule)) → (left : List 
 IsPlaced facts lists left r = Contains left r ⊎ (is_known facts r.conclusion ≡ true) ⊎ Waits facts lists r
 
 -- each rule is placed, and what is known follows
-pub record IsLearning (rules : List Rule) (facts : List Bool) (lists : List (List Rule)) (left : List Rule) : Type 0 where
+pub record IsLearning (rules : List Rule) (facts : List Bool) (lists : List (List Rule)) (left : List Rule) :
+    Type 0 where
   pub given : is_known facts 0 ≡ true
   pub placed : (r : Rule) → Contains rules r → IsPlaced facts lists left r
   pub pending : All (Contains rules) left
@@ -63,13 +65,15 @@ work rules facts pending = count_by not facts * (length rules + 1) + length pend
 
 -- a rule that was pending is placed
 abbrev pub IsStep : Rule → (old new : Known) → Type 0
-IsStep r old new = (rules : List Rule) → IsLearning rules old.facts.items (lists old.waiting.items) (old.pending.items ++ r ∷ []) →
+IsStep r old new =
+    (rules : List Rule) → IsLearning rules old.facts.items (lists old.waiting.items) (old.pending.items ++ r ∷ []) →
     IsLearning rules new.facts.items (lists new.waiting.items) new.pending.items
     × (work rules new.facts.items new.pending.items < work rules old.facts.items (old.pending.items ++ r ∷ []))
 
 -- the rule waits for the fact after those that did, and no other waits anew
 abbrev pub WaitsFor : (fact : ℕ) → Rule → (old new : Known) → Type 0
-WaitsFor fact rule old new = lists new.waiting.items ≡ slice_set (lists old.waiting.items) fact (list_at old.waiting.items fact ++ rule ∷ [])
+WaitsFor fact rule old new =
+    lists new.waiting.items ≡ slice_set (lists old.waiting.items) fact (list_at old.waiting.items fact ++ rule ∷ [])
 
 -- the rules that waited for the fact are pending after those that were, and none waits for it
 abbrev pub EndsWaitFor : (fact : ℕ) → (old new : Known) → Type 0

@@ -25,7 +25,8 @@ IsPassed graph goal seen f = (g : Name) → HasEdge graph f g → IsSeen graph s
 -- a search added names: those that it saw are passed
 pub record IsSearching (graph : BTreeMap Name Node) (goal : Name) (old new : BTreeSet Name) : Type 0 where
   pub kept : (f : Name) → contains name_cmp old f ≡ true → contains name_cmp new f ≡ true
-  pub passed : (f : Name) → contains name_cmp new f ≡ true → (contains name_cmp old f ≡ true) ⊎ IsPassed graph goal new f
+  pub passed : (f : Name) → contains name_cmp new f ≡ true →
+      (contains name_cmp old f ≡ true) ⊎ IsPassed graph goal new f
   pub have_nodes : HaveNodes graph new
   pub as_many : length old.keys ≤ length new.keys
 
@@ -35,8 +36,10 @@ IsSearched graph goal from old new = IsSeen graph new from × IsSearching graph 
 
 -- the path goes on from the name to the goal
 abbrev pub LeadsOn : BTreeMap Name Node → (goal from : Name) → (old new : List Name) → Type 0
-LeadsOn graph goal from old new = (names : List Name) × (new ≡ old ++ from ∷ names) × IsPath (HasEdge graph) from names goal
+LeadsOn graph goal from old new =
+    (names : List Name) × (new ≡ old ++ from ∷ names) × IsPath (HasEdge graph) from names goal
 
 -- each name with a node is that of a template
 abbrev pub HasNodesOf : BTreeMap Name Node → List Template → Type 0
-HasNodesOf graph templates = (f : Name) → IsSome (get name_cmp graph f) → is_among (map (λ t. t.name) templates) f ≡ true
+HasNodesOf graph templates =
+    (f : Name) → IsSome (get name_cmp graph f) → is_among (map (λ t. t.name) templates) f ≡ true

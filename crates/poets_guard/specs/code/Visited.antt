@@ -1,5 +1,6 @@
 -- What a visit of the graph leaves: open and closed names, and those on cycles.
-use Rattle.std.specs.Prelude.{◌≡◌, ℕ, ◌+◌, ◌≤◌, ◌⊎◌, true, cond, [], ◌∷◌, ◌++◌, length, take, Some, None, IsSome, slice_get}
+use Rattle.std.specs.Prelude.{◌≡◌, ℕ, ◌+◌, ◌≤◌, ◌⊎◌, true, cond, [], ◌∷◌, ◌++◌, length, take, Some, None, IsSome}
+use Rattle.std.specs.Prelude.{slice_get}
 use Rattle.std.specs.Ordering.{is_eq}
 use Rattle.std.specs.BTreeMap.{BTreeMap, get}
 use Rattle.std.specs.BTreeSet.{contains}
@@ -29,7 +30,9 @@ AllLead graph visits g = (k : ℕ) (f : Name) → IsOpenAt visits k f → Reache
 
 -- the name has no node, or it was visited, and if it is open, then at this height or above
 abbrev pub IsFrom : BTreeMap Name Node → Visits → (least : ℕ) → Name → Type 0
-IsFrom graph visits least f = (get name_cmp graph f ≡ None) ⊎ ((k : ℕ) × (get name_cmp visits.heights f ≡ Some k) × (IsOpenAt visits k f → least ≤ k))
+IsFrom graph visits least f =
+    (get name_cmp graph f ≡ None)
+    ⊎ ((k : ℕ) × (get name_cmp visits.heights f ≡ Some k) × (IsOpenAt visits k f → least ≤ k))
 
 -- so it is with each name to which an edge leads
 abbrev pub LeadsFrom : BTreeMap Name Node → Visits → (least : ℕ) → Name → Type 0
@@ -41,7 +44,9 @@ IsClosed visits f = (k : ℕ) × (get name_cmp visits.heights f ≡ Some k) × �
 
 -- the name leads to closed names alone, and is among those on cycles or lies on none
 abbrev pub IsDone : BTreeMap Name Node → Visits → Name → Type 0
-IsDone graph visits f = ((least : ℕ) → LeadsFrom graph visits least f) × ((contains name_cmp visits.on_cycles f ≡ true) ⊎ ¬ (LiesOnCycle (HasEdge graph) f))
+IsDone graph visits f =
+    ((least : ℕ) → LeadsFrom graph visits least f)
+    × ((contains name_cmp visits.on_cycles f ≡ true) ⊎ ¬ (LiesOnCycle (HasEdge graph) f))
 
 -- closed names are done, and those among the ones on cycles are
 pub record AreRight (graph : BTreeMap Name Node) (visits : Visits) : Type 0 where
@@ -60,7 +65,8 @@ pub record AreGrown (old new : Visits) : Type 0 where
 -- those that are open above lie on cycles, lead to open names from the least height on, and to what the others lead to
 pub record AreOpened (graph : BTreeMap Name Node) (least : ℕ) (old new : Visits) : Type 0 where
   pub grown : AreGrown old new
-  pub above : (k : ℕ) (f : Name) → length old.stack.items ≤ k → IsOpenAt new k f → (contains name_cmp new.on_cycles f ≡ true) × LeadsFrom graph new least f
+  pub above : (k : ℕ) (f : Name) → length old.stack.items ≤ k → IsOpenAt new k f →
+      (contains name_cmp new.on_cycles f ≡ true) × LeadsFrom graph new least f
   pub back : (f : Name) → AllLead graph old f → AllLead graph new f
   pub right : AreRight graph new
 
@@ -74,7 +80,8 @@ pub record IsVisited (graph : BTreeMap Name Node) (f : Name) (least : ℕ) (old 
 pub record IsPushed (f : Name) (height : ℕ) (old new : Visits) : Type 0 where
   pub top : height ≡ length old.stack.items
   pub fresh : get name_cmp old.heights f ≡ None
-  pub heights : (g : Name) → get name_cmp new.heights g ≡ cond (is_eq (name_cmp f g)) (Some height) (get name_cmp old.heights g)
+  pub heights : (g : Name) →
+      get name_cmp new.heights g ≡ cond (is_eq (name_cmp f g)) (Some height) (get name_cmp old.heights g)
   pub stack : new.stack.items ≡ old.stack.items ++ f ∷ []
   pub on_cycles : new.on_cycles ≡ old.on_cycles
   pub as_many : length new.heights.entries ≡ length old.heights.entries + 1

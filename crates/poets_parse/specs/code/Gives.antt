@@ -35,7 +35,8 @@ Gives view (Ok x) read = read ≡ Some (view x)
 Gives view (Err fault) read = Refuses fault read
 
 -- the same of a reader that answers what stands after, too
-abbrev pub GivesFront : {X Y : Type 0} → (X → Y) → Result (X × Bor (List Token)) ReadFault → Option (Y × List Tok) → Type 0
+abbrev pub GivesFront : {X Y : Type 0} → (X → Y) → Result (X × Bor (List Token)) ReadFault → Option (Y × List Tok) →
+    Type 0
 GivesFront view result read = Gives (λ p. (view p.0, toks p.1.now)) result read
 
 -- the answer is the expression that the rule reads, over the reader of whole expressions
@@ -43,11 +44,13 @@ abbrev pub GivesExpression : (Reader → Reader) → List Token → Result (Expr
 GivesExpression rule tokens result = GivesFront expression_of result (rule expression (toks tokens))
 
 -- the answer is the contract that the rule reads, over the reader of simple contracts
-abbrev pub GivesContract : (ContractReader → ContractReader) → List Token → Result (Term × Bor (List Token)) ReadFault → Type 0
+abbrev pub GivesContract : (ContractReader → ContractReader) → List Token → Result (Term × Bor (List Token)) ReadFault →
+    Type 0
 GivesContract rule tokens result = GivesFront contract_of result (rule simple (toks tokens))
 
 -- the answer is the list that is read, by its items
-abbrev pub GivesItems : {X : Type 0} → Result (Listed X × Bor (List Token)) ReadFault → Option (List X × List Tok) → Type 0
+abbrev pub GivesItems : {X : Type 0} → Result (Listed X × Bor (List Token)) ReadFault → Option (List X × List Tok) →
+    Type 0
 GivesItems result read = GivesFront (λ l. l.items) result read
 
 -- the expressions of a list, as plain data
@@ -55,7 +58,8 @@ abbrev pub expressions_of : Listed Expr → List Expression
 expressions_of args = map expression_of args.items
 
 -- the answer is the list of arguments that is read, by its expressions as plain data
-abbrev pub GivesArguments : Result (Listed Expr × Bor (List Token)) ReadFault → Option (List Expression × List Tok) → Type 0
+abbrev pub GivesArguments : Result (Listed Expr × Bor (List Token)) ReadFault → Option (List Expression × List Tok) →
+    Type 0
 GivesArguments result read = GivesFront expressions_of result read
 
 -- the name, the parameters and the type of a report, as plain data

@@ -39,4 +39,5 @@ folio_text names folio = reply_text names (Reply.Folio (map folio_row_of folio.r
 
 -- what a contract's residual is, how many events it stands after, and whether it may end or was ended
 abbrev pub shown_text : Table → Term → ℕ → (may_end ended : Bool) → List ℕ
-shown_text names residual count may_end ended = reply_text names (Reply.Shown (contract_of residual) count may_end ended)
+shown_text names residual count may_end ended =
+    reply_text names (Reply.Shown (contract_of residual) count may_end ended)

@@ -32,7 +32,8 @@ IsFirstAnswer report began running = (declared : Declared) (args : List (Option 
 
 -- where these are the parameters with any arguments, and the report has a key, this is the key on the event
 abbrev pub IsKeyOn : Decls → Report → Env → Event → Option Value → Type 0
-IsKeyOn decls report env e found = (args : List (Option Value)) (key : Expression) → env ≡ given (report_of report) args →
+IsKeyOn decls report env e found =
+    (args : List (Option Value)) (key : Expression) → env ≡ given (report_of report) args →
     (report_of report).key ≡ Some key → found ≡ key_on (declared_of decls.names) (report_of report) args key e
 
 -- where these are the parameters with any arguments, this is what is carried past the event

@@ -1,9 +1,5 @@
--- What parameters stand for, and what a template's body says of it.
-use Rattle.std.specs.Prelude.{◌≡◌, List, map, reverse}
-use Rattle.poets_expr.specs.declared.env.Decls.{Decls}
-use Rattle.poets_expr.specs.Env.{declared_of}
-use Rattle.poets_expr.specs.Subst.{Givens}
-use Rattle.poets_syntax.specs.declared.term.Param.{Param}
+-- What a template's body says of the arguments.
+use Rattle.std.specs.Prelude.{List, map}
 use Rattle.poets_expr.specs.declared.expr.Expr.{Expr}
 use Rattle.poets_expr.specs.Expression.{expression_of}
 use Rattle.poets_syntax.specs.declared.term.Template.{Template}
@@ -12,11 +8,6 @@ use Rattle.poets_syntax.specs.Contract.{Contract, contract_of}
 use Rattle.poets_syntax.specs.Replace.{replace}
 use Rattle.poets_syntax.specs.Residual.{argument_givens}
 use Rattle.poets_syntax.specs.Studied.{StudiedBook}
-
--- the pairs are what the arguments give for the parameters, the newest last
-abbrev pub AreGivens : Decls → List Param → List Expr → Givens → Type 0
-AreGivens decls params args pairs =
-    reverse pairs ≡ argument_givens (declared_of decls.names) params (map expression_of args)
 
 -- the template's body with its parameters replaced
 abbrev pub body_with : StudiedBook → Template → List Expr → Contract

@@ -1,5 +1,6 @@
 -- What the code counts.
-use Rattle.std.specs.Prelude.{◌≡◌, ◌≤◌, true, false, List, [], ◌∷◌, ◌++◌, Option, Some, IfSome, IfNone, option_map, count_by}
+use Rattle.std.specs.Prelude.{◌≡◌, ◌≤◌, true, false, List, [], ◌∷◌, ◌++◌, Option, Some, IfSome, IfNone, option_map}
+use Rattle.std.specs.Prelude.{count_by}
 use Rattle.poets_value.specs.Limits.{most_clerks}
 use Rattle.poets_call.specs.Said.{Statement}
 use Rattle.poets_session.specs.Places as P
@@ -19,7 +20,8 @@ abbrev pub fault_of : PlaceFault → P.PlaceFault
 fault_of (F.Misplaced number) = P.Misplaced number
 fault_of (F.TooMany number) = P.TooMany number
 
--- the answer is the part in which a statement stands that follows one of the part, and none where it may not stand there
+-- the answer is the part in which a statement stands that follows one of the part, and none where it may not stand
+-- there
 abbrev pub IsNextPart : Form → Part → Statement → Option Part → Type 0
 IsNextPart form part s next = option_map part_of next ≡ P.next_part form (part_of part) s
 
@@ -30,7 +32,8 @@ IsPlaceFault form statements fault = P.place_fault form statements ≡ Some (fau
 -- there are no more clerks, templates, reports and commands than there may be
 abbrev pub AreFew : Counts → Type 0
 AreFew counts =
-    (counts.clerks ≤ most_clerks) × (counts.templates ≤ P.most_templates) × (counts.reports ≤ P.most_reports) × (counts.commands ≤ P.most_commands)
+    (counts.clerks ≤ most_clerks) × (counts.templates ≤ P.most_templates) × (counts.reports ≤ P.most_reports)
+    × (counts.commands ≤ P.most_commands)
 
 -- the counts are those of the statements
 pub record AreCounted (statements : List Statement) (counts : Counts) : Type 0 where
@@ -41,12 +44,15 @@ pub record AreCounted (statements : List Statement) (counts : Counts) : Type 0 w
 
 -- after any statements with these counts: the counts that are answered are those with this statement
 abbrev pub CountsMore : Counts → Statement → Option Counts → Type 0
-CountsMore counts s more = (before : List Statement) → AreCounted before counts → IfSome more (AreCounted (before ++ s ∷ []))
+CountsMore counts s more =
+    (before : List Statement) → AreCounted before counts → IfSome more (AreCounted (before ++ s ∷ []))
 
 -- after any statements with these counts: where counts are answered, this statement is not one too many
 abbrev pub FewIfSome : Counts → Statement → Option Counts → Type 0
-FewIfSome counts s more = (before : List Statement) → AreCounted before counts → IfSome more (λ _. P.is_too_many before s ≡ false)
+FewIfSome counts s more =
+    (before : List Statement) → AreCounted before counts → IfSome more (λ _. P.is_too_many before s ≡ false)
 
 -- after any statements with these counts: where none are answered, this statement is one too many
 abbrev pub ManyIfNone : Counts → Statement → Option Counts → Type 0
-ManyIfNone counts s more = (before : List Statement) → AreCounted before counts → IfNone more (P.is_too_many before s ≡ true)
+ManyIfNone counts s more =
+    (before : List Statement) → AreCounted before counts → IfNone more (P.is_too_many before s ≡ true)

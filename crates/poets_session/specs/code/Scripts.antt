@@ -28,8 +28,10 @@ HasJournal statements calls = calls_in calls.journal.items ≡ journal_of statem
 
 -- the scripts of any statements become those of the statements and this one after them, if memory is found for it
 abbrev pub AddsToScripts : {X E : Type 0} → (old new : Calls) → Statement → Result X E → Type 0
-AddsToScripts old new s result = (before : List Statement) → HasScripts before old → IfOk result (λ _. HasScripts (before ++ s ∷ []) new)
+AddsToScripts old new s result =
+    (before : List Statement) → HasScripts before old → IfOk result (λ _. HasScripts (before ++ s ∷ []) new)
 
 -- the call of the statement, if it is one, comes after those of the journal, if memory is found for it
 abbrev pub AddsToJournal : {X E : Type 0} → (old new : Calls) → Statement → Result X E → Type 0
-AddsToJournal old new s result = IfOk result (λ _. calls_in new.journal.items ≡ calls_in old.journal.items ++ numbered_call s)
+AddsToJournal old new s result =
+    IfOk result (λ _. calls_in new.journal.items ≡ calls_in old.journal.items ++ numbered_call s)

@@ -27,12 +27,14 @@ Writes Is sink outcome = IsWritten Is sink.before sink.after outcome.status (his
 
 -- whatever such text was read for whatever such task, its answer was written to the sink, as the outcome tells
 abbrev pub AnswersEach : (Such : Text → Task → Type 0) → (sink : Change) → Outcome → Type 0
-AnswersEach Such sink outcome = (text : Text) (task : Task) → Such text task → Writes (IsAnswerTo text task) sink outcome
+AnswersEach Such sink outcome =
+    (text : Text) (task : Task) → Such text task → Writes (IsAnswerTo text task) sink outcome
 
 -- from whatever text the session was read for the task, the answer was written to the sink, as the outcome tells
 abbrev pub AnswersSession : Task → Session → (sink : Change) → Outcome → Type 0
 AnswersSession task session sink outcome =
-    (text : Text) (statements : List Statement) → IsSessionOf (form_of task) text statements session → Writes (IsAnswerTo text task) sink outcome
+    (text : Text) (statements : List Statement) → IsSessionOf (form_of task) text statements session →
+    Writes (IsAnswerTo text task) sink outcome
 
 -- a run that was asked for the task ended with the outcome, by the changes of its source and its sink
 abbrev pub EndsTask : Task → (source sink : Change) → Outcome → Type 0
@@ -50,10 +52,13 @@ lines_of names entries = history_text names (history_of entries)
 -- whatever text asks for this history and for its lines, they were written to the sink, as the outcome tells
 abbrev pub WritesHistory : Table → Listed code.Entry → (sink : Change) → Outcome → Type 0
 WritesHistory names history sink outcome =
-    AnswersEach (λ text task. IsAnswerTo text task DONE (history_of history.items) (lines_of names history.items)) sink outcome
+    AnswersEach
+    (λ text task. IsAnswerTo text task DONE (history_of history.items) (lines_of names history.items)) sink outcome
 
 -- the line was written and the outcome has the wanted status; or the sink failed, and a front of the line was written
 abbrev pub WritesLine : (line : List ℕ) → (sink : Change) → (wanted : ℕ) → Outcome → Type 0
 WritesLine line sink wanted outcome =
-    ((outcome.status ≡ wanted) × Appends sink.before.bytes sink.after.bytes line × (sink.after.faults ≡ sink.before.faults))
-    ⊎ ((outcome.status ≡ WRITE_FAULT) × AppendsPart sink.before.bytes sink.after.bytes line × HasFailed sink.before sink.after)
+    ((outcome.status ≡ wanted) × Appends sink.before.bytes sink.after.bytes line
+    × (sink.after.faults ≡ sink.before.faults))
+    ⊎ ((outcome.status ≡ WRITE_FAULT) × AppendsPart sink.before.bytes sink.after.bytes line
+    × HasFailed sink.before sink.after)

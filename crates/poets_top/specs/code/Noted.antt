@@ -29,7 +29,8 @@ pub record AreNoted (engine : State) (h : List Entry) : Type 0 where
 
 -- an engine with these rules takes each of the calls of the scripts
 abbrev pub AreScriptsTaken : Rules → List (Listed (Arc Command Global)) → Type 0
-AreScriptsTaken rules scripts = All (λ script. All (λ command. IsTakenBy rules (command_of (arc_value command))) script.items) scripts
+AreScriptsTaken rules scripts =
+    All (λ script. All (λ command. IsTakenBy rules (command_of (arc_value command))) script.items) scripts
 
 -- a call with its reply, as an entry
 abbrev pub entry_with : (ℕ × Command) × Reply → Entry

@@ -19,4 +19,5 @@ WasRead form session = (text : Text) × ((statements : List Statement) × IsSess
 -- the line, if memory was enough for it, is that of the book that the session holds
 abbrev pub TellsItsBook : {E : Type 0} → Session → Result (String Global) E → Type 0
 TellsItsBook session result =
-    (statements : List Statement) → Represents statements session → IfOk result (λ line. string_bytes line ≡ book_text statements)
+    (statements : List Statement) → Represents statements session →
+    IfOk result (λ line. string_bytes line ≡ book_text statements)

@@ -1,5 +1,6 @@
 -- What the private functions ask of a seat, and what they leave of it.
-use Rattle.std.specs.Prelude.{◌≡◌, ℕ, ◌+◌, ◌<◌, ◌≤◌, ◌^◌, List, [], ◌∷◌, ◌++◌, Option, Some, None, Result, MatchResult, All}
+use Rattle.std.specs.Prelude.{◌≡◌, ℕ, ◌+◌, ◌<◌, ◌≤◌, ◌^◌, List, [], ◌∷◌, ◌++◌, Option, Some, None, Result, MatchResult}
+use Rattle.std.specs.Prelude.{All}
 use Rattle.std.specs.declared.alloc.Global.{Global}
 use Rattle.std.specs.declared.sync.Arc.{Arc}
 use Rattle.std.specs.Arc.{arc_value}
@@ -22,7 +23,8 @@ module _ {M C F : Type 0} where
   abbrev pub MayCall : ℕ → Me (Option M) (View C F) → Type 0
   MayCall number me = (me.0.stage ≡ Idle) × (me.1 ≡ []) × (0 < number) × (me.0.number ≡ number) × (me.0.heard ≡ [])
 
-  -- the seat is still that of the clerk with the number, which again has no ticket, holds no machine, and saw all that it heard of
+  -- the seat is still that of the clerk with the number, which again has no ticket, holds no machine, and saw all that
+  -- it heard of
   abbrev pub IsBack : ℕ → Me (Option M) (View C F) → Type 0
   IsBack number me = (me.0.number ≡ number) × (me.0.stage ≡ Idle) × (me.1 ≡ []) × (me.0.heard ≡ [])
 
@@ -33,15 +35,20 @@ module _ {M C F : Type 0} where
 module _ {M C F : Type 0} (history : M → List (ℕ × C)) where
   -- the machine is out of its slot as the seat with the ticket found it, and there is a next ticket to hand on to
   abbrev pub MayPass : Me (Option M) (View C F) → ℕ → M → Type 0
-  MayPass me ticket machine = (me.0.stage ≡ Serving ticket (history machine)) × (me.1 ≡ (0, None) ∷ []) × (ticket + 1 < 2 ^ 64)
+  MayPass me ticket machine =
+      (me.0.stage ≡ Serving ticket (history machine)) × (me.1 ≡ (0, None) ∷ []) × (ticket + 1 < 2 ^ 64)
 
   -- the machine took one call since the seat with the ticket found it, which is the seat's
   abbrev pub HasOneCallMore : View C F → ℕ → Arc C Global → M → Type 0
-  HasOneCallMore v ticket call machine = (before : List (ℕ × C)) × (v.stage ≡ Serving ticket before) × (history machine ≡ before ++ (v.number, arc_value call) ∷ [])
+  HasOneCallMore v ticket call machine =
+      (before : List (ℕ × C)) × (v.stage ≡ Serving ticket before)
+      × (history machine ≡ before ++ (v.number, arc_value call) ∷ [])
 
 -- the seat with the view v holds the machine, which is as it should be when the ticket is served
-abbrev pub HoldsMachine : {M C F : Type 0} → (M → List (ℕ × C)) → (M → F) → View C F → ℕ → Me (Option M) (View C F) → Type 0
-HoldsMachine {M} history frame v ticket me = (machine : M) × IsServing history frame v ticket machine (Some machine) me × Served history frame v ticket machine
+abbrev pub HoldsMachine : {M C F : Type 0} → (M → List (ℕ × C)) → (M → F) → View C F → ℕ → Me (Option M) (View C F) →
+    Type 0
+HoldsMachine {M} history frame v ticket me =
+    (machine : M) × IsServing history frame v ticket machine (Some machine) me × Served history frame v ticket machine
 
 module _ {C F : Type 0} where
   -- the seat handed on, saw the history, and made one call more
@@ -54,17 +61,19 @@ module _ {C F : Type 0} where
 
   -- each clerk that the first seat knows is known to the second
   abbrev pub KnowsAllOf : View C F → View C F → Type 0
-  KnowsAllOf v w = (number : ℕ) (saw : List (ℕ × C)) (made : List C) → KnowsClerk v number saw made → KnowsClerk w number saw made
+  KnowsAllOf v w =
+      (number : ℕ) (saw : List (ℕ × C)) (made : List C) → KnowsClerk v number saw made → KnowsClerk w number saw made
 
 -- the seat knows each of the clerks
 abbrev pub KnowsClerks : {M C F : Type 0} → View C F → List (ClerkOf M C F) → Type 0
 KnowsClerks v clerks = All (λ c. KnowsClerk v (number c) (front c) (calls c)) clerks
 
 module _ {M C R K F : Type 0} where
-  -- the turn of a seat is over: the clerk of the number made the call, of which this was kept; or nothing was kept, and it
-  -- saw no more and made no call
+  -- the turn of a seat is over: the clerk of the number made the call, of which this was kept; or nothing was kept, and
+  -- it saw no more and made no call
   abbrev pub TurnEnded :
-      {T E : Type 0} → (F → List (ℕ × C) → ℕ → C → T → Type 0) → (M → F) → Turn M C R K F → ℕ → Arc C Global → Result T E →
+      {T E : Type 0} → (F → List (ℕ × C) → ℕ → C → T → Type 0) → (M → F) → Turn M C R K F → ℕ → Arc C Global →
+      Result T E →
       (old new : Seat (Option M) (View C F)) → Type 0
   TurnEnded owes frame turn number call made old new = MatchResult made
       (λ kept. IsCall (owes (turn_frame frame turn)) (clerk_count turn) number (arc_value call) kept
@@ -73,15 +82,18 @@ module _ {M C R K F : Type 0} where
 
   -- the turnstile's first seat, of a machine with the frame and so many clerks
   abbrev pub IsFirstSeat : F → ℕ → Turn M C R K F → Seat (Option M) (View C F) → Type 0
-  IsFirstSeat frame clerks turn seat = (seat.table_id ≡ turn.table.shared.table_id) × (seat.me ≡ (first_view frame clerks, []))
+  IsFirstSeat frame clerks turn seat =
+      (seat.table_id ≡ turn.table.shared.table_id) × (seat.me ≡ (first_view frame clerks, []))
 
   -- the clerk with the number made so many numbers, and saw nothing and made no call
   abbrev pub MadeNumbers : (M → F) → Turn M C R K F → ℕ → ℕ → ClerkOf M C F → Type 0
-  MadeNumbers frame turn number made clerk = (clerk.number ≡ number) × (clerk.seat.me.0.count ≡ made) × IsFresh frame turn clerk
+  MadeNumbers frame turn number made clerk =
+      (clerk.number ≡ number) × (clerk.seat.me.0.count ≡ made) × IsFresh frame turn clerk
 
   -- the clerk makes numbers, and this is the next, which is that of a clerk of the turnstile
   abbrev pub IsNextNumber : Turn M C R K F → ClerkOf M C F → ℕ → Type 0
-  IsNextNumber turn first number = (0 < first.seat.me.0.count) × (number ≡ first.seat.me.0.count + 1) × (number ≤ clerk_count turn)
+  IsNextNumber turn first number =
+      (0 < first.seat.me.0.count) × (number ≡ first.seat.me.0.count + 1) × (number ≤ clerk_count turn)
 
   -- the list is empty and has room for so many clerks, which are those of the turnstile
   abbrev pub HasRoomForClerks : Turn M C R K F → Listed (ClerkOf M C F) → ℕ → Type 0

@@ -1,7 +1,8 @@
 -- The rule of the turnstile, which holds between any two steps of any threads.
 -- A clerk who calls draws a ticket, waits until it is served, takes the machine out of its slot, and hands on.
 -- Each clerk and each note has a seat, and the view of a seat is what its owner knows.
-use Rattle.std.specs.Prelude.{◌≡◌, ◌⊎◌, ℕ, ◌<◌, ◌≤◌, ltb, Bool, true, false, List, [], ◌∷◌, length, if◌then◌else◌, Option, Some, All, Contains}
+use Rattle.std.specs.Prelude.{◌≡◌, ◌⊎◌, ℕ, ◌<◌, ◌≤◌, ltb, Bool, true, false, List, [], ◌∷◌, length, if◌then◌else◌}
+use Rattle.std.specs.Prelude.{Option, Some, All, Contains}
 use mathlib.Core.List.{IsPrefix}
 use mathlib.Core.Option.{none, some}
 use lib.ListN.{get_elem?}
@@ -40,7 +41,8 @@ module _ {C : Type 0} where
   abbrev pub FitsStage : Meaning C → ℕ → Stage C → Type 0
   FitsStage m seat Idle = Unit {0}
   FitsStage m seat (Waiting ticket) = (m.serving ≤ ticket) × (ticket < m.ticket) × (m.ticket_seat ticket ≡ seat)
-  FitsStage m seat (Serving ticket log) = (ticket ≡ m.serving) × (ticket < m.ticket) × (m.ticket_seat ticket ≡ seat) × (log ≡ m.log)
+  FitsStage m seat (Serving ticket log) =
+      (ticket ≡ m.serving) × (ticket < m.ticket) × (m.ticket_seat ticket ≡ seat) × (log ≡ m.log)
 
   abbrev pub HasTicket : ℕ → Stage C → Type 0
   HasTicket ticket Idle = ⊥
@@ -74,7 +76,8 @@ pub record IsEnded {C : Type 0} (n : Numbers) (log : List (ℕ × C)) (place : �
   pub calls : e.1 ≡ own_calls e.0 log
 
 -- the seat at the place is that of the clerk of the number, with this front and these own calls
-pub record IsClerk {C : Type 0} (n : Numbers) (log : List (ℕ × C)) (place number : ℕ) (front : List (ℕ × C)) (mine : List C) : Type 0 where
+pub record IsClerk {C : Type 0} (n : Numbers) (log : List (ℕ × C)) (place number : ℕ) (front : List (ℕ × C))
+    (mine : List C) : Type 0 where
   -- its number was made
   pub high : number ≤ n.made
   -- no other seat has this number, and the clerk was not taken in
@@ -85,7 +88,8 @@ pub record IsClerk {C : Type 0} (n : Numbers) (log : List (ℕ × C)) (place num
   -- its front has all of them
   pub seen : own_calls number front ≡ mine
 
--- the view of the seat is right; the machine's frame and the number of clerks are those that the turnstile was made with
+-- the view of the seat is right; the machine's frame and the number of clerks are those that the turnstile was made
+-- with
 pub record Fits {C F : Type 0} (frame : F) (clerks : ℕ) (m : Meaning C) (seat : ℕ) (v : View C F) : Type 0 where
   -- its front begins the log
   pub front : IsPrefix v.front m.log
@@ -115,7 +119,8 @@ module _ {M C F : Type 0} (history : M → List (ℕ × C)) (frame : M → F) (f
     pub frame_is : frame machine ≡ f
 
 -- the machine is out of its slot, and its holder is the seat whose ticket is served
-pub record IsHeld {M C F : Type 0} (serving seat : ℕ) (log : List (ℕ × C)) (homes : List (mathlib.Core.Option.Option (Option M))) (views : List (View C F)) : Type 0 where
+pub record IsHeld {M C F : Type 0} (serving seat : ℕ) (log : List (ℕ × C))
+    (homes : List (mathlib.Core.Option.Option (Option M))) (views : List (View C F)) : Type 0 where
   pub holder : View C F
   pub away : homes ≡ none ∷ []
   pub there : get_elem? views seat ≡ some holder
@@ -140,16 +145,18 @@ pub record NumbersHeld {C F : Type 0} (n : Numbers) (clerks : ℕ) (views : List
   pub some_made : 0 < n.made
   pub few_made : n.made ≤ clerks
   -- each number is that of its seat, or of a clerk that its seat took in
-  pub each : (k : ℕ) → 0 < k → k ≤ n.made → (v : View C F) × (get_elem? views (n.number_seat k) ≡ some v) × HasNumber (n.is_ended k) k v
+  pub each : (k : ℕ) → 0 < k → k ≤ n.made →
+      (v : View C F) × (get_elem? views (n.number_seat k) ≡ some v) × HasNumber (n.is_ended k) k v
 
 -- some seat knows the whole log
 abbrev pub IsKnown : {C F : Type 0} → List (ℕ × C) → List (View C F) → Type 0
 IsKnown {C} {F} log views = (seat : ℕ) × (v : View C F) × (get_elem? views seat ≡ some v) × (known v ≡ log)
 
 -- The rule. No two seats have one ticket or one number, since each ticket and each number has one seat.
--- What the holder of the machine knows of it stands in no view. Once the machine took the holder's call, its history is the log
--- with this call at the end, under the holder's number; it becomes the log in the step that hands on.
-pub record Rule {M C F : Type 0} (history : M → List (ℕ × C)) (frame : M → F) (f : F) (clerks : ℕ) (s : State (Option M) (View C F)) : Type 0 where
+-- What the holder of the machine knows of it stands in no view. Once the machine took the holder's call, its history is
+-- the log with this call at the end, under the holder's number; it becomes the log in the step that hands on.
+pub record Rule {M C F : Type 0} (history : M → List (ℕ × C)) (frame : M → F) (f : F) (clerks : ℕ)
+    (s : State (Option M) (View C F)) : Type 0 where
   -- names for what the words and the seats stand for
   pub meaning : Meaning C
   -- word 0 is the next ticket, and word 1 the ticket that is served
@@ -159,8 +166,10 @@ pub record Rule {M C F : Type 0} (history : M → List (ℕ × C)) (frame : M �
   -- each ticket that was drawn and is not past is that of its seat
   pub tickets : TicketsHeld meaning s.views
   -- the machine is in its slot, with the log for its history; or the seat whose ticket is served is its holder
-  pub machine : IsInSlot history frame f meaning.log s.homes ⊎ IsHeld meaning.serving (meaning.ticket_seat meaning.serving) meaning.log s.homes s.views
-  -- of each seat: its front begins the log, its ticket and its number are its own, and its own calls are those that the log has of it
+  pub machine : IsInSlot history frame f meaning.log s.homes
+      ⊎ IsHeld meaning.serving (meaning.ticket_seat meaning.serving) meaning.log s.homes s.views
+  -- of each seat: its front begins the log, its ticket and its number are its own, and its own calls are those that the
+  -- log has of it
   pub each_seat : (seat : ℕ) (v : View C F) → get_elem? s.views seat ≡ some v → Fits f clerks meaning seat v
   -- each number that was made is that of a clerk's seat, or of a clerk that was taken in
   pub numbers : NumbersHeld meaning.numbers clerks s.views

@@ -47,7 +47,8 @@ step_verdict declared scope q = check_type declared (types_bound q.binders ++ (q
 -- whether a report with the name takes the arguments
 abbrev pub arguments_verdict : Decls → List Report → Name → List Expr → Verdict (Unit {0})
 arguments_verdict decls reports name args =
-    check_report_arguments (declared_of decls.names) name (report_in (map report_of reports) name) (map expression_of args)
+    check_report_arguments (declared_of decls.names) name (report_in (map report_of reports) name)
+    (map expression_of args)
 
 -- the first fault of types in the statements, in a book with reports
 abbrev pub mistyped_in : Book → List Report → List Statement → TypeFault

@@ -21,7 +21,8 @@ AddsNames statement old new = AreDeclared (agents_and_kinds (statement_of statem
 -- the template of the statement, if it is one, stands behind those that were gathered
 abbrev pub AddsTemplate : Statement → (old new : Checked) → Type 0
 AddsTemplate statement old new =
-    map template_of new.book.templates.items ≡ map template_of old.book.templates.items ++ template_in_statement (statement_of statement)
+    map template_of new.book.templates.items
+    ≡ map template_of old.book.templates.items ++ template_in_statement (statement_of statement)
 
 -- the report of the statement, if it is one, stands behind those that were gathered
 abbrev pub AddsReport : Statement → (old new : Checked) → Type 0

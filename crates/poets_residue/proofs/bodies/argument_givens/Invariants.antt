@@ -4,7 +4,7 @@ use Rattle.poets_expr.specs.Env.{declared_of}
 use Rattle.poets_expr.specs.Expression.{expression_of}
 use Rattle.poets_syntax.specs.Residual.{argument_givens}
 use Rattle.poets_norm.specs.Questions.{operated}
-use Rattle.poets_residue.proofs.bodies.arguments.Given as goal
+use Rattle.poets_residue.proofs.bodies.argument_givens.Given as goal
 
 -- the pairs of the rest stand before those of the arguments so far
 abbrev pub invariant-loop-param : goal.invariant-loop-param

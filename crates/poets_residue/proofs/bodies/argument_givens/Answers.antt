@@ -2,7 +2,7 @@ use Rattle.std.proofs.Common.{◌∙◌, ◌++◌, length, reverse, sym, ap}
 use Rattle.std.proofs.lemmas.Slice.Zip.{zip_end}
 use Rattle.poets_expr.specs.Env.{declared_of}
 use Rattle.poets_residue.proofs.Arguments.{argument_givens_end}
-use Rattle.poets_residue.proofs.bodies.arguments.Goals as goal
+use Rattle.poets_residue.proofs.bodies.argument_givens.Goals as goal
 
 pub returns-clause-pairs : goal.returns-clause-pairs
 returns-clause-pairs g c =
