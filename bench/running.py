@@ -15,7 +15,19 @@ HERE = pathlib.Path(__file__).resolve().parent
 MEMORY = b"poets: out of memory\n"
 UNREAD = b"poets: standard input cannot be read\n"
 UNWRITTEN = b"poets: standard output cannot be written\n"
-USAGE = b"usage: poets check | run | replay | demo N | explain NAME\n"
+VERSION = subprocess.run(["rt", "version"], stdout=subprocess.PIPE, check=True).stdout
+USAGE = b"""\
+usage: poets check | run | replay | demo N | explain NAME
+
+A text is read from standard input, as in: poets run < session.poets
+  check         counts the templates and reports of a book, or names the first fault of the text
+  run           makes the commands of a session's clerks, all at once, and prints their history
+  replay        makes the commands of a journal, in its order, and prints their history
+  explain NAME  makes them too, and tells what the contract NAME takes next and how its events perform it
+  demo N        prints one line about N sales by each of eight clerks, N from 1 to 1000, and reads nothing
+
+docs/LANGUAGE.md has the language, docs/REPLIES.md the replies, docs/COOKBOOK.md whole contracts.
+poets, proved by """ + VERSION
 TOLD = {0: b"", 2: USAGE, 3: MEMORY, 4: UNREAD, 5: UNWRITTEN, 6: b""}
 # Where a text is refused, with status 1; nothing where memory for that wants.
 PLACE = re.compile(rb"(line [1-9]\d*, column [1-9]\d*\n[ -~]*\n *\^\n)?")

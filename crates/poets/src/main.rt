@@ -2,9 +2,12 @@
 //! input; `poets demo N` reads nothing. All write to standard output.
 #![tactic(auto)]
 
+mod help;
+
 ghost use Rattle.std.specs.Prelude.{◌≡◌};
 ghost use Rattle.std.specs.Process.{exit_status};
 
+use help::HELP;
 use poets_clerks::NoGate;
 use poets_io::{StdSink, StdSource};
 use poets_mark::{KeptSource, mark_of};
@@ -58,7 +61,7 @@ fn end(rt: &HostRuntime, status: u8) -> ExitCode
     ensures { exit_status result ≡ status }
 {
     let _ = match status {
-        USAGE => eprintln!(rt; "usage: poets check | run | replay | demo N | explain NAME"),
+        USAGE => eprint!(rt; "{HELP}"),
         NO_MEMORY => eprintln!(rt; "poets: out of memory"),
         READ_FAULT => eprintln!(rt; "poets: standard input cannot be read"),
         WRITE_FAULT => eprintln!(rt; "poets: standard output cannot be written"),

@@ -3,7 +3,7 @@ use Rattle.std.proofs.Common.{ℕ, zero, suc, ◌+◌, ◌-◌, ◌≤◌, List,
 use Rattle.poets_lex.specs.declared.token.Sign.TheVariants as S
 use Rattle.poets_lex.specs.declared.token.Tok.{Tok}
 use Rattle.poets_lex.specs.declared.token.Tok.TheVariants as K
-use Rattle.poets_grammar.specs.TooDeep.{open_behind, operators, most_open, most_operators, IsTooDeep}
+use Rattle.poets_grammar.specs.TooDeep.{open_behind, operators, most_open, most_operators, IsTooDeep, IsDeeper}
 
 abbrev opens : List Tok → ℕ
 opens [] = 0
@@ -19,5 +19,5 @@ open_of k (suc n) (t ∷ ts) = omega (arith, open_of k n ts)
 
 -- few brackets and few operators are not too deep
 pub shallow : (ts : List Tok) → opens ts ≤ most_open → operators ts ≤ most_operators → IsTooDeep ts → ⊥
-shallow ts o l (IsTooDeep.Nested n deep) = omega (arith, open_of 0 n ts)
-shallow ts o l (IsTooDeep.Long long) = omega arith
+shallow ts o l (IsDeeper.Nested n deep) = omega (arith, open_of 0 n ts)
+shallow ts o l (IsDeeper.Long long) = omega arith

@@ -6,7 +6,7 @@ use Rattle.poets_lex.specs.declared.token.Sign.{Sign}
 use Rattle.poets_lex.specs.declared.token.Sign.TheVariants as S
 use Rattle.poets_lex.specs.declared.token.Tok.{Tok}
 use Rattle.poets_lex.specs.declared.token.Tok.TheVariants as K
-use Rattle.poets_grammar.specs.declared.limits.TheConstants.{MOST_OPEN, MOST_OPERATORS}
+use Rattle.poets_grammar.specs.declared.limits.TheConstants.{MOST_OPEN, MOST_OPEN_STORED, MOST_OPERATORS}
 
 -- ---- brackets
 
@@ -60,10 +60,21 @@ operators tokens = count_by is_operator tokens
 abbrev pub most_open : ℕ
 most_open = MOST_OPEN
 
+abbrev pub most_open_stored : ℕ
+most_open_stored = MOST_OPEN_STORED
+
 abbrev pub most_operators : ℕ
 most_operators = MOST_OPERATORS
 
--- more than 200 brackets are open after some of the first tokens, or there are more than 1,000 operators
-pub data IsTooDeep (tokens : List Tok) : Type 0 where
-  Nested : (count : ℕ) → most_open < open_at_end (take count tokens) → IsTooDeep tokens
-  Long : most_operators < operators tokens → IsTooDeep tokens
+-- more brackets than the most are open after some of the first tokens, or there are more than 1,000 operators
+pub data IsDeeper (most : ℕ) (tokens : List Tok) : Type 0 where
+  Nested : (count : ℕ) → most < open_at_end (take count tokens) → IsDeeper most tokens
+  Long : most_operators < operators tokens → IsDeeper most tokens
+
+-- too deep for a statement of a session, in which 200 brackets may be open
+abbrev pub IsTooDeep : List Tok → Type 0
+IsTooDeep tokens = IsDeeper most_open tokens
+
+-- too deep for a statement that was printed and kept, in which 201 may be open: `- -5` is printed as `-(-5)`
+abbrev pub IsTooDeepStored : List Tok → Type 0
+IsTooDeepStored tokens = IsDeeper most_open_stored tokens

@@ -5,4 +5,4 @@ mod examples;
 pub mod laws;
 mod limits;
 
-pub use limits::{MOST_OPEN, MOST_OPERATORS};
+pub use limits::{MOST_OPEN, MOST_OPEN_STORED, MOST_OPERATORS};

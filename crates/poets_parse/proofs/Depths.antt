@@ -8,7 +8,7 @@ use Rattle.poets_lex.specs.declared.token.Tok.{Tok}
 use Rattle.poets_lex.specs.declared.token.Tok.TheVariants as K
 use Rattle.poets_lex.specs.declared.token.Token.{Token}
 use Rattle.poets_grammar.specs.Tokens.{toks}
-use Rattle.poets_grammar.specs.TooDeep.{open_behind, open_at_end, most_open, most_operators, operators, IsTooDeep}
+use Rattle.poets_grammar.specs.TooDeep.{open_behind, open_at_end, most_operators, operators, IsDeeper}
 
 -- of the tokens before a place: how many brackets are open after them, and the most that are open anywhere
 pub record Measured (ts : List Tok) (place open_here deepest : ℕ) : Type 0 where
@@ -59,9 +59,9 @@ all_measured tokens place here deepest l m count =
       | inr b ↦ m.most count b
     ]
 
-pub deep : (ts : List Tok) (deepest : ℕ) → (count : ℕ) × (open_at_end (take count ts) ≡ deepest) → most_open < deepest → IsTooDeep ts
-deep ts deepest r l = IsTooDeep.Nested r.0 (omega (arith, r.1))
+pub deep : (most : ℕ) (ts : List Tok) (deepest : ℕ) → (count : ℕ) × (open_at_end (take count ts) ≡ deepest) → most < deepest → IsDeeper most ts
+deep most ts deepest r l = IsDeeper.Nested r.0 (omega (arith, r.1))
 
-pub only_deep : (ts : List Tok) (deepest : ℕ) → ((count : ℕ) → open_at_end (take count ts) ≤ deepest) → deepest ≤ most_open → IsTooDeep ts → most_operators < operators ts
-only_deep ts deepest h l (IsTooDeep.Nested count n) = absurd (omega (arith, h count))
-only_deep ts deepest h l (IsTooDeep.Long n) = n
+pub only_deep : (most : ℕ) (ts : List Tok) (deepest : ℕ) → ((count : ℕ) → open_at_end (take count ts) ≤ deepest) → deepest ≤ most → IsDeeper most ts → most_operators < operators ts
+only_deep most ts deepest h l (IsDeeper.Nested count n) = absurd (omega (arith, h count))
+only_deep most ts deepest h l (IsDeeper.Long n) = n

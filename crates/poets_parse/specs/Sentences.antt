@@ -1,13 +1,21 @@
 -- Tokens that are a sentence: a statement which is not too deep.
-use Rattle.std.specs.Prelude.{List}
+use Rattle.std.specs.Prelude.{ℕ, List}
 use Rattle.poets_lex.specs.declared.token.Tok.{Tok}
 use Rattle.poets_call.specs.Said.{Statement}
 use Rattle.poets_grammar.specs.Statements.{IsStatement}
-use Rattle.poets_grammar.specs.TooDeep.{IsTooDeep}
+use Rattle.poets_grammar.specs.TooDeep.{IsDeeper, IsTooDeep, most_open, most_open_stored}
+
+-- the tokens are no statement, and not because more brackets than the most are open
+abbrev pub AreNoSentenceFor : ℕ → List Tok → Type 0
+AreNoSentenceFor most tokens = ¬ (IsDeeper most tokens) × ((s : Statement) → ¬ (IsStatement tokens s))
 
 -- the tokens are no statement, and not because they are too deep
 abbrev pub AreNoSentence : List Tok → Type 0
-AreNoSentence tokens = ¬ (IsTooDeep tokens) × ((s : Statement) → ¬ (IsStatement tokens s))
+AreNoSentence tokens = AreNoSentenceFor most_open tokens
+
+-- the tokens are no statement, and not because they are too deep for one that was printed and kept
+abbrev pub AreNoSentenceStored : List Tok → Type 0
+AreNoSentenceStored tokens = AreNoSentenceFor most_open_stored tokens
 
 -- the fact holds where the tokens are a statement that is not too deep
 abbrev pub IfSentence : List Tok → Type 0 → Type 0

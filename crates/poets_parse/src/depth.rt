@@ -1,7 +1,7 @@
 //! How deep a statement is nested.
 ghost use Rattle.std.specs.Prelude.{◌≡◌, ℕ, ◌≤◌, ◌<◌, ◌+◌, ◌^◌, ◌↔◌, IsTrue, take};
 ghost use Rattle.poets_grammar.specs.Tokens.{toks};
-ghost use Rattle.poets_grammar.specs.TooDeep.{IsTooDeep, open_at_end};
+ghost use Rattle.poets_grammar.specs.TooDeep.{IsDeeper, IsTooDeep, open_at_end};
 ghost use Rattle.poets_grammar.specs.TooDeep as depth;
 
 use poets_grammar::{MOST_OPEN, MOST_OPERATORS};
@@ -71,10 +71,17 @@ fn deepest(tokens: &[Token]) -> usize
     deepest
 }
 
-/// Whether more brackets are open at one place, or there are more operators, than a statement has.
+// Whether more brackets than the most are open at one place, or there are more operators than a statement has.
 #[tactic(auto, using(crate::proofs::Depths::only_deep))]
+pub(crate) fn is_deeper(most: usize, tokens: &[Token]) -> bool
+    ensures { IsTrue result ↔ IsDeeper most (toks tokens.now) }
+{
+    deepest(tokens) > most || operators(tokens) > MOST_OPERATORS
+}
+
+/// Whether more brackets are open at one place, or there are more operators, than a statement has.
 pub fn is_too_deep(tokens: &[Token]) -> bool
     ensures { IsTrue result ↔ IsTooDeep (toks tokens.now) }
 {
-    deepest(tokens) > MOST_OPEN || operators(tokens) > MOST_OPERATORS
+    is_deeper(MOST_OPEN, tokens)
 }

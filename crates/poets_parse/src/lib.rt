@@ -17,4 +17,4 @@ mod step;
 
 pub use depth::is_too_deep;
 pub use fault::SyntaxFault;
-pub use statements::{begun, statement};
+pub use statements::{begun, statement, statement_stored};

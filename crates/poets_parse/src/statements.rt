@@ -4,17 +4,18 @@ ghost use Rattle.poets_call.specs.Statements.{statement_of};
 ghost use Rattle.poets_grammar.specs.Tokens.{toks, AreNatural};
 ghost use Rattle.poets_grammar.specs.StatementReading as reading;
 ghost use Rattle.poets_grammar.specs.Statements.{IsStatement};
-ghost use Rattle.poets_grammar.specs.TooDeep.{IsTooDeep};
-ghost use Rattle.poets_parse.specs.Sentences.{AreNoSentence, IfSentence};
+ghost use Rattle.poets_grammar.specs.TooDeep.{IsDeeper, IsTooDeep, IsTooDeepStored};
+ghost use Rattle.poets_parse.specs.Sentences.{AreNoSentence, AreNoSentenceFor, AreNoSentenceStored, IfSentence};
 ghost use Rattle.poets_parse.specs.code.Gives.{Gives};
 
 use crate::SyntaxFault;
 use crate::command::{command, command_word, whole_names};
 use crate::declaration::{report, template};
-use crate::depth::is_too_deep;
+use crate::depth::{is_deeper, is_too_deep};
 use crate::fault::ReadFault;
 use crate::step::{first, natural, sign, whole};
 use poets_call::Statement;
+use poets_grammar::{MOST_OPEN, MOST_OPEN_STORED};
 use poets_lex::{Sign, Tok, Token, Word};
 use poets_value::Memory;
 use std::alloc::Global;
@@ -57,6 +58,20 @@ fn read_statement(alloc: Global, tokens: &[Token]) -> Result<Statement, ReadFaul
     }
 }
 
+// The statement that the tokens are, where no more brackets than the most are open at one place.
+fn statement_within(alloc: Global, most: usize, tokens: &[Token]) -> Result<Statement, SyntaxFault>
+    requires natural { AreNatural tokens.now }
+    ensures found { IfOk result (λ s. IsStatement (toks tokens.now) (statement_of s)) }
+    ensures shallow { IfOk result (λ _. ¬ (IsDeeper most (toks tokens.now))) }
+    ensures none { result ≡ Err SyntaxFault.NoSentence → AreNoSentenceFor most (toks tokens.now) }
+    ensures deep { result ≡ Err SyntaxFault.TooDeep → IsDeeper most (toks tokens.now) }
+{
+    if is_deeper(most, tokens) {
+        return Err(SyntaxFault::TooDeep);
+    }
+    Ok(read_statement(alloc, tokens)?)
+}
+
 /// The statement that the tokens are, which stand before a `;;`.
 ///
 /// The time is linear in the tokens. How deep the readers call themselves is bounded by the limits of the language,
@@ -69,10 +84,21 @@ pub fn statement(alloc: Global, tokens: &[Token]) -> Result<Statement, SyntaxFau
     ensures none { result ≡ Err SyntaxFault.NoSentence → AreNoSentence (toks tokens.now) }
     ensures deep { result ≡ Err SyntaxFault.TooDeep → IsTooDeep (toks tokens.now) }
 {
-    if is_too_deep(tokens) {
-        return Err(SyntaxFault::TooDeep);
-    }
-    Ok(read_statement(alloc, tokens)?)
+    statement_within(alloc, MOST_OPEN, tokens)
+}
+
+/// The statement that the tokens of a printed statement are: `statement` with one bracket more that may be open at one
+/// place.
+///
+/// Printing a tree opens one bracket more than its source at one place alone: `- -5` is printed as `-(-5)`.
+pub fn statement_stored(alloc: Global, tokens: &[Token]) -> Result<Statement, SyntaxFault>
+    requires natural { AreNatural tokens.now }
+    ensures found { IfOk result (λ s. IsStatement (toks tokens.now) (statement_of s)) }
+    ensures shallow { IfOk result (λ _. ¬ (IsTooDeepStored (toks tokens.now))) }
+    ensures none { result ≡ Err SyntaxFault.NoSentence → AreNoSentenceStored (toks tokens.now) }
+    ensures deep { result ≡ Err SyntaxFault.TooDeep → IsTooDeepStored (toks tokens.now) }
+{
+    statement_within(alloc, MOST_OPEN_STORED, tokens)
 }
 
 /// How many of the tokens, which stand before a `;;`, begin a sentence: all, or those ahead of the first one that

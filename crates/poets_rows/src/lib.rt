@@ -6,8 +6,6 @@ mod books;
 #[cfg(test)]
 mod ends;
 #[cfg(test)]
-mod explanations;
-#[cfg(test)]
 mod gate;
 #[cfg(test)]
 mod journals;

@@ -14,8 +14,6 @@ mod norm;
 #[cfg(test)]
 mod norm_book;
 #[cfg(test)]
-mod opening;
-#[cfg(test)]
 mod residue;
 #[cfg(test)]
 mod sentences;
@@ -23,5 +21,3 @@ mod sentences;
 mod syntax;
 #[cfg(test)]
 mod types;
-#[cfg(test)]
-mod ways;

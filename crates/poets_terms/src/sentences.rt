@@ -9,7 +9,7 @@ use poets_value::{List, Memory, Name, push};
 use std::alloc::Global;
 
 // The names that are numbered first, each by its place.
-const ORDER: &[u8] = b"ann bob Oil USD f n a b r t g count x y h pay any kept owed";
+const ORDER: &[u8] = b"ann bob Oil USD f n a b r t g count x y h";
 
 pub(crate) const ANN: Name = Name { id: 0 };
 

@@ -4,14 +4,10 @@
 #[cfg(test)]
 mod lex;
 #[cfg(test)]
-mod mark;
-#[cfg(test)]
 mod names;
 #[cfg(test)]
 mod print;
 #[cfg(test)]
 mod session;
-#[cfg(test)]
-mod streams;
 #[cfg(test)]
 mod types;

@@ -17,8 +17,8 @@ use Rattle.poets_syntax.specs.Residual.{is_true}
 use Rattle.poets_way.specs.Moves.{Move, move_of}
 use Rattle.poets_way.specs.Moves as M
 use Rattle.poets_way.specs.Ways.{first_of, second_of}
-use Rattle.poets_way.specs.declared.verifying.Goal.{Goal as CodeGoal}
-use Rattle.poets_way.specs.declared.verifying.Open.{Open}
+use Rattle.poets_way.specs.declared.goals.Goal.{Goal as CodeGoal}
+use Rattle.poets_way.specs.declared.goals.Open.{Open}
 use Rattle.poets_way.specs.declared.way.Move.{Move as WayMove}
 use Rattle.poets_way.proofs.Sharing.{both_sides}
 use Rattle.poets_way.proofs.Sided.{take_all}

@@ -1,6 +1,7 @@
 //! In which way a trace performs a contract, and how that is checked.
 #![tactic(auto)]
 
+mod goals;
 pub mod laws;
 mod node;
 mod parts;

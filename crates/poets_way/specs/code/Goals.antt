@@ -20,8 +20,8 @@ use Rattle.poets_way.specs.Moves.{Move, moves_of}
 use Rattle.poets_way.specs.Moves as M
 use Rattle.poets_way.specs.Way.{Way}
 use Rattle.poets_way.specs.Ways.{Ways, first_of, second_of}
-use Rattle.poets_way.specs.declared.verifying.Goal.{Goal as CodeGoal}
-use Rattle.poets_way.specs.declared.verifying.Open.{Open}
+use Rattle.poets_way.specs.declared.goals.Goal.{Goal as CodeGoal}
+use Rattle.poets_way.specs.declared.goals.Open.{Open}
 
 -- names and their values, the newest last
 abbrev pub Pairs : Type 0

@@ -3,7 +3,7 @@ use Rattle.std.proofs.lemmas.List.{drop_all}
 use Rattle.poets_syntax.specs.Book.{book_of}
 use Rattle.poets_syntax.specs.Contract.{contract_of}
 use Rattle.poets_way.specs.Ways.{Ways}
-use Rattle.poets_way.specs.declared.verifying.Open.{Open}
+use Rattle.poets_way.specs.declared.goals.Open.{Open}
 use Rattle.poets_way.specs.code.Goals.{Goal, goal_of, goals_in, goals_of, IsLeft}
 use Rattle.poets_way.specs.Moves.{move_of}
 use Rattle.poets_way.proofs.Following.{fitting, unfitting, ended, begun}
@@ -47,7 +47,7 @@ returns-then-not-branch c =
     subst (λ ms. IsLeft book ms (goal_of g s ∷ gs) whole) (moves_more items i m c.loop-step-test.true c.step-item.is)
     (subst (λ hs. IsLeft book (map move_of (drop i items)) hs whole) (popped c.loop-step.rest rest g c.in-Some.ensures.some refl) c.loop-step.invariant.left) in (
       (λ t. absurd cc),
-      (λ x. absurd (unfitting book (move_of m) moves (goal_of g s) gs whole left c.in_ok-follow.field-0 (goals_in c.follow.new.self) c.in_ok-follow.ensures.0 c.if-not-branch.true x)),
+      (λ x. absurd (unfitting book (move_of m) moves (goal_of g s) gs whole left c.in_ok-follow.field-0 (goals_in c.follow.new.rest) c.in_ok-follow.ensures.0 c.if-not-branch.true x)),
     )
 
 pub loop-step-preserved : goal.loop-step-preserved
@@ -67,7 +67,7 @@ loop-step-preserved c =
     (subst (λ hs. IsLeft book (map move_of (drop i items)) hs whole) (popped c.loop-step.rest rest g c.in-Some.ensures.some refl) c.loop-step.invariant.left) in
     record {
       shared = c.in_ok-follow.ensures.1 c.if-not-branch.false;
-      left = fitting book (move_of m) moves (goal_of g s) gs whole left c.in_ok-follow.field-0 (goals_in c.follow.new.self) c.in_ok-follow.ensures.0 c.if-not-branch.false;
+      left = fitting book (move_of m) moves (goal_of g s) gs whole left c.in_ok-follow.field-0 (goals_in c.follow.new.rest) c.in_ok-follow.ensures.0 c.if-not-branch.false;
     }
 
 pub returns : goal.returns

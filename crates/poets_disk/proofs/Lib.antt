@@ -1,0 +1,4 @@
+pub mod Moments
+pub mod Recorded
+pub mod Rooms
+pub mod Picking

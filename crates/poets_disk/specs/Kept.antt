@@ -1,0 +1,23 @@
+-- How a disk in memory keeps its calls: a mark for each, and all bytes that were written, piece after piece.
+use Rattle.std.specs.Prelude.{ℕ, List, [], ◌∷◌, take, drop}
+use Rattle.poets_disk.specs.Memory.{DiskCall, wrote, failed_write, synced, failed_sync, MemoryFile}
+use Rattle.poets_disk.specs.declared.memory.Mark.{Mark}
+use Rattle.poets_disk.specs.declared.memory.Mark.TheVariants.{Wrote, FailedWrite, Synced, FailedSync}
+use Rattle.poets_disk.specs.declared.memory.MemoryDisk.TheInside.{Inside}
+
+-- the calls that the marks stand for, whose pieces are these bytes
+abbrev pub calls_of : List Mark → List ℕ → List DiskCall
+calls_of [] bytes = []
+calls_of (Wrote at count ∷ marks) bytes = wrote at (take count bytes) ∷ calls_of marks (drop count bytes)
+calls_of (FailedWrite at count ∷ marks) bytes = failed_write at count ∷ calls_of marks bytes
+calls_of (Synced ∷ marks) bytes = synced ∷ calls_of marks bytes
+calls_of (FailedSync ∷ marks) bytes = failed_sync ∷ calls_of marks bytes
+
+-- what contracts see of a disk in memory
+abbrev pub file_of : Inside → MemoryFile
+file_of m = record {
+  first = m.first.items;
+  calls = calls_of m.marks.items m.written.items;
+  fails = m.fails.items;
+  faults = m.faults;
+}

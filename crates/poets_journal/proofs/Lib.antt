@@ -1,0 +1,6 @@
+mod Held
+mod Crash
+mod Starting
+mod Keeps
+mod Parts
+mod Opening

@@ -1,0 +1,17 @@
+pub mod ShortPieces
+pub mod ShortLists
+pub mod ShortExpressions
+pub mod ShortContracts
+pub mod ShortCommands
+pub mod Measures
+pub mod Depths
+pub mod ContractDepths
+pub mod Operators
+pub mod Written
+pub mod WrittenContracts
+pub mod WrittenCommands
+pub mod WrittenTexts
+pub mod WrittenContractTexts
+pub mod WrittenCommandTexts
+pub mod Stored
+pub mod Numbered

@@ -1,0 +1,15 @@
+-- The length of printed texts.
+use Rattle.std.specs.Prelude.{◌*◌, ◌≤◌, List, length}
+use Rattle.poets_lex.specs.declared.token.Tok.{Tok}
+use Rattle.poets_lex.specs.Table.{Table, IsTable}
+use Rattle.poets_grammar.specs.Statements.{IsCommand}
+use Rattle.poets_call.specs.Plain.{Command}
+use Rattle.poets_call.specs.Taken.{IsWholeCommand}
+use Rattle.poets_print.specs.Lines.{command_text}
+
+-- a command prints as at most 80 bytes for each token that it was read from
+abbrev pub CommandsAreShort : Type 0
+CommandsAreShort =
+    (names : Table) (ts : List Tok) (command : Command)
+    → IsTable names → IsWholeCommand command → IsCommand ts command
+    → length (command_text names command) ≤ 80 * length ts

@@ -1,0 +1,124 @@
+//! Texts are put into a journal whose disk fails at each of its calls in turn.
+
+use crate::making::{add, bytes, disk};
+use poets_disk::MemoryDisk;
+use poets_journal::{Journal, StartFault};
+use poets_value::{List, Memory};
+use std::alloc::Global;
+use std::test::Fail;
+
+// The texts of a small history.
+const TEXTS: [&str; 4] = [
+    "1: register a = Success",
+    "1: show a",
+    "1: end a",
+    "1: end a",
+];
+
+// What came of a run: the disk, and how many texts were acknowledged.
+#[derive(Drop)]
+struct Stopped {
+    disk: MemoryDisk,
+    stored: usize,
+}
+
+// Puts the texts into an empty journal whose disk fails at the calls named, until one fails.
+fn put_all(alloc: Global, fails: &[u64]) -> Result<Stopped, Memory> {
+    let mut journal = match Journal::start(alloc, disk(alloc, List::new(alloc), fails)?) {
+        Ok(started) => started.journal,
+        Err(StartFault::Disk { disk }) => return Ok(Stopped { disk, stored: 0 }),
+        Err(_) => return Err(Memory),
+    };
+    let mut stored = 0;
+    for (place, text) in TEXTS.iter().enumerate() {
+        if !add(alloc, &mut journal, text)? {
+            break;
+        }
+        stored = place + 1;
+    }
+    Ok(Stopped {
+        disk: journal.end(),
+        stored,
+    })
+}
+
+// The texts that a journal holds on a disk with these bytes.
+fn held(alloc: Global, image: List<u8>) -> Result<List<List<u8>>, Memory> {
+    match Journal::start(alloc, disk(alloc, image, &[])?) {
+        Ok(started) => Ok(started.texts),
+        Err(_) => Err(Memory),
+    }
+}
+
+// The texts are the first ones.
+fn are_first(texts: &List<List<u8>>) -> bool {
+    for (text, wanted) in texts.as_slice().iter().zip(TEXTS) {
+        if text.as_slice() != wanted.as_bytes() {
+            return false;
+        }
+    }
+    texts.len() <= TEXTS.len()
+}
+
+#[test]
+fn texts_are_kept_and_read_again(rt: HostRuntime) -> Result<(), Fail> {
+    let alloc = rt.alloc();
+    let run = put_all(alloc, &[])?;
+    assert_eq!(rt; run.stored, 4);
+    let image = run.disk.left(alloc, 0)?;
+    assert!(rt; image.as_slice().starts_with(&[1, 0, 0, 0, 0x17]));
+    let texts = held(alloc, image)?;
+    assert_eq!(rt; texts.len(), 4);
+    assert!(rt; are_first(&texts));
+    Ok(())
+}
+
+// Two calls start an empty journal after the first sync, and four put a text. Each image has the acknowledged texts, and
+// at most one more.
+#[test]
+fn a_crash_at_each_call_leaves_the_acknowledged_texts(rt: HostRuntime) -> Result<(), Fail> {
+    let alloc = rt.alloc();
+    for call in 1..20 {
+        let run = put_all(alloc, &[call])?;
+        assert_eq!(rt; run.stored as u64, call.saturating_sub(4) / 4);
+        for pick in [0, 1, 257] {
+            let texts = held(alloc, run.disk.left(alloc, pick)?)?;
+            assert!(rt; run.stored <= texts.len() && texts.len() - run.stored <= 1);
+            assert!(rt; are_first(&texts));
+        }
+    }
+    Ok(())
+}
+
+// The second gate byte is not written, or it is and is not synced.
+#[test]
+fn the_second_gate_fails(rt: HostRuntime) -> Result<(), Fail> {
+    let alloc = rt.alloc();
+    let run = put_all(alloc, &[10])?;
+    assert_eq!(rt; run.stored, 1);
+    assert_eq!(rt; held(alloc, run.disk.left(alloc, 0)?)?.len(), 1);
+    assert_eq!(rt; held(alloc, run.disk.left(alloc, 257)?)?.len(), 1);
+    let next = put_all(alloc, &[11])?;
+    assert_eq!(rt; next.stored, 1);
+    assert_eq!(rt; held(alloc, next.disk.left(alloc, 0)?)?.len(), 2);
+    assert_eq!(rt; held(alloc, next.disk.left(alloc, 1)?)?.len(), 1);
+    assert_eq!(rt; held(alloc, next.disk.left(alloc, 257)?)?.len(), 2);
+    Ok(())
+}
+
+// A start that fails leaves at most one byte, and the next one takes it for an empty journal.
+#[test]
+fn a_start_is_stopped(rt: HostRuntime) -> Result<(), Fail> {
+    let alloc = rt.alloc();
+    for call in 1..4 {
+        let file = bytes(alloc, &[1])?;
+        let Err(StartFault::Disk { disk }) = Journal::start(alloc, disk(alloc, file, &[call])?)
+        else {
+            return Ok(assert!(rt; false));
+        };
+        for pick in [0, 1, 257] {
+            assert_eq!(rt; held(alloc, disk.left(alloc, pick)?)?.len(), 0);
+        }
+    }
+    Ok(())
+}

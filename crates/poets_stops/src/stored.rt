@@ -1,0 +1,79 @@
+//! An adder whose amounts are stored.
+ghost use Rattle.std.specs.Prelude.{◌≡◌, IfOk};
+
+use crate::making::disk;
+use poets_disk::{Disk, FileDisk};
+use poets_journal::{Journal, Journaled, Put};
+use poets_machine::{Adder, Machine};
+use poets_value::{List, Memory, push};
+use std::alloc::Global;
+use std::sync::Arc;
+use std::test::Fail;
+
+// Writes an amount as one byte.
+#[derive(Clone, Copy)]
+struct OneByte;
+
+impl Put<u64> for OneByte {
+    type Table = ();
+
+    ghost use Rattle.std.specs.Prelude.{◌<◌, ◌%◌, [], ◌∷◌};
+
+    ghost table = { λ _. tt };
+
+    ghost has_text = { λ table amount. amount < 256 };
+
+    ghost text = { λ table clerk amount. amount % 256 ∷ [] };
+
+    fn put(&self, alloc: Global, clerk: u32, call: &u64) -> Result<List<u8>, Memory> {
+        let mut list = List::new(alloc);
+        push(&mut list, (*call % 256) as u8)?;
+        Ok(list)
+    }
+}
+
+// An adder of amounts up to 9, with an empty journal on the disk.
+fn adder<D: Disk + Drop>(alloc: Global, disk: D) -> Result<Journaled<Adder, D, OneByte>, Memory>
+    ensures { IfOk result (λ j. ⟦<Adder as Machine>⟧.frame j.machine ≡ 9) }
+{
+    let Ok(started) = Journal::start(alloc, disk) else {
+        return Err(Memory);
+    };
+    if !started.texts.is_empty() {
+        return Err(Memory);
+    }
+    Ok(Journaled::new(Adder::new(alloc, 9), started.journal, OneByte))
+}
+
+#[test]
+fn amounts_are_stored_until_the_disk_fails(rt: HostRuntime) -> Result<(), Fail> {
+    let alloc = rt.alloc();
+    let mut machine = adder(alloc, disk(alloc, List::new(alloc), &[12])?)?;
+    let five = Arc::new(alloc, 5)?;
+    for _ in 0..4 {
+        let _ = machine.turn(&rt, alloc, 1, &five)?;
+    }
+    assert_eq!(rt; machine.stored(), 2);
+    let (adder, disk) = machine.end();
+    assert_eq!(rt; adder.sum(), 20);
+    assert_eq!(rt;
+        disk.left(alloc, 0)?.as_slice(),
+        [1, 0, 0, 0, 1, 5, 1, 0, 0, 0, 1, 5, 0].as_slice()
+    );
+    Ok(())
+}
+
+// Hands a value on to where another thread may have it.
+fn sent<T: Send>(value: T) -> T {
+    value
+}
+
+// A machine with a journal, and a disk over a file, may go to another thread.
+#[test]
+fn a_machine_may_be_sent(rt: HostRuntime) -> Result<(), Fail> {
+    let alloc = rt.alloc();
+    let machine = sent(adder(alloc, disk(alloc, List::new(alloc), &[])?)?);
+    assert_eq!(rt; machine.stored(), 0);
+    let _ = sent(FileDisk::new(&rt));
+    Ok(())
+}

@@ -1,0 +1,9 @@
+//! Worked sessions of `explain`, run through the whole program.
+#![tactic(auto)]
+
+#[cfg(test)]
+mod books;
+#[cfg(test)]
+mod explanations;
+#[cfg(test)]
+mod program;
