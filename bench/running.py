@@ -15,7 +15,8 @@ HERE = pathlib.Path(__file__).resolve().parent
 MEMORY = b"poets: out of memory\n"
 UNREAD = b"poets: standard input cannot be read\n"
 UNWRITTEN = b"poets: standard output cannot be written\n"
-VERSION = subprocess.run(["rt", "version"], stdout=subprocess.PIPE, check=True).stdout
+# The toolchain's logic, by which alone a proof holds: kits that differ in name alone have one.
+LOGIC = subprocess.run(["rt", "version"], stdout=subprocess.PIPE, check=True).stdout.split()[-1]
 USAGE = b"""\
 usage: poets check | run | replay | demo N | explain NAME
 
@@ -27,7 +28,7 @@ A text is read from standard input, as in: poets run < session.poets
   demo N        prints one line about N sales by each of eight clerks, N from 1 to 1000, and reads nothing
 
 docs/LANGUAGE.md has the language, docs/REPLIES.md the replies, docs/COOKBOOK.md whole contracts.
-poets, proved by """ + VERSION
+poets, proved by the Rattle toolchain with the logic """ + LOGIC + b"\n"
 TOLD = {0: b"", 2: USAGE, 3: MEMORY, 4: UNREAD, 5: UNWRITTEN, 6: b""}
 # Where a text is refused, with status 1; nothing where memory for that wants.
 PLACE = re.compile(rb"(line [1-9]\d*, column [1-9]\d*\n[ -~]*\n *\^\n)?")

@@ -11,5 +11,5 @@ A text is read from standard input, as in: poets run < session.poets
   demo N        prints one line about N sales by each of eight clerks, N from 1 to 1000, and reads nothing
 
 docs/LANGUAGE.md has the language, docs/REPLIES.md the replies, docs/COOKBOOK.md whole contracts.
-poets, proved by rattle-kit-13f logic dac8208d650f15bf
+poets, proved by the Rattle toolchain with the logic dac8208d650f15bf
 ";
