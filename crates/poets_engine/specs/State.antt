@@ -8,9 +8,9 @@ use Rattle.poets_report.specs.Plain.{Report}
 use Rattle.poets_call.specs.declared.call.Command.{Command}
 use Rattle.poets_call.specs.declared.rules.Rules.{Rules}
 use Rattle.poets_call.specs.Rules.{book_of_rules, reports_of_rules}
-use Rattle.poets_call.specs.Calls.{Call, command_of}
+use Rattle.poets_call.specs.Calls.{Call, calls_of, command_of}
 use Rattle.poets_call.specs.Plain.{Reply}
-use Rattle.poets_call.specs.Histories.{AnswersIn}
+use Rattle.poets_call.specs.Histories.{AnswersIn, IsLegal}
 use Rattle.poets_call.specs.Plain as plain
 use Rattle.poets_engine.specs.Accepted.{has_changed}
 use Rattle.poets_engine.specs.Works.{OwesReply}
@@ -31,6 +31,12 @@ commands_of history = map (λ p. (p.0, arc_value p.1)) history
 -- the clerks and commands of a list of calls as plain data
 abbrev pub plain_calls : List (ℕ × Command) → List Call
 plain_calls calls = map (λ p. (p.0, command_of p.1)) calls
+
+-- the engine's calls are those of a legal history
+pub record HasLegalHistory (e : State) : Type 0 where
+  pub entries : List plain.Entry
+  pub legal : IsLegal (book_of_rules e.rules) (reports_of_rules e.rules) entries
+  pub same : calls_of entries ≡ plain_calls e.calls
 
 -- the engine has one call more, which is the clerk's, with the command
 abbrev pub AddsCall : ℕ → Arc Command Global → (old new : State) → Type 0

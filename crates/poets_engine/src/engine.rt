@@ -7,7 +7,8 @@ ghost use Rattle.poets_call.specs.Histories.{IsLegal};
 ghost use Rattle.poets_call.specs.Rules.{book_of_rules, reports_of_rules};
 ghost use Rattle.poets_engine.specs.Accounts.{AccountsAfterCalls, HasFormedAccount};
 ghost use Rattle.poets_engine.specs.Evaluations.{most_evaluations_in};
-ghost use Rattle.poets_engine.specs.State.{AddsCall, Fulfils, IsKeptUnlessChanged, OwesNext, commands_of};
+ghost use Rattle.poets_engine.specs.State.{AddsCall, Fulfils, HasLegalHistory, IsKeptUnlessChanged, OwesNext};
+ghost use Rattle.poets_engine.specs.State.{commands_of};
 ghost use Rattle.poets_engine.specs.Takes.{IsTakenBy};
 
 use crate::accounts::{Account, account_named};
@@ -84,7 +85,9 @@ impl Engine {
 
     /// The calls made: clerks' numbers and commands, in order.
     pub fn history(&self) -> &List<(u32, Arc<Command>)>
-        ensures { commands_of result.now.items ≡ self.now.calls }
+        ensures calls { commands_of result.now.items ≡ self.now.calls }
+        // Some legal history has these calls, also where the reply to the last one was never handed out.
+        ensures legal { HasLegalHistory self.now }
     {
         &self.history
     }

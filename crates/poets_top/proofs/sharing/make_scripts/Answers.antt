@@ -34,12 +34,12 @@ pub returns-clause-right : goal.returns-clause-right
 returns-clause-right g c =
     IfOk-weaker _ _ _
     (λ (entries : Listed Entry) are. right_entered c.args.rules c.new-engine.result.rules c.args.scripts.now.items c.in_ok-engine.engine.calls (commands_of c.as_slice.result.now) c.in_ok-engine.replies.items entries.items
-    (ap commands_of c.as_slice.ensures ∙ c.history.ensures) c.in_ok-engine.ensures.history c.in_ok-engine.ensures.replies are c.new-engine.ensures.rules c.book-book.ensures.studied c.new-engine.ensures.legal c.requires.taken)
+    (ap commands_of c.as_slice.ensures ∙ c.history.ensures.calls) c.in_ok-engine.ensures.history c.in_ok-engine.ensures.replies are c.new-engine.ensures.rules c.book-book.ensures.studied c.new-engine.ensures.legal c.requires.taken)
     c.entries_of.ensures
 
 pub returns-clause-scripts : goal.returns-clause-scripts
 returns-clause-scripts g c =
     IfOk-weaker _ _ _
     (λ (entries : Listed Entry) are. scripts_entered c.args.rules c.new-engine.result.rules c.args.scripts.now.items c.in_ok-engine.engine.calls (commands_of c.as_slice.result.now) c.in_ok-engine.replies.items entries.items
-    (ap commands_of c.as_slice.ensures ∙ c.history.ensures) c.in_ok-engine.ensures.history c.in_ok-engine.ensures.replies are)
+    (ap commands_of c.as_slice.ensures ∙ c.history.ensures.calls) c.in_ok-engine.ensures.history c.in_ok-engine.ensures.replies are)
     c.entries_of.ensures
