@@ -2,6 +2,7 @@ pub mod Arguments
 pub mod Binders
 pub mod CheckedBooks
 pub mod Checks
+pub mod Calls
 pub mod TypedAnswers
 pub mod Declaring
 pub mod Indices

@@ -31,6 +31,14 @@ pub struct TypeFault {
     pub cause: TypeCause,
 }
 
+/// Which call is not typed, and why. Calls count from 0. For want of memory the place means nothing.
+#[derive(Debug, Clone, Copy, PartialEq, Eq, Error)]
+#[error("in the call at place {place}: {cause}")]
+pub struct CallFault {
+    pub place: usize,
+    pub cause: TypeCause,
+}
+
 impl From<Memory> for TypeCause {
     ghost use Rattle.std.specs.Prelude.{◌≡◌};
     ghost use Rattle.poets_types.specs.declared.cause.TypeCause.TheVariants as C;
@@ -51,6 +59,20 @@ impl From<Memory> for TypeFault {
     fn from(_: Memory) -> TypeFault {
         TypeFault {
             statement: 0,
+            cause: TypeCause::Memory,
+        }
+    }
+}
+
+impl From<Memory> for CallFault {
+    ghost use Rattle.std.specs.Prelude.{◌≡◌};
+    ghost use Rattle.poets_types.specs.declared.cause.TypeCause.TheVariants as C;
+
+    ghost from_gives = { λ _ fault. fault ≡ record { place = 0; cause = C.Memory } };
+
+    fn from(_: Memory) -> CallFault {
+        CallFault {
+            place: 0,
             cause: TypeCause::Memory,
         }
     }

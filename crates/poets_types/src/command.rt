@@ -4,21 +4,23 @@ ghost use Rattle.poets_expr.specs.Env.{declared_of};
 ghost use Rattle.poets_call.specs.Calls.{command_of};
 ghost use Rattle.poets_call.specs.TypedStatements as spec;
 ghost use Rattle.poets_types.specs.Faults.{IsFaultOf};
+ghost use Rattle.poets_types.specs.Calls.{AreTypedCalls, IsFirstCallFault};
 ghost use Rattle.poets_types.specs.Verdicts.{CommandIsTyped, TermIsTyped, command_verdict, term_verdict};
 ghost use Rattle.poets_types.specs.code.Answers.{answer_of};
 ghost use Rattle.poets_types.specs.code.Checks.{arguments_verdict, with_reports};
 
-use crate::TypeCause;
 use crate::contract::{check_arguments, check_contract};
 use crate::expression::{must_be, name_type};
 use crate::index::Index;
 use crate::scope::Scope;
+use crate::{CallFault, TypeCause};
 use poets_call::{Command, named_report};
 use poets_expr::{Decls, Expr};
 use poets_report::Report;
 use poets_syntax::{Book, Term};
 use poets_value::{Event, Name, Ty};
 use std::alloc::Global;
+use std::sync::Arc;
 
 // The name is declared as the wanted one of an agent and a kind.
 fn check_declared(decls: &Decls, wanted: Ty, name: Name) -> Result<(), TypeCause>
@@ -101,4 +103,24 @@ pub fn check_call(
 {
     let index = Index::new(alloc, book, reports)?;
     check_command(&index, command)
+}
+
+/// Checks the commands of calls in a book with these reports, looking over the book once. An error tells the first call
+/// that is not typed.
+pub fn check_calls(
+    alloc: Global,
+    book: &Book,
+    reports: &[Report],
+    calls: &[(u32, Arc<Command>)],
+) -> Result<(), CallFault>
+    ensures passes { IfOk result (λ _. AreTypedCalls book.now reports.now calls.now) }
+    ensures fault { IfErr result (IsFirstCallFault book.now reports.now calls.now) }
+{
+    let index = Index::new(alloc, book, reports)?;
+    for (place, call) in calls.iter().enumerate() {
+        if let Err(cause) = check_command(&index, &call.1) {
+            return Err(CallFault { place, cause });
+        }
+    }
+    Ok(())
 }

@@ -15,5 +15,5 @@ mod table;
 mod template;
 
 pub use book::{Checked, check_book};
-pub use cause::{TypeCause, TypeFault};
-pub use command::{check_call, check_term};
+pub use cause::{CallFault, TypeCause, TypeFault};
+pub use command::{check_call, check_calls, check_term};
