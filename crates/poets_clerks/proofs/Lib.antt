@@ -4,5 +4,6 @@ pub mod Desks
 pub mod Finished
 pub mod Making
 pub mod More
+pub mod Parts
 pub mod Scripted
 pub mod Slots

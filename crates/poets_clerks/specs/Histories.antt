@@ -1,5 +1,6 @@
 -- The history that clerks make with their scripts, and the replies to its calls.
 use Rattle.std.specs.Prelude.{◌≡◌, ℕ, ◌+◌, ◌<◌, List, length, take, All, Contains, Option, Some, slice_get}
+use mathlib.Core.List.{IsPrefix}
 use Rattle.poets_machine.specs.Histories.{own_calls}
 use Rattle.poets_turn.specs.code.Turnstile.{OnlyClerks}
 
@@ -7,6 +8,12 @@ use Rattle.poets_turn.specs.code.Turnstile.{OnlyClerks}
 pub record HasScripts {C : Type 0} (scripts : List (List C)) (history : List (ℕ × C)) : Type 0 where
   pub own : (place : ℕ) (script : List C) → slice_get scripts place ≡ Some script →
       own_calls (place + 1) history ≡ script
+  pub clerks : OnlyClerks (length scripts) history
+
+-- the calls of each clerk are a prefix of its script, and no other clerk's stand there
+pub record HasScriptParts {C : Type 0} (scripts : List (List C)) (history : List (ℕ × C)) : Type 0 where
+  pub own : (place : ℕ) (script : List C) → slice_get scripts place ≡ Some script →
+      IsPrefix (own_calls (place + 1) history) script
   pub clerks : OnlyClerks (length scripts) history
 
 -- each call has a reply, which is right after the calls before it

@@ -10,5 +10,5 @@ mod team;
 
 pub use answers::{Done, DoneOf, Worked, WorkedOf};
 pub use gate::{Gate, NoGate};
-pub use history::make_history;
+pub use history::{MadeOf, attempt_history, make_history};
 pub use scripts::work;

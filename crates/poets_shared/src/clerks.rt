@@ -3,8 +3,8 @@ ghost use Rattle.std.specs.Prelude.{◌≡◌, ◌<◌, ◌≤◌, length, All, 
 ghost use Rattle.std.specs.Arc.{arc_value};
 ghost use Rattle.poets_value.specs.Limits.{most_clerks};
 
-use poets_clerks::{Done, Gate, NoGate, WorkedOf, make_history, work};
-use poets_machine::Adder;
+use poets_clerks::{Done, Gate, MadeOf, NoGate, WorkedOf, attempt_history, make_history, work};
+use poets_machine::{Adder, Machine, Sum};
 use poets_turn::Turn;
 use poets_value::{List, Memory};
 use std::alloc::{AllocError, Global};
@@ -185,5 +185,90 @@ fn eight_clerks_come_in_turn_from_the_last(rt: HostRuntime) -> Result<(), Fail> 
     for (place, entry) in adder.entries().iter().enumerate() {
         assert_eq!(rt; entry.0 as usize + place, 8, "place {place}");
     }
+    Ok(())
+}
+
+#[test]
+fn a_whole_history_comes_with_its_replies(rt: HostRuntime) -> Result<(), Fail> {
+    let alloc = rt.alloc();
+    let amount = Arc::new(alloc, 5)?;
+    let scripts = scripts(alloc, 8, 10, &amount)?;
+    let adder = Adder::new(alloc, 9);
+    let MadeOf { machine, replies } = attempt_history(&rt, alloc, adder, &scripts, &NoGate);
+    let Some(sums) = replies else {
+        return Err(Fail::from(AllocError));
+    };
+    assert_eq!(rt; machine.entries().len(), 80);
+    assert_eq!(rt; machine.sum(), 400);
+    assert_eq!(rt; sums.len(), 80);
+    let mut sum = 0u64;
+    for reply in sums.as_slice() {
+        sum = sum.wrapping_add(5);
+        assert_eq!(rt; *reply, sum);
+    }
+    Ok(())
+}
+
+// An adder that is out of memory once it took so many amounts.
+#[derive(Drop)]
+struct SmallAdder {
+    adder: Adder,
+    room: usize,
+}
+
+impl Machine for SmallAdder {
+    type Call = u64;
+
+    type Reply = u64;
+
+    type Kept = Sum;
+
+    type Frame = u64;
+
+    ghost history = { λ a. ⟦<Adder as Machine>⟧.history a.adder };
+
+    ghost frame = { λ a. ⟦<Adder as Machine>⟧.frame a.adder };
+
+    ghost takes = { ⟦<Adder as Machine>⟧.takes };
+
+    ghost answers = { ⟦<Adder as Machine>⟧.answers };
+
+    ghost owes = { ⟦<Adder as Machine>⟧.owes };
+
+    fn turn<R: Threads + Sync>(
+        &mut self,
+        rt: &R,
+        alloc: Global,
+        clerk: u32,
+        call: &Arc<u64>,
+    ) -> Result<Sum, Memory> {
+        if self.adder.entries().len() >= self.room {
+            return Err(Memory);
+        }
+        self.adder.turn(rt, alloc, clerk, call)
+    }
+
+    fn place(kept: &Sum) -> u64 {
+        Adder::place(kept)
+    }
+
+    fn finish<R: Threads + Sync>(rt: &R, alloc: Global, kept: Sum) -> Result<u64, Memory> {
+        Adder::finish(rt, alloc, kept)
+    }
+}
+
+#[test]
+fn the_machine_comes_back_out_of_memory(rt: HostRuntime) -> Result<(), Fail> {
+    let alloc = rt.alloc();
+    let amount = Arc::new(alloc, 5)?;
+    let scripts = scripts(alloc, 8, 10, &amount)?;
+    let adder = SmallAdder {
+        adder: Adder::new(alloc, 9),
+        room: 25,
+    };
+    let MadeOf { machine, replies } = attempt_history(&rt, alloc, adder, &scripts, &NoGate);
+    assert!(rt; replies.is_none());
+    assert_eq!(rt; machine.adder.entries().len(), 25);
+    assert_eq!(rt; machine.adder.sum(), 125);
     Ok(())
 }
