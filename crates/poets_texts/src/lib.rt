@@ -10,4 +10,6 @@ mod print;
 #[cfg(test)]
 mod session;
 #[cfg(test)]
+mod stored;
+#[cfg(test)]
 mod types;

@@ -1,0 +1,102 @@
+-- The commands of a session can be stored, and read back.
+use Rattle.std.proofs.Common.{◌≡◌, ℕ, Some, sym, slice_get, ◌+◌, ◌*◌, ◌≤◌, List, All, length, get_or, map, subst, arith}
+use Rattle.std.specs.Arc.{arc_value}
+use Rattle.std.specs.declared.alloc.Global.{Global}
+use Rattle.std.specs.declared.sync.Arc.{Arc}
+use Rattle.std.proofs.lemmas.List.{get_or-map, length-map}
+use Rattle.std.proofs.lemmas.Option.{get_or_from_slice_get, slice_get_within}
+use Rattle.poets_value.specs.Listed.{Listed}
+use Rattle.poets_value.specs.Limits.{longest_text}
+use Rattle.poets_lex.specs.Table.{Table, IsTable}
+use Rattle.poets_call.specs.Calls.{command_of}
+use Rattle.poets_call.specs.Plain.{Command}
+use Rattle.poets_call.specs.Said.{Statement}
+use Rattle.poets_call.specs.declared.call.Command.{Command as CodeCommand}
+use Rattle.poets_printed.proofs.Numbered.{numbered_reads_back, numbered_are_short}
+use Rattle.poets_session.specs.Sessions.{Text, IsReadAs, scripts_of}
+use Rattle.poets_session.specs.Written.{IsWrittenCommand}
+use Rattle.poets_session.proofs.LawsFitting.{read_table, read_written, scripts_written}
+use Rattle.poets_stored.specs.Stored.{IsShortCommand, IsStorableCommand, ReadsBack}
+use Rattle.poets_stored.specs.Laws.{CommandsOfSessionsAreShort, SessionsAreStorable, CommandsOfSessionsReadBack, CallsAreStorable, CallsOfSessionsAreStorable}
+use Rattle.poets_stored.specs.Laws.{IsStorableCall, AreStorableScripts}
+use Rattle.poets_stored.proofs.Sources.{IsReadWithin, session_source}
+
+-- the command is written with a table of names, and was read from at most so many tokens
+record IsSound (names : Table) (most : ℕ) (command : Command) : Type 0 where
+  table : IsTable names
+  written : IsWrittenCommand names command
+  source : IsReadWithin most command
+
+sound : (text : Text) (names : Table) (statements : List Statement) → IsReadAs text names statements →
+    All (All (IsSound names (length text))) (scripts_of statements)
+sound text names statements read i script inside j command within =
+    let written = scripts_written names statements (read_written text names statements read) in
+    let source = session_source text names statements read in
+    record {
+      table = read_table text names statements read;
+      written = written i script inside j command within;
+      source = source i script inside j command within;
+    }
+
+-- what sound commands are, the commands of a session are
+of_sound : (names : Table) (most : ℕ) (P : Command → Type 0) (scripts : List (List Command)) →
+    ((command : Command) → IsSound names most command → P command) → All (All (IsSound names most)) scripts → All (All P) scripts
+of_sound names most P scripts f h i script inside j command within = f _ (h i script inside j command within)
+
+sound_short : (names : Table) (most : ℕ) (command : Command) → IsSound names most command → IsShortCommand names (80 * most + 12) command
+sound_short names most command h clerk low =
+    let bound = numbered_are_short names clerk h.source.tokens command h.table low h.written.1 h.source.read in
+    omega (arith, bound, h.source.few)
+
+sound_storable : (names : Table) (most : ℕ) (command : Command) → most ≤ longest_text → IsSound names most command → IsStorableCommand names command
+sound_storable names most command small h = (
+  h.written.0,
+  λ clerk low. let bound = sound_short names most command h clerk low in omega (arith, bound, small),
+)
+
+sound_reads_back : (names : Table) (most : ℕ) (command : Command) → IsSound names most command → ReadsBack names command
+sound_reads_back names most command h clerk low =
+    numbered_reads_back names clerk command h.source.tokens h.table low h.written.1 h.written.0 h.source.read h.source.shallow
+
+pub commands_short : CommandsOfSessionsAreShort
+commands_short text names statements read =
+    of_sound names (length text) (IsShortCommand names (80 * length text + 12)) (scripts_of statements)
+    (sound_short names (length text)) (sound text names statements read)
+
+pub commands_storable : SessionsAreStorable
+commands_storable text names statements small read =
+    of_sound names (length text) (IsStorableCommand names) (scripts_of statements)
+    (λ command h. sound_storable names (length text) command small h) (sound text names statements read)
+
+pub commands_read_back : CommandsOfSessionsReadBack
+commands_read_back text names statements read =
+    of_sound names (length text) (ReadsBack names) (scripts_of statements)
+    (sound_reads_back names (length text)) (sound text names statements read)
+
+-- what holds of each image
+of_map : {X Y : Type 0} (P : Y → Type 0) (f : X → Y) (xs : List X) → All P (map f xs) → All (λ x. P (f x)) xs
+of_map P f xs h i x inside = subst P (get_or-map f xs i x (f x) inside) (h i (f x) (omega (arith, inside, length-map xs f)))
+
+pub calls_storable : CallsAreStorable
+calls_storable names scripts h =
+    let commands = λ (script : Listed (Arc CodeCommand Global)). map (λ c. command_of (arc_value c)) script.items in
+    let plain = of_map (All (IsStorableCommand names)) commands scripts h in
+    λ i script inside.
+    of_map (IsStorableCommand names) (λ (c : Arc CodeCommand Global). command_of (arc_value c))
+    (get_or scripts i script).items (plain i script inside)
+
+pub sessions_storable : CallsOfSessionsAreStorable
+sessions_storable text form session small (statements, is, holds) =
+    let plain = commands_storable text session.names statements small is.read in
+    calls_storable session.names session.scripts.items (subst (All (All (IsStorableCommand session.names))) (sym holds.scripts) plain)
+
+-- ---- one of the calls
+
+at : {X : Type 0} (P : X → Type 0) (xs : List X) (i : ℕ) (x : X) → All P xs → slice_get xs i ≡ Some x → P x
+at P xs i x h e = subst P (get_or_from_slice_get xs i x x e) (h i x (slice_get_within xs i x e))
+
+pub storable_at :
+    (names : Table) (scripts : List (Listed (Arc CodeCommand Global))) (i j : ℕ) (script : Listed (Arc CodeCommand Global)) (call : Arc CodeCommand Global) →
+    AreStorableScripts names scripts → slice_get scripts i ≡ Some script → slice_get script.items j ≡ Some call → IsStorableCall names call
+storable_at names scripts i j script call h e f =
+    at (IsStorableCall names) script.items j call (at (λ s. All (IsStorableCall names) s.items) scripts i script h e) f
