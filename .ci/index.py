@@ -29,7 +29,9 @@ def comments_of(text):
     found, comment, is_open = {}, [], False
     for line in text.splitlines():
         item = ITEM.match(line)
-        if line.startswith("--"):
+        if line.startswith("-- ----"):
+            comment, is_open = [], False
+        elif line.startswith("--"):
             comment, is_open = ([] if is_open else comment) + [line[2:].strip()], False
         elif NO_ITEM.match(line):
             comment, is_open = [], False
