@@ -50,16 +50,16 @@ def tried(job):
     return len(answers), [answer for answer in answers if answer]
 
 
-def try_family(pool, name):
-    """Tries the family. Answers whether all its cases ended as they must."""
+def try_family(pool, name, jobs):
+    """Tries the family. Answers whether it has cases and all of them ended as they must."""
     count, wrong = 0, []
-    for more, told in pool.map(tried, FAMILIES[name]()):
+    for more, told in pool.map(tried, jobs):
         count += more
         wrong += told
     print(f"{name:8} {count:>8,} tried {count - len(wrong):>8,} ended as they must", flush=True)
     for line in sorted(wrong)[:MOST_TOLD]:
         print(f"  {line}", flush=True)
-    return not wrong
+    return count > 0 and not wrong
 
 
 def prepare(folder):
@@ -81,7 +81,7 @@ def main():
     with tempfile.TemporaryDirectory() as folder:
         prepare(folder)
         with ProcessPoolExecutor(PROCESSES) as pool:
-            right = [try_family(pool, name) for name in given or FAMILIES]
+            right = [try_family(pool, name, FAMILIES[name]()) for name in given or FAMILIES]
     sys.exit(0 if all(right) else 1)
 
 

@@ -272,7 +272,8 @@ NO_FORMS = [
     "demo \u0661",
     "demo 18446744073709551617", "demo 4294967297", "-h", "--help", "--version", "-V", "-", "--", "-- run", "run --",
     "run -", "--run", "help", "explain", "explain 1", "explain in", "explain c d", "explain c#", "Explain c",
-    "explain " + 65 * "a", "keep f", "export", "run\0".rstrip("\0") + "\u00a0", "@file",
+    "explain " + 65 * "a", "keep f", "keep keep", "recover 1", "Keep", "export",
+    "run\0".rstrip("\0") + "\u00a0", "@file",
     "demo " + 4_000 * "1", 100_000 * "a", " ".join(10_000 * ["run"]), " ", "run ", " run", "demo  1"]
 
 

@@ -15,10 +15,11 @@ HERE = pathlib.Path(__file__).resolve().parent
 MEMORY = b"poets: out of memory\n"
 UNREAD = b"poets: standard input cannot be read\n"
 UNWRITTEN = b"poets: standard output cannot be written\n"
+UNKEPT = b"poets: poets.journal cannot be read or written\n"
 # The toolchain's logic, by which alone a proof holds: kits that differ in name alone have one.
 LOGIC = subprocess.run(["rt", "version"], stdout=subprocess.PIPE, check=True).stdout.split()[-1]
 USAGE = b"""\
-usage: poets check | run | replay | demo N | explain NAME
+usage: poets check | run | replay | demo N | explain NAME | keep | recover
 
 A text is read from standard input, as in: poets run < session.poets
   check         counts the templates and reports of a book, or names the first fault of the text
@@ -26,10 +27,12 @@ A text is read from standard input, as in: poets run < session.poets
   replay        makes the commands of a journal, in its order, and prints their history
   explain NAME  makes them too, and tells what the contract NAME takes next and how its events perform it
   demo N        prints one line about N sales by each of eight clerks, N from 1 to 1000, and reads nothing
+  keep          does what run does, and puts each command into the file poets.journal before its line is printed
+  recover       reads a book, makes the commands that poets.journal holds, and prints their history
 
 docs/LANGUAGE.md has the language, docs/REPLIES.md the replies, docs/COOKBOOK.md whole contracts.
 poets, proved by the Rattle toolchain with the logic """ + LOGIC + b"\n"
-TOLD = {0: b"", 2: USAGE, 3: MEMORY, 4: UNREAD, 5: UNWRITTEN, 6: b""}
+TOLD = {0: b"", 2: USAGE, 3: MEMORY, 4: UNREAD, 5: UNWRITTEN, 6: b"", 7: UNKEPT, 8: b"", 9: b""}
 # Where a text is refused, with status 1; nothing where memory for that wants.
 PLACE = re.compile(rb"(line [1-9]\d*, column [1-9]\d*\n[ -~]*\n *\^\n)?")
 MOST_SECONDS = 120

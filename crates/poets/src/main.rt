@@ -1,5 +1,6 @@
 //! `poets check` reads a book, `poets run` a session, and `poets replay` and `poets explain NAME` a journal from standard
-//! input; `poets demo N` reads nothing. All write to standard output.
+//! input; `poets demo N` reads nothing. `poets keep` reads a session too, and keeps its calls in the file `poets.journal`
+//! of the current folder; `poets recover` reads a book, and makes the calls of that file. All write to standard output.
 #![tactic(auto)]
 
 mod help;
@@ -9,9 +10,12 @@ ghost use Rattle.std.specs.Process.{exit_status};
 
 use help::HELP;
 use poets_clerks::NoGate;
+use poets_disk::FileDisk;
 use poets_io::{StdSink, StdSource};
+use poets_kept::{DISK_FAULT, journal_task, run_kept};
 use poets_mark::{KeptSource, mark_of};
-use poets_top::{NO_MEMORY, NO_SESSION, READ_FAULT, USAGE, WRITE_FAULT, form_of, run};
+use poets_session::Form;
+use poets_top::{NO_MEMORY, NO_SESSION, READ_FAULT, USAGE, WRITE_FAULT, form_of};
 use poets_words::{Mode, mode_of};
 use std::process::ExitCode;
 use std::{env, io};
@@ -31,13 +35,14 @@ fn main(rt: HostRuntime) -> ExitCode {
     }
     let mut source = KeptSource::new(rt.alloc(), StdSource::new(rt.reader()));
     let mut sink = StdSink::new(io::writer(&rt));
-    let outcome = run(
+    let outcome = run_kept(
         &rt,
         rt.alloc(),
         words.as_slice(),
         &mut source,
         &mut sink,
         &NoGate,
+        FileDisk::new(&rt),
     );
     if outcome.status == NO_SESSION {
         mark(&rt, words.as_slice(), source.given());
@@ -48,11 +53,22 @@ fn main(rt: HostRuntime) -> ExitCode {
 // Shows on standard error where the first fault of the text stands that the words told to read. Want of memory for that
 // is passed over.
 fn mark(rt: &HostRuntime, words: &[String], text: Option<&[u8]>) {
-    let (Some(text), Ok(Some(Mode::Read(task)))) = (text, mode_of(rt.alloc(), words)) else {
+    let (Some(text), Some(form)) = (text, form_asked(rt, words)) else {
         return;
     };
-    if let Ok(Some(lines)) = mark_of(rt.alloc(), text, form_of(&task)) {
+    if let Ok(Some(lines)) = mark_of(rt.alloc(), text, form) {
         let _ = eprint!(rt; "{lines}");
+    }
+}
+
+// The form of the sessions that the words ask for.
+fn form_asked(rt: &HostRuntime, words: &[String]) -> Option<Form> {
+    if let Some(task) = journal_task(words) {
+        return Some(task.form());
+    }
+    match mode_of(rt.alloc(), words) {
+        Ok(Some(Mode::Read(task))) => Some(form_of(&task)),
+        _ => None,
     }
 }
 
@@ -65,6 +81,7 @@ fn end(rt: &HostRuntime, status: u8) -> ExitCode
         NO_MEMORY => eprintln!(rt; "poets: out of memory"),
         READ_FAULT => eprintln!(rt; "poets: standard input cannot be read"),
         WRITE_FAULT => eprintln!(rt; "poets: standard output cannot be written"),
+        DISK_FAULT => eprintln!(rt; "poets: poets.journal cannot be read or written"),
         _ => Ok(()),
     };
     ExitCode::from(status)

@@ -1,12 +1,13 @@
 -- What holds of all scripts holds of the history that clerks make with them.
-use Rattle.std.proofs.Common.{◌≡◌, ℕ, zero, suc, ◌+◌, ◌-◌, ◌<◌, ◌≤◌, ◌==◌, Bool, true, false, List, [], ◌∷◌, length, map, get_or, refl, arith, ◌∙◌, ap, sym, subst, eq-eqb, if◌then◌else◌, Some}
+use Rattle.std.proofs.Common.{◌≡◌, ℕ, zero, suc, ◌+◌, ◌-◌, ◌<◌, ◌≤◌, ◌==◌, Bool, true, false, List, [], ◌∷◌, ◌++◌, length, map, get_or, refl, arith, ◌∙◌, ap, sym, subst, eq-eqb, if◌then◌else◌, Some}
 use Rattle.std.specs.Prelude.{All, Contains, slice_get}
 use Rattle.std.proofs.lemmas.List.{length-map}
-use Rattle.std.proofs.lemmas.List.Elements.{All-contains, All-map, Contains-append_right}
+use Rattle.std.proofs.lemmas.List.{map-append}
+use Rattle.std.proofs.lemmas.List.Elements.{All-contains, All-map, Contains-append_left, Contains-append_right}
 use Rattle.std.proofs.lemmas.Option.{slice_get-get_or}
 use Rattle.poets_machine.specs.Histories.{own_calls}
 use Rattle.poets_turn.specs.code.Turnstile.{OnlyClerks}
-use Rattle.poets_clerks.specs.Histories.{HasScripts}
+use Rattle.poets_clerks.specs.Histories.{HasScriptParts, HasScripts}
 
 module _ {C : Type 0} where
   -- a clerk's call is one of its own
@@ -30,6 +31,17 @@ module _ {C : Type 0} where
       let own : own_calls entry.0 h ≡ script = ap (λ k. own_calls k h) (omega arith) ∙ made.own index script (slice_get-get_or scripts index [] here) in
       All-contains P script entry.1 (all index [] here) (subst (λ l. Contains l entry.1) own (own_has h entry.0 entry.1 place (slice_get-get_or h place e inside)))
 
+  -- so it does where they made a part of each
+  pub parts_hold : (P : C → Type 0) (scripts : List (List C)) (h : List (ℕ × C)) → HasScriptParts scripts h → All (All P) scripts → All (λ e. P e.1) h
+  parts_hold P scripts h made all = λ place e inside.
+      let entry = get_or h place e in let only = made.clerks place e inside in let low = only.0 in let high = only.1 in
+      let index = entry.0 - 1 in let here : index < length scripts = omega arith in
+      let script = get_or scripts index [] in
+      let part = made.own index script (slice_get-get_or scripts index [] here) in
+      let own : Contains (own_calls (index + 1) h) entry.1 =
+      subst (λ k. Contains (own_calls k h) entry.1) (omega arith) (own_has h entry.0 entry.1 place (slice_get-get_or h place e inside)) in
+      All-contains P script entry.1 (all index [] here) (subst (λ l. Contains l entry.1) part.1 (Contains-append_left (own_calls (index + 1) h) part.0 entry.1 own))
+
 module _ {C D : Type 0} (f : C → D) where
   own_mapped : (k : ℕ) (h : List (ℕ × C)) → own_calls k (map (λ e. (e.0, f e.1)) h) ≡ map f (own_calls k h)
   own_mapped k [] = refl
@@ -48,5 +60,14 @@ module _ {C D : Type 0} (f : C → D) where
   pub scripts_mapped : (scripts : List (List C)) (h : List (ℕ × C)) → HasScripts scripts h → HasScripts (map (map f) scripts) (map (λ e. (e.0, f e.1)) h)
   scripts_mapped scripts h made = record {
     own = λ place script at. let s = some_mapped scripts place script at in own_mapped (place + 1) h ∙ (ap (map f) (made.own place s.0 s.1) ∙ s.2);
+    clerks = subst (λ n. OnlyClerks n (map (λ (e : ℕ × C). (e.0, f e.1)) h)) (sym (length-map scripts (map f))) (All-map (λ (e : ℕ × D). (0 < e.0) × (e.0 ≤ length scripts)) (λ (e : ℕ × C). (e.0, f e.1)) h made.clerks);
+  }
+
+  pub parts_mapped : (scripts : List (List C)) (h : List (ℕ × C)) → HasScriptParts scripts h → HasScriptParts (map (map f) scripts) (map (λ e. (e.0, f e.1)) h)
+  parts_mapped scripts h made = record {
+    own = λ place script at.
+        let s = some_mapped scripts place script at in
+        let part = made.own place s.0 s.1 in
+        (map f part.0, ap (λ l. l ++ map f part.0) (own_mapped (place + 1) h) ∙ (sym (map-append f (own_calls (place + 1) h) part.0) ∙ (ap (map f) part.1 ∙ s.2)));
     clerks = subst (λ n. OnlyClerks n (map (λ (e : ℕ × C). (e.0, f e.1)) h)) (sym (length-map scripts (map f))) (All-map (λ (e : ℕ × D). (0 < e.0) × (e.0 ≤ length scripts)) (λ (e : ℕ × C). (e.0, f e.1)) h made.clerks);
   }

@@ -1,3 +1,4 @@
 pub mod Saying
 pub mod Following
 pub mod Judging
+pub mod Excluding

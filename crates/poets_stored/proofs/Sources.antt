@@ -1,12 +1,13 @@
--- Each command of a session was read from tokens, no more than its text has bytes.
-use Rattle.std.proofs.Common.{◌≡◌, ℕ, suc, ◌+◌, ◌≤◌, Bool, true, false, List, [], ◌∷◌, All, length, refl, arith}
-use Rattle.std.specs.Prelude.{if◌then◌else◌}
+-- Each command of a session was read from tokens, and the tokens of all of them are no more than its text has bytes.
+use Rattle.std.proofs.Common.{◌≡◌, ℕ, suc, ◌+◌, ◌*◌, ◌≤◌, Bool, true, false, List, [], ◌∷◌, All, length, refl, arith}
+use Rattle.std.specs.Prelude.{if◌then◌else◌, sum_by}
 use Rattle.std.specs.List.{AllZip}
 use Rattle.std.proofs.lemmas.List.{length-map}
 use Rattle.std.proofs.lemmas.List.Elements.{All-nil, All-cons, All-head, All-tail}
+use Rattle.std.proofs.lemmas.List.Sums.{sum_by-cons}
 use Rattle.poets_lex.specs.declared.token.Tok.{Tok}
 use Rattle.poets_lex.specs.declared.token.Token.{Token}
-use Rattle.poets_lex.specs.Table.{Table}
+use Rattle.poets_lex.specs.Table.{Table, IsTable}
 use Rattle.poets_lex.specs.Laws.{Stand}
 use Rattle.poets_lex.proofs.Standing.{standing}
 use Rattle.poets_grammar.specs.Tokens.{toks}
@@ -14,8 +15,12 @@ use Rattle.poets_grammar.specs.TooDeep.{IsTooDeep}
 use Rattle.poets_grammar.specs.Statements.{IsCommand, IsStatement}
 use Rattle.poets_call.specs.Plain.{Command}
 use Rattle.poets_call.specs.Said as said
+use Rattle.poets_print.specs.Lines.{command_text}
+use Rattle.poets_printed.proofs.ShortCommands.{short_command}
 use Rattle.poets_session.specs.Pieces.{Piece, is_end, with_token, pieces_of}
 use Rattle.poets_session.specs.Sessions.{Text, IsStatementPiece, IsReadAs, commands_ahead, scripts_of}
+use Rattle.poets_session.specs.Written.{IsWritten}
+use Rattle.poets_session.proofs.LawsFitting.{read_table, read_written}
 
 -- ---- how many tokens
 
@@ -26,79 +31,124 @@ tokens_within table text place (t ∷ tokens) low h =
     let rest = tokens_within table text t.to tokens h.2 h.4 in
     omega (arith, h.0, h.1, rest)
 
--- each of the pieces has at most so many tokens
-abbrev EachWithin : ℕ → List Piece → Type 0
-EachWithin most [] = Unit {0}
-EachWithin most (p ∷ pieces) = (length p.tokens ≤ most) × EachWithin most pieces
+-- the tokens of a text of statements are no more than its bytes
+read_within : (text : Text) (names : Table) (statements : List said.Statement) → (read : IsReadAs text names statements) → length (toks read.tokens) ≤ length text
+read_within text names statements read =
+    let stand = standing read.lexed text [] refl refl in
+    let behind : 0 + length read.tokens ≤ length text = tokens_within names text 0 read.tokens (omega arith) stand in
+    omega (arith, behind, length-map read.tokens (λ (t : Token). t.what))
 
-within_more : (most more : ℕ) (pieces : List Piece) → most ≤ more → EachWithin most pieces → EachWithin more pieces
-within_more most more [] low h = tt
-within_more most more (p ∷ pieces) low h = (omega (arith, h.0), within_more most more pieces low h.1)
+-- how many tokens the pieces have together
+abbrev token_count : List Piece → ℕ
+token_count [] = 0
+token_count (p ∷ pieces) = length p.tokens + token_count pieces
 
-with_token_within : (most : ℕ) (t : Tok) (pieces : List Piece) → EachWithin most pieces → EachWithin (suc most) (with_token t pieces)
-with_token_within most t [] h = (omega arith, tt)
-with_token_within most t (p ∷ pieces) h = (omega (arith, h.0), within_more most (suc most) pieces (omega arith) h.1)
+with_token_count : (t : Tok) (pieces : List Piece) → token_count (with_token t pieces) ≡ suc (token_count pieces)
+with_token_count t [] = omega arith
+with_token_count t (p ∷ pieces) = omega arith
 
-pieces_within : (ts : List Tok) → EachWithin (length ts) (pieces_of ts)
-pieces_within [] = tt
+pieces_within : (ts : List Tok) → token_count (pieces_of ts) ≤ length ts
+pieces_within [] = omega arith
 pieces_within (t ∷ ts) = by_end (is_end t) (pieces_within ts)
   where
-    by_end : (b : Bool) → EachWithin (length ts) (pieces_of ts) →
-        EachWithin (suc (length ts)) (if b then record { tokens = []; ended = true } ∷ pieces_of ts else with_token t (pieces_of ts))
-    by_end true h = (omega arith, within_more (length ts) (suc (length ts)) (pieces_of ts) (omega arith) h)
-    by_end false h = with_token_within (length ts) t (pieces_of ts) h
+    by_end : (b : Bool) → token_count (pieces_of ts) ≤ length ts →
+        token_count (if b then record { tokens = []; ended = true } ∷ pieces_of ts else with_token t (pieces_of ts)) ≤ suc (length ts)
+    by_end true h = omega (arith, h)
+    by_end false h = omega (arith, h, with_token_count t (pieces_of ts))
 
 -- ---- what was read from them
 
--- the command was read from at most so many tokens, which are not too deep
-pub record IsReadWithin (most : ℕ) (command : Command) : Type 0 where
+-- the command was read from tokens, which are not too deep
+pub record IsRead (command : Command) : Type 0 where
   pub tokens : List Tok
   pub read : IsCommand tokens command
   pub shallow : ¬ (IsTooDeep tokens)
-  pub few : length tokens ≤ most
 
 -- the statement's command was, if the statement is a command without a number
-abbrev HasSource : ℕ → said.Statement → Type 0
-HasSource most (said.Command command) = IsReadWithin most command
-HasSource most s = Unit {0}
+abbrev HasSource : said.Statement → Type 0
+HasSource (said.Command command) = IsRead command
+HasSource s = Unit {0}
 
-statement_source : {ts : List Tok} {s : said.Statement} (most : ℕ) → IsStatement ts s → ¬ (IsTooDeep ts) → length ts ≤ most → HasSource most s
-statement_source {ts = ts} most (IsStatement.Command r) shallow few = record { tokens = ts; read = r; shallow = shallow; few = few }
-statement_source most _ shallow few = tt
+statement_source : {ts : List Tok} {s : said.Statement} → IsStatement ts s → ¬ (IsTooDeep ts) → HasSource s
+statement_source {ts = ts} (IsStatement.Command r) shallow = record { tokens = ts; read = r; shallow = shallow }
+statement_source _ shallow = tt
 
-statements_source :
-    (most : ℕ) (pieces : List Piece) (statements : List said.Statement) → AllZip IsStatementPiece pieces statements → EachWithin most pieces →
-    All (HasSource most) statements
-statements_source most [] [] h few = All-nil (HasSource most)
-statements_source most [] (s ∷ statements) h few = absurd h
-statements_source most (p ∷ pieces) [] h few = absurd h
-statements_source most (p ∷ pieces) (s ∷ statements) h few =
-    All-cons (HasSource most) s statements (statement_source most h.0.statement h.0.shallow few.0) (statements_source most pieces statements h.1 few.1)
+statements_source : (pieces : List Piece) (statements : List said.Statement) → AllZip IsStatementPiece pieces statements → All HasSource statements
+statements_source [] [] h = All-nil HasSource
+statements_source [] (s ∷ statements) h = absurd h
+statements_source (p ∷ pieces) [] h = absurd h
+statements_source (p ∷ pieces) (s ∷ statements) h =
+    All-cons HasSource s statements (statement_source h.0.statement h.0.shallow) (statements_source pieces statements h.1)
 
--- ---- the commands of scripts
+ahead_source : (statements : List said.Statement) → All HasSource statements → All IsRead (commands_ahead statements)
+ahead_source [] h = All-nil IsRead
+ahead_source (said.Clerk ∷ statements) h = All-nil IsRead
+ahead_source (said.Command c ∷ statements) h =
+    All-cons IsRead c (commands_ahead statements) (All-head HasSource (said.Command c) statements h)
+    (ahead_source statements (All-tail HasSource (said.Command c) statements h))
+ahead_source (s ∷ statements) h = ahead_source statements (All-tail HasSource s statements h)
 
-ahead_source : (most : ℕ) (statements : List said.Statement) → All (HasSource most) statements → All (IsReadWithin most) (commands_ahead statements)
-ahead_source most [] h = All-nil (IsReadWithin most)
-ahead_source most (said.Clerk ∷ statements) h = All-nil (IsReadWithin most)
-ahead_source most (said.Command c ∷ statements) h =
-    All-cons (IsReadWithin most) c (commands_ahead statements) (All-head (HasSource most) (said.Command c) statements h)
-    (ahead_source most statements (All-tail (HasSource most) (said.Command c) statements h))
-ahead_source most (s ∷ statements) h = ahead_source most statements (All-tail (HasSource most) s statements h)
+scripts_source : (statements : List said.Statement) → All HasSource statements → All (All IsRead) (scripts_of statements)
+scripts_source [] h = All-nil (All IsRead)
+scripts_source (said.Clerk ∷ statements) h =
+    let rest = All-tail HasSource said.Clerk statements h in
+    All-cons (All IsRead) (commands_ahead statements) (scripts_of statements) (ahead_source statements rest) (scripts_source statements rest)
+scripts_source (s ∷ statements) h = scripts_source statements (All-tail HasSource s statements h)
 
-scripts_source : (most : ℕ) (statements : List said.Statement) → All (HasSource most) statements → All (All (IsReadWithin most)) (scripts_of statements)
-scripts_source most [] h = All-nil (All (IsReadWithin most))
-scripts_source most (said.Clerk ∷ statements) h =
-    let rest = All-tail (HasSource most) said.Clerk statements h in
-    All-cons (All (IsReadWithin most)) (commands_ahead statements) (scripts_of statements) (ahead_source most statements rest)
-    (scripts_source most statements rest)
-scripts_source most (s ∷ statements) h = scripts_source most statements (All-tail (HasSource most) s statements h)
-
-pub session_source : (text : Text) (names : Table) (statements : List said.Statement) → IsReadAs text names statements →
-    All (All (IsReadWithin (length text))) (scripts_of statements)
+pub session_source : (text : Text) (names : Table) (statements : List said.Statement) → IsReadAs text names statements → All (All IsRead) (scripts_of statements)
 session_source text names statements read =
-    let stand = standing read.lexed text [] refl refl in
-    let behind : 0 + length read.tokens ≤ length text = tokens_within names text 0 read.tokens (omega arith) stand in
-    let same : length (toks read.tokens) ≡ length read.tokens = length-map read.tokens (λ (t : Token). t.what) in
+    scripts_source statements (statements_source (pieces_of (toks read.tokens)) statements read.said)
+
+-- ---- sums over the commands
+
+module _ (weight : Command → ℕ) where
+  -- what the statement's command weighs, if the statement is a command without a number
+  abbrev statement_weight : said.Statement → ℕ
+  statement_weight (said.Command command) = weight command
+  statement_weight s = 0
+
+  abbrev pub weight_of : List said.Statement → ℕ
+  weight_of [] = 0
+  weight_of (s ∷ statements) = statement_weight s + weight_of statements
+
+  -- the commands ahead of the first `clerk` and those of the scripts are all of them
+  ahead_weight :
+      (statements : List said.Statement) → sum_by weight (commands_ahead statements) + sum_by (sum_by weight) (scripts_of statements) ≡ weight_of statements
+  ahead_weight [] = omega arith
+  ahead_weight (said.Clerk ∷ statements) =
+      omega (arith, ahead_weight statements, sum_by-cons (sum_by weight) (commands_ahead statements) (scripts_of statements))
+  ahead_weight (said.Command c ∷ statements) = omega (arith, ahead_weight statements, sum_by-cons weight c (commands_ahead statements))
+  ahead_weight (s ∷ statements) = omega (arith, ahead_weight statements)
+
+  pub scripts_weight : (statements : List said.Statement) → sum_by (sum_by weight) (scripts_of statements) ≤ weight_of statements
+  scripts_weight statements = omega (arith, ahead_weight statements)
+
+-- ---- how long the commands print
+
+-- the bytes of the printed command
+abbrev pub printed_length : Table → Command → ℕ
+printed_length names command = length (command_text names command)
+
+module _ (names : Table) (all : IsTable names) where
+  statement_printed : {ts : List Tok} {s : said.Statement} → IsStatement ts s → IsWritten names s → statement_weight (printed_length names) s ≤ 80 * length ts
+  statement_printed (IsStatement.Command r) h = short_command names all r h.1
+  statement_printed _ h = omega arith
+
+  statements_printed :
+      (pieces : List Piece) (statements : List said.Statement) → AllZip IsStatementPiece pieces statements → All (IsWritten names) statements →
+      weight_of (printed_length names) statements ≤ 80 * token_count pieces
+  statements_printed [] [] said h = omega arith
+  statements_printed [] (s ∷ statements) said h = absurd said
+  statements_printed (p ∷ pieces) [] said h = absurd said
+  statements_printed (p ∷ pieces) (s ∷ statements) said h =
+      let first = statement_printed said.0.statement (All-head (IsWritten names) s statements h) in
+      omega (arith, first, statements_printed pieces statements said.1 (All-tail (IsWritten names) s statements h))
+
+-- the commands of a session print as at most 80 bytes together for each byte of its text
+pub session_printed : (text : Text) (names : Table) (statements : List said.Statement) → IsReadAs text names statements →
+    sum_by (sum_by (printed_length names)) (scripts_of statements) ≤ 80 * length text
+session_printed text names statements read =
+    let written = read_written text names statements read in
     let ts : List Tok = toks read.tokens in
-    let few = within_more (length ts) (length text) (pieces_of ts) (omega arith) (pieces_within ts) in
-    scripts_source (length text) statements (statements_source (length text) (pieces_of ts) statements read.said few)
+    let printed = statements_printed names (read_table text names statements read) (pieces_of ts) statements read.said written in
+    omega (arith, scripts_weight (printed_length names) statements, printed, pieces_within ts, read_within text names statements read)

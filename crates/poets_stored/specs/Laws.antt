@@ -1,13 +1,16 @@
 -- The laws of the commands of sessions, as statements.
-use Rattle.std.specs.Prelude.{◌+◌, ◌*◌, ◌≤◌, List, length, All}
+use Rattle.std.specs.Prelude.{◌+◌, ◌*◌, ◌^◌, ◌<◌, ◌≤◌, List, ◌++◌, length, map, flat_map, sum_by, All, IsPermutation}
 use Rattle.std.specs.Arc.{arc_value}
 use Rattle.std.specs.declared.alloc.Global.{Global}
 use Rattle.std.specs.declared.sync.Arc.{Arc}
 use Rattle.poets_value.specs.Limits.{longest_text}
 use Rattle.poets_value.specs.Listed.{Listed}
 use Rattle.poets_lex.specs.Table.{Table}
+use Rattle.poets_call.specs.Calls.{Call}
+use Rattle.poets_call.specs.Plain.{Command}
 use Rattle.poets_call.specs.Said.{Statement}
 use Rattle.poets_call.specs.declared.call.Command.{Command as CodeCommand}
+use Rattle.poets_printed.specs.Numbered.{numbered_text}
 use Rattle.poets_session.specs.declared.form.Form.{Form}
 use Rattle.poets_session.specs.declared.session.Session.{Session}
 use Rattle.poets_session.specs.Sessions.{Text, IsReadAs, HoldsText, scripts_of, commands_in}
@@ -19,6 +22,16 @@ abbrev pub CommandsOfSessionsAreShort : Type 0
 CommandsOfSessionsAreShort =
     (text : Text) (names : Table) (statements : List Statement) → IsReadAs text names statements →
     All (All (IsShortCommand names (80 * length text + 12))) (scripts_of statements)
+
+-- calls that make commands of a session, each at most once, in whatever order and by whichever clerks, have texts of at
+-- most 80 bytes together for each byte of the session's text, and 12 more for each call
+abbrev pub CommandsOfSessionsAreShortTogether : Type 0
+CommandsOfSessionsAreShortTogether =
+    (text : Text) (names : Table) (statements : List Statement) (calls : List Call) (others : List Command) →
+    IsReadAs text names statements →
+    IsPermutation (flat_map (λ script. script) (scripts_of statements)) (map (λ call. call.1) calls ++ others) →
+    All (λ call. call.0 < 2 ^ 32) calls →
+    sum_by (λ call. length (numbered_text names call.0 call.1)) calls ≤ 80 * length text + 12 * length calls
 
 -- each command of a session can be stored
 abbrev pub SessionsAreStorable : Type 0

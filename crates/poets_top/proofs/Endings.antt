@@ -1,21 +1,20 @@
 -- How runs end.
-use Rattle.std.proofs.Common.{◌≡◌, ◌≢◌, ℕ, ◌+◌, ◌<◌, ◌≤◌, List, [], length, Option, Some, None, refl, sym, ◌∙◌, ap, subst, ◌⊎◌, inl, inr, arith}
-use Rattle.std.specs.Prelude.{option_map, IfSome}
+use Rattle.std.proofs.Common.{◌≡◌, ◌≢◌, ℕ, ◌+◌, ◌<◌, ◌≤◌, List, [], length, Option, Some, refl, sym, ap, subst, ◌⊎◌, inl, inr, arith}
+use Rattle.std.specs.Prelude.{IfSome}
 use Rattle.std.specs.Io.KnownBytes.{Appends}
 use Rattle.poets_io.specs.Causes.{Rose}
-use Rattle.poets_io.specs.Streams.{AppendsPart, GivesAll, LosesFront}
+use Rattle.poets_io.specs.Streams.{GivesAll, LosesFront}
 use Rattle.poets_io.proofs.Transfers.{IfSome-loses_more}
 use Rattle.poets_lex.specs.Table.{Table}
 use Rattle.poets_call.specs.Plain.{Entry}
 use Rattle.poets_call.specs.Said.{Statement}
-use Rattle.poets_session.specs.Causes.{refusal_of, IsFirstFault}
-use Rattle.poets_session.specs.Sessions.{Text, IsSession, IsNoSession, Represents}
+use Rattle.poets_session.specs.Sessions.{Text, IsSession, IsNoSession}
 use Rattle.poets_session.specs.declared.form.Form.{Form}
 use Rattle.poets_session.specs.declared.session.Session.{Session}
-use Rattle.poets_session.specs.Texts.{refusal_text}
-use Rattle.poets_session.specs.declared.fault.SessionFault.{SessionFault}
 use Rattle.poets_session.proofs.LawsRefused.{session_unrefused}
-use Rattle.poets_print.specs.Lines.{history_text}
+use Rattle.poets_opening.specs.Limits.{block, longest}
+use Rattle.poets_opening.specs.Unread.{EndsUnread, Gave, RefusesSource}
+use Rattle.poets_opening.specs.Opening.{Opens}
 use Rattle.poets_words.specs.Words.{AskFor}
 use Rattle.poets_words.specs.declared.mode.Mode.{Mode}
 use Rattle.poets_words.specs.declared.mode.Mode.TheVariants as M
@@ -24,60 +23,45 @@ use Rattle.poets_top.specs.Demonstrating.{IsDemonstration, HasDemonstrated}
 use Rattle.poets_top.specs.Explaining.{HasExplained}
 use Rattle.poets_top.specs.Replaying.{HasReplayed}
 use Rattle.poets_top.specs.Running.{HasRun}
-use Rattle.poets_top.specs.Runs.{IsMade, IsAnswerTo, IsResult, IsEnding, Ends, Deserves, DeservesRun, IsStatusOrMemory, NoFaultRose, longest, block}
+use Rattle.poets_top.specs.Runs.{IsMade, IsAnswerTo, IsResult, IsEnding, Ends, Deserves, DeservesRun, IsStatusOrMemory, NoFaultRose}
 use Rattle.poets_top.specs.code.Sessions.{IsSessionOf}
 use Rattle.poets_top.specs.Tasks.{form_of}
-use Rattle.poets_top.specs.Writing.{Stream, HasFailed, IsWritten}
+use Rattle.poets_writing.specs.Writing.{Change, Stream, IsWritten}
+use Rattle.poets_writing.proofs.Written.{IsWritten-nothing, IsWritten-weaker}
 use Rattle.poets_words.specs.declared.mode.Task.{Task}
 use Rattle.poets_words.specs.declared.mode.Task.TheVariants as T
 
--- ---- what is written
+-- ---- what is answered
 
-module _ (Is : ℕ → List Entry → List ℕ → Type 0) (sink sink' : Stream) where
-  -- the line of an outcome was written, or a front of it up to a fault
-  pub IsWritten-outcome : (wanted status : ℕ) (h g : List Entry) (line : List ℕ) → h ≡ g → Is wanted g line →
-      ((status ≡ wanted) × Appends sink.bytes sink'.bytes line × (sink'.faults ≡ sink.faults)) ⊎ ((status ≡ 5) × AppendsPart sink.bytes sink'.bytes line × HasFailed sink sink') →
-      IsWritten Is sink sink' status h
-  IsWritten-outcome wanted status h g line same a (inl w) =
-      subst (λ s. IsWritten Is sink sink' s h) (sym w.0) (subst (IsWritten Is sink sink' wanted) (sym same) (IsWritten.Whole a w.1 w.2))
-  IsWritten-outcome wanted status h g line same a (inr w) =
-      subst (λ s. IsWritten Is sink sink' s h) (sym w.0) (subst (IsWritten Is sink sink' 5) (sym same) (IsWritten.Failed a w.1 w.2))
+-- the source gave no session of the task's form
+refused_answer : (task : Task) (source source' : Stream) {status : ℕ} {h : List Entry} {line : List ℕ} → RefusesSource (form_of task) source source' status h line →
+    IsResult task source source' status h line
+refused_answer task source source' (RefusesSource.Refused given refused) = IsResult.Read given.all given.short (IsAnswerTo.Refused refused)
+refused_answer task source source' (RefusesSource.TooLong front kept) = IsResult.TooLong front
 
-  -- so was a line that is none of a history
-  pub IsWritten-line : (wanted status : ℕ) (h : List Entry) (line : List ℕ) → h ≡ [] → Is wanted [] line →
-      ((status ≡ wanted) × Appends sink.bytes sink'.bytes line × (sink'.faults ≡ sink.faults)) ⊎ ((status ≡ 5) × AppendsPart sink.bytes sink'.bytes line × HasFailed sink sink') →
-      IsWritten Is sink sink' status h
-  IsWritten-line wanted status h line empty a w = IsWritten-outcome wanted status h [] line empty a w
+unread : (task : Task) (source source' sink sink' : Stream) {status : ℕ} {h : List Entry} → EndsUnread (form_of task) source source' sink sink' status h →
+    IsEnding task source source' sink sink' status h
+unread task source source' sink sink' (EndsUnread.Told written kept) =
+    IsEnding.Answered kept
+    (IsWritten-weaker (RefusesSource (form_of task) source source') (IsResult task source source') sink sink' (λ status h line refused. refused_answer task source source' refused) written)
+unread task source source' sink sink' (EndsUnread.ReadFailed failed front same) = IsEnding.ReadFailed failed front same
 
-  -- nothing was written for want of memory
-  pub IsWritten-nothing : (status : ℕ) (h : List Entry) → sink' ≡ sink → status ≡ 3 → h ≡ [] → IsWritten Is sink sink' status h
-  IsWritten-nothing status h same three empty =
-      subst (λ s. IsWritten Is sink sink' s h) (sym three) (subst (IsWritten Is sink sink' 3) (sym empty) (IsWritten.MemoryBefore same))
+pub IsEnding-unread : (task : Task) (form : Form) (source source' sink sink' : Stream) {status : ℕ} {h : List Entry} → form ≡ form_of task →
+    EndsUnread form source source' sink sink' status h → IsEnding task source source' sink sink' status h
+IsEnding-unread task form source source' sink sink' {status} {h} same ends = unread task source source' sink sink' (subst (λ f. EndsUnread f source source' sink sink' status h) same ends)
 
--- what is one answer is the other
-pub IsWritten-weaker : (A B : ℕ → List Entry → List ℕ → Type 0) (sink sink' : Stream) {status : ℕ} {h : List Entry} →
-    ((s : ℕ) (g : List Entry) (text : List ℕ) → A s g text → B s g text) → IsWritten A sink sink' status h → IsWritten B sink sink' status h
-IsWritten-weaker A B sink sink' f (IsWritten.Whole {status = s} {h = g} {text = t} a w k) = IsWritten.Whole (f s g t a) w k
-IsWritten-weaker A B sink sink' f (IsWritten.Failed {status = s} {h = g} {text = t} a w r) = IsWritten.Failed (f s g t a) w r
-IsWritten-weaker A B sink sink' f (IsWritten.MemoryBetween {h = g} names a some w k) = IsWritten.MemoryBetween names (f 0 g (history_text names g) a) some w k
-IsWritten-weaker A B sink sink' f (IsWritten.MemoryBefore e) = IsWritten.MemoryBefore e
+-- it gave one
+pub IsSessionOf-opened : (task : Task) (form : Form) (source : Change) (session : Session) → form ≡ form_of task → (opened : Opens form source session) →
+    IsSessionOf (form_of task) opened.1.text opened.0 session
+IsSessionOf-opened task form source session same opened =
+    record { is = subst (λ f. IsSession opened.1.text f session.names opened.0) same opened.1.session; holds = opened.2 }
 
--- the source failed
-pub IsEnding-unread : (task : Task) (source source' sink : Stream) (status : ℕ) (h : List Entry) → status ≡ 4 → h ≡ [] → HasFailed source source' →
-    LosesFront 0 longest source.bytes source'.bytes → IsEnding task source source' sink sink status h
-IsEnding-unread task source source' sink status h four empty failed front =
-    subst (λ s. IsEnding task source source' sink sink s h) (sym four) (subst (IsEnding task source source' sink sink 4) (sym empty) (IsEnding.ReadFailed failed front refl))
-
--- the line of a fault that is not want of memory
-pub IsAnswerTo-fault : (text : Text) (task : Task) (fault : SessionFault) (line : List ℕ) → option_map (refusal_text fault.names) (refusal_of fault.what) ≡ Some line →
-    IsFirstFault text (form_of task) fault → IsAnswerTo text task 1 [] line
-IsAnswerTo-fault text task fault line told (inl memory) =
-    let none : option_map (refusal_text fault.names) (refusal_of fault.what) ≡ None = ap (λ cause. option_map (refusal_text fault.names) (refusal_of cause)) memory in
-    absurd cc
-IsAnswerTo-fault text task fault line told (inr found) =
-    let some : Some (refusal_text fault.names found.0) ≡ Some line = sym (ap (option_map (refusal_text fault.names)) found.1) ∙ told in
-    let same : refusal_text fault.names found.0 ≡ line = cc in
-    subst (IsAnswerTo text task 1 []) same (IsAnswerTo.Refused found.2)
+-- it gave one, which was answered
+pub IsEnding-answered : (task : Task) (source source' sink sink' : Stream) (text : Text) {status : ℕ} {h : List Entry} → Gave source source' text →
+    IsWritten (IsAnswerTo text task) sink sink' status h → IsEnding task source source' sink sink' status h
+IsEnding-answered task source source' sink sink' text given written =
+    IsEnding.Answered given.faultless
+    (IsWritten-weaker (IsAnswerTo text task) (IsResult task source source') sink sink' (λ status h line answer. IsResult.Read given.all given.short answer) written)
 
 -- ---- statuses
 
@@ -101,7 +85,7 @@ module _ (task : Task) (source source' sink sink' : Stream) where
   written_not_two (IsWritten.MemoryBefore e) = λ e. omega (arith, e)
 
   -- words that ask for a task do not end with the status of words that ask for none
-  IsEnding-not_two : {status : ℕ} {h : List Entry} → IsEnding task source source' sink sink' status h → status ≢ 2
+  pub IsEnding-not_two : {status : ℕ} {h : List Entry} → IsEnding task source source' sink sink' status h → status ≢ 2
   IsEnding-not_two (IsEnding.Answered k w) = written_not_two w
   IsEnding-not_two (IsEnding.ReadFailed r l k) = λ e. omega (arith, e)
 
@@ -117,14 +101,6 @@ module _ (task : Task) (source source' sink sink' : Stream) where
   IsEnding-later (IsEnding.ReadFailed r l k) = let e = ap (λ s. s.faults) k in (r.later, omega (arith, e))
 
 -- ---- a text that the source told
-
--- a session that was read is one of the task's form
-pub IsSessionOf-read : (task asked : Task) (text : Text) (form : Form) (statements : List Statement) (session : Session) → asked ≡ task → form ≡ form_of asked →
-    IsSession text form session.names statements → Represents statements session → IsSessionOf (form_of task) text statements session
-IsSessionOf-read task asked text form statements session same formed read holds = record {
-  is = subst (λ f. IsSession text f session.names statements) (formed ∙ ap form_of same) read;
-  holds = holds;
-}
 
 -- a source that gave too much had more than a session has
 not_short : (text : List ℕ) (left' : Option (List ℕ)) → length text ≤ longest → LosesFront (longest + 1) (longest + block) (Some text) left' → ⊥

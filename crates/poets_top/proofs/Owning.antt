@@ -1,41 +1,31 @@
 -- The history of scripts: each clerk has made his own.
-use Rattle.std.proofs.Common.{◌≡◌, ℕ, zero, suc, ◌+◌, ◌<◌, ◌≤◌, nat_eq, false, List, [], ◌∷◌, ◌++◌, length, take, refl, sym, ◌∙◌, ap, ap₂, subst, arith, append-nil}
-use Rattle.std.specs.Prelude.{Some, slice_get}
+use Rattle.std.proofs.Common.{◌≡◌, ℕ, suc, ◌≤◌, List, [], ◌∷◌, length, refl, ◌∙◌, ap, ap₂, subst, arith}
+use Rattle.std.specs.Prelude.{slice_get}
 use Rattle.std.specs.List.{All}
 use Rattle.std.proofs.lemmas.Bool.{eq-eqb, ne_eqb}
-use Rattle.std.proofs.lemmas.List.Elements.{All-nil, All-head, All-tail, All-append, All-map, All-take, All-weaker}
-use Rattle.std.specs.Arc.{arc_value}
-use Rattle.std.specs.declared.alloc.Global.{Global}
-use Rattle.std.specs.declared.sync.Arc.{Arc}
-use Rattle.poets_syntax.specs.Studied.{IsStudiedBook}
-use Rattle.poets_call.specs.declared.call.Command.{Command as CodeCommand}
-use Rattle.poets_call.specs.Taken.{IsTaken}
-use Rattle.poets_call.specs.Typing.{IsTypedCommand}
-use Rattle.poets_engine.proofs.ShownResiduals.{legal_histories_show}
+use Rattle.std.proofs.lemmas.List.Elements.{All-head, All-tail, All-map, All-weaker}
 use Rattle.poets_call.specs.Plain.{Command, Entry}
-use Rattle.poets_call.specs.Calls.{Call, calls_of, own_calls, command_of}
+use Rattle.poets_call.specs.Calls.{Call, calls_of, own_calls}
 use Rattle.poets_call.specs.Declarations.{book_from, reports_of}
 use Rattle.poets_call.specs.declared.rules.Rules.{Rules}
-use Rattle.poets_call.specs.Histories.{IsLegal, IsRightHistory}
+use Rattle.poets_call.specs.Histories.{IsRightHistory}
 use Rattle.poets_call.specs.Rules as R
 use Rattle.poets_call.specs.Said.{Statement}
-use Rattle.poets_call.proofs.Histories.{own_calls_append}
-use Rattle.poets_session.specs.Sessions.{Represents, scripts_of, commands_in, journal_of, calls_in}
+use Rattle.poets_session.specs.Sessions.{Represents, scripts_of, commands_in, journal_of}
 use Rattle.poets_session.specs.declared.session.Session.{Session}
 use Rattle.poets_machine.specs.Histories.{own_calls as machine_calls}
 use Rattle.poets_clerks.specs.Histories.{HasScripts}
 use mathlib.Core.Logic.{dite}
 use native.Mathlib.Decide.{ℕ_discrete}
 use Rattle.poets_top.specs.Scripts.{under_clerk}
-use Rattle.poets_top.specs.code.Noted.{AreTaken}
 use Rattle.poets_top.specs.Running.{IsHistoryOf}
 use Rattle.poets_top.specs.Replaying.{IsReplayOf}
-use Rattle.poets_top.proofs.Taking.{All-of_map}
+use Rattle.poets_making.proofs.Taking.{All-of_map}
 
 -- ---- the commands of each clerk
 
 -- a clerk's calls in a history, as it is told of machines
-own_same : (clerk : ℕ) (calls : List Call) → own_calls clerk calls ≡ machine_calls clerk calls
+pub own_same : (clerk : ℕ) (calls : List Call) → own_calls clerk calls ≡ machine_calls clerk calls
 own_same clerk [] = refl
 own_same clerk (c ∷ calls) = dite (ℕ_discrete c.0 clerk)
     (λ same. rw (eq-eqb c.0 clerk same) (ap (λ rs. c.1 ∷ rs) (own_same clerk calls)))
@@ -43,28 +33,8 @@ own_same clerk (c ∷ calls) = dite (ℕ_discrete c.0 clerk)
 
 -- ---- histories
 
--- a legal history of typed calls is right
-pub right_history : (rules : Rules) (h : List Entry) → IsStudiedBook (R.book_of_rules rules) rules.studied.marks → IsLegal (R.book_of_rules rules) (R.reports_of_rules rules) h →
-    All (λ (call : Call). IsTypedCommand (R.book_of_rules rules) (R.reports_of_rules rules) call.1) (calls_of h) → IsRightHistory (R.book_of_rules rules) (R.reports_of_rules rules) h
-right_history rules h studied legal typed = record {
-  legal = legal;
-  shows = legal_histories_show (R.book_of_rules rules) rules.studied.marks (R.reports_of_rules rules) h studied legal
-      (All-of_map (λ (call : Call). IsTypedCommand (R.book_of_rules rules) (R.reports_of_rules rules) call.1) (λ (e : Entry). (e.clerk, e.command)) h typed);
-}
-
--- a legal history of calls that are taken is right
-pub right_made : (rules found : Rules) (h : List Entry) (calls : List (ℕ × Arc CodeCommand Global)) (n : ℕ) → found ≡ rules →
-    IsStudiedBook (R.book_of_rules rules) rules.studied.marks → IsLegal (R.book_of_rules found) (R.reports_of_rules found) h → AreTaken rules calls →
-    calls_of h ≡ calls_in (take n calls) → IsRightHistory (R.book_of_rules rules) (R.reports_of_rules rules) h
-right_made rules found h calls n same studied legal taken made =
-    let front = All-take (λ (p : ℕ × Arc CodeCommand Global). IsTaken (R.book_of_rules rules) (R.reports_of_rules rules) (command_of (arc_value p.1))) n calls taken in
-    right_history rules h studied (subst (λ r. IsLegal (R.book_of_rules r) (R.reports_of_rules r) h) same legal)
-    (subst (All (λ call. IsTypedCommand (R.book_of_rules rules) (R.reports_of_rules rules) call.1)) (sym made)
-    (All-map (λ (call : Call). IsTypedCommand (R.book_of_rules rules) (R.reports_of_rules rules) call.1) (λ (p : ℕ × Arc CodeCommand Global). (p.0, command_of (arc_value p.1))) (take n calls)
-    (λ k d lt. (front k d lt).typed)))
-
 -- a right history for rules is one for what they say
-right_for : (rules : Rules) (statements : List Statement) (h : List Entry) → R.book_of_rules rules ≡ book_from statements → R.reports_of_rules rules ≡ reports_of statements →
+pub right_for : (rules : Rules) (statements : List Statement) (h : List Entry) → R.book_of_rules rules ≡ book_from statements → R.reports_of_rules rules ≡ reports_of statements →
     IsRightHistory (R.book_of_rules rules) (R.reports_of_rules rules) h → IsRightHistory (book_from statements) (reports_of statements) h
 right_for rules statements h book reports right =
     subst (λ q. IsRightHistory (book_from statements) q h) reports (subst (λ b. IsRightHistory b (R.reports_of_rules rules) h) book right)

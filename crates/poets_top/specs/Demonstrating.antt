@@ -1,5 +1,5 @@
 -- The word `demo`.
-use Rattle.std.specs.Prelude.{◌≡◌, ℕ, List, Option, string_bytes}
+use Rattle.std.specs.Prelude.{◌≡◌, ℕ, List, Option}
 use Rattle.std.specs.Io.KnownBytes.{Appends}
 use Rattle.poets_lex.specs.Table.{Table}
 use Rattle.poets_call.specs.Plain.{Entry}
@@ -9,7 +9,7 @@ use Rattle.poets_demo.specs.Text.{demo_text}
 use Rattle.poets_session.specs.declared.form.Form.TheVariants as F
 use Rattle.poets_session.specs.Sessions.{IsSession}
 use Rattle.poets_top.specs.Running.{IsHistoryOf}
-use Rattle.poets_top.specs.declared.outcome.TheConstants.{DONE}
+use Rattle.poets_writing.specs.declared.outcome.TheConstants.{DONE}
 
 -- the demonstration's text is a session of clerks, of which a history was made, and this is the line that sums it up
 pub record IsDemonstrated (sales : ℕ) (h : List Entry) (line : List ℕ) : Type 0 where

@@ -4,7 +4,6 @@ pub mod Running
 pub mod Replaying
 pub mod Explaining
 pub mod Demonstrating
-pub mod Writing
 pub mod Runs
 pub mod Promises
 pub mod Scripts

@@ -9,9 +9,9 @@ use Rattle.poets_words.specs.declared.mode.Mode.TheVariants as M
 use Rattle.poets_words.specs.declared.mode.Task.{Task}
 use Rattle.poets_top.specs.Demonstrating.{HasDemonstrated}
 use Rattle.poets_top.specs.Runs.{DeservesRun, Ends, IsStatusOrMemory, NoFaultRose}
-use Rattle.poets_top.specs.Writing.{Change}
-use Rattle.poets_top.specs.declared.outcome.Outcome.{Outcome}
-use Rattle.poets_top.specs.declared.outcome.TheConstants.{DONE}
+use Rattle.poets_writing.specs.Writing.{Change}
+use Rattle.poets_writing.specs.declared.outcome.Outcome.{Outcome}
+use Rattle.poets_writing.specs.declared.outcome.TheConstants.{DONE}
 
 -- the words are no command form
 abbrev pub AreNoForm : List (String Global) → Type 0

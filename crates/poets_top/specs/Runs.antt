@@ -1,7 +1,5 @@
 -- What a run answers, and how it ends.
-use Rattle.std.specs.Prelude.{◌≡◌, ℕ, ◌+◌, ◌≤◌, ◌<◌, ◌⊎◌, List, [], ◌∷◌, ◌++◌, codes, length, Option, Some}
-use Rattle.poets_value.specs.Limits.{longest_text}
-use Rattle.poets_io.specs.declared.whole.TheConstants.{BLOCK}
+use Rattle.std.specs.Prelude.{◌≡◌, ℕ, ◌+◌, ◌≤◌, ◌<◌, ◌⊎◌, List, [], length, Option, Some}
 use Rattle.poets_io.specs.Causes.{Rose}
 use Rattle.poets_io.specs.Streams.{GivesAll, LosesFront}
 use Rattle.poets_lex.specs.Table.{Table}
@@ -10,6 +8,7 @@ use Rattle.poets_call.specs.Said.{Statement}
 use Rattle.poets_session.specs.Sessions.{Text, IsSession, IsNoSession}
 use Rattle.poets_session.specs.Refusals.{Refusal, IsRefused}
 use Rattle.poets_session.specs.Texts.{refusal_text}
+use Rattle.poets_opening.specs.Limits.{block, longest, too_long_text}
 use Rattle.poets_words.specs.declared.mode.Mode.{Mode}
 use Rattle.poets_words.specs.declared.mode.Mode.TheVariants as M
 use Rattle.poets_top.specs.Checking.{ChecksBook}
@@ -17,22 +16,11 @@ use Rattle.poets_top.specs.Demonstrating.{IsDemonstration}
 use Rattle.poets_top.specs.Running.{RunsScripts}
 use Rattle.poets_top.specs.Replaying.{ReplaysJournal}
 use Rattle.poets_top.specs.Explaining.{ExplainsJournal}
-use Rattle.poets_top.specs.Writing.{Stream, HasFailed, IsWritten}
+use Rattle.poets_writing.specs.Writing.{Stream, HasFailed, IsWritten}
 use Rattle.poets_top.specs.Tasks.{form_of}
 use Rattle.poets_words.specs.declared.mode.Task.{Task}
 use Rattle.poets_words.specs.declared.mode.Task.TheVariants as T
-use Rattle.poets_top.specs.declared.outcome.TheConstants.{DONE, NO_MEMORY, NO_SESSION, READ_FAULT, TOO_LONG}
-
--- the most bytes of a session
-abbrev pub longest : ℕ
-longest = longest_text
-
--- the most bytes that are read at once
-abbrev pub block : ℕ
-block = BLOCK
-
-abbrev pub too_long_text : List ℕ
-too_long_text = codes "refused: longer than 16777216 bytes" ++ 10 ∷ []
+use Rattle.poets_writing.specs.declared.outcome.TheConstants.{DONE, NO_MEMORY, NO_SESSION, READ_FAULT, TOO_LONG}
 
 -- what a task makes of a session
 abbrev pub IsMade : Task → Table → List Statement → List Entry → List ℕ → Type 0

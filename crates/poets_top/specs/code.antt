@@ -1,5 +1,4 @@
 -- What ties the code to the definitions: invariants of its loops and structs, and what its private functions promise.
 pub mod Sessions
-pub mod Noted
 pub mod Answering
 pub mod Explained

@@ -1,16 +1,15 @@
 //! The word `check`: what a book declares is counted.
 ghost use Rattle.std.specs.Prelude.{◌≡◌, IfOk, string_bytes};
 ghost use Rattle.poets_top.specs.Checking as checking;
-ghost use Rattle.poets_top.specs.Writing.{change};
+ghost use Rattle.poets_writing.specs.Writing.{change};
 ghost use Rattle.poets_top.specs.code.Answering.{AnswersSession};
 ghost use Rattle.poets_top.specs.code.Sessions.{TellsItsBook};
 ghost use Rattle.poets_words.specs.declared.mode.Task.TheVariants as T;
 
-use crate::outcome::{DONE, NO_MEMORY, Outcome, without_history};
-use crate::writing::write_line;
 use poets_io::Sink;
 use poets_session::Session;
 use poets_value::Memory;
+use poets_writing::{DONE, NO_MEMORY, Outcome, without_history, write_line};
 use std::alloc::Global;
 
 // The line of so many templates and reports.

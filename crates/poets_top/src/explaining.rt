@@ -10,18 +10,16 @@ ghost use Rattle.poets_print.specs.Texts.{IsText};
 ghost use Rattle.poets_session.specs.declared.form.Form.TheVariants as F;
 ghost use Rattle.poets_top.specs.Explaining as lines;
 ghost use Rattle.poets_top.specs.Explaining.{TellsWay};
-ghost use Rattle.poets_top.specs.Writing.{change};
+ghost use Rattle.poets_writing.specs.Writing.{change};
 ghost use Rattle.poets_top.specs.code.Answering.{AnswersSession};
 ghost use Rattle.poets_top.specs.code.Explained.{ExplainsAccount, ExplainsAfter};
 ghost use Rattle.poets_top.specs.code.Sessions.{WasRead};
 ghost use Rattle.poets_words.specs.declared.mode.Task.TheVariants as T;
 
-use crate::outcome::{DONE, NO_MEMORY, Outcome, without_history};
-use crate::work::make_calls;
-use crate::writing::write_outcome;
 use poets_engine::{Account, Engine};
 use poets_io::Sink;
 use poets_lex::Names;
+use poets_making::make_calls;
 use poets_open::{Step, next};
 use poets_print::step_text;
 use poets_residue::may_end;
@@ -30,6 +28,7 @@ use poets_syntax::Studied;
 use poets_value::Memory;
 use poets_way::{verify, way_text};
 use poets_words::ContractName;
+use poets_writing::{DONE, NO_MEMORY, Outcome, without_history, write_outcome};
 use std::alloc::Global;
 use std::thread::Threads;
 

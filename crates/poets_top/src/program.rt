@@ -1,30 +1,29 @@
 //! The program's one call.
-ghost use Rattle.std.specs.Prelude.{◌≡◌, ◌≢◌, ◌≤◌, ℕ, List, [], length};
+ghost use Rattle.std.specs.Prelude.{◌≡◌, ◌≢◌, ◌≤◌, ℕ, List, []};
 ghost use Rattle.poets_top.specs.Explaining.{HasExplained};
 ghost use Rattle.poets_top.specs.Promises.{AreNoForm, AskTo, AskToShow, Demonstrates, EndsAsAsked, EndsAsDeserved};
 ghost use Rattle.poets_top.specs.Promises.{IfDone};
 ghost use Rattle.poets_top.specs.Replaying.{HasReplayed};
 ghost use Rattle.poets_top.specs.Running.{HasRun};
-ghost use Rattle.poets_top.specs.Runs.{IsAnswerTo, IsStatusOrMemory, longest};
-ghost use Rattle.poets_top.specs.Writing.{change};
-ghost use Rattle.poets_top.specs.code.Answering.{AnswersEach, EndsTask, HasFault, Writes};
+ghost use Rattle.poets_top.specs.Runs.{IsStatusOrMemory};
+ghost use Rattle.poets_top.specs.Tasks.{form_of};
+ghost use Rattle.poets_top.specs.code.Answering.{AnswersSession, EndsTask};
+ghost use Rattle.poets_top.specs.code.Sessions.{WasRead};
 ghost use Rattle.poets_words.specs.declared.mode.Task.TheVariants as T;
+ghost use Rattle.poets_writing.specs.Writing.{change};
 
 use crate::checking::check;
 use crate::demonstrating::demonstrate;
 use crate::explaining::explain;
-use crate::outcome::{
-    NO_MEMORY, NO_SESSION, Outcome, READ_FAULT, TOO_LONG, USAGE, without_history,
-};
 use crate::replaying::replay;
 use crate::running::run_scripts;
 use crate::tasks::form_of;
-use crate::writing::write_line;
 use poets_clerks::Gate;
-use poets_io::{ReadFault, Sink, Source, read_up_to};
-use poets_session::{SessionFault, fault_text, read};
-use poets_value::LONGEST_TEXT;
+use poets_io::{Sink, Source};
+use poets_opening::open_session;
+use poets_session::Session;
 use poets_words::{Mode, Task, mode_of};
+use poets_writing::{NO_MEMORY, Outcome, USAGE, without_history};
 use std::alloc::Global;
 use std::sync::Wait;
 use std::thread::Threads;
@@ -88,49 +87,28 @@ fn read_and_answer<S: Source, K: Sink, G: Gate + Sync, R: Threads + Wait + Sync>
     ensures ends { EndsTask task.now (change S.left S.faults source.old source.new)
         (change K.held K.faults sink.old sink.new) result }
 {
-    match read_up_to(alloc, source, LONGEST_TEXT) {
-        Ok(text) => answer(rt, alloc, task, text.as_slice(), sink, gate),
-        Err(ReadFault::TooLong) => write_line(
-            alloc,
-            sink,
-            TOO_LONG,
-            "refused: longer than 16777216 bytes\n",
-        ),
-        Err(ReadFault::Failed) => without_history(alloc, READ_FAULT),
-        Err(ReadFault::Memory) => without_history(alloc, NO_MEMORY),
+    match open_session(alloc, source, sink, form_of(task)) {
+        Ok(session) => answer(rt, alloc, task, session, sink, gate),
+        Err(outcome) => outcome,
     }
 }
 
-// Answers a text that was read whole.
+// Answers a session of the task's form.
 fn answer<K: Sink, G: Gate + Sync, R: Threads + Wait + Sync>(
     rt: &R,
     alloc: Global,
     task: &Task,
-    text: &[u8],
+    session: Session,
     sink: &mut K,
     gate: &G,
 ) -> Outcome
-    requires { length text.now ≤ longest }
-    ensures { Writes (IsAnswerTo text.now task.now) (change K.held K.faults sink.old sink.new) result }
+    requires { WasRead (form_of task.now) session }
+    ensures { AnswersSession task.now session (change K.held K.faults sink.old sink.new) result }
 {
-    let session = match read(alloc, text, form_of(task)) {
-        Ok(session) => session,
-        Err(fault) => return refuse(alloc, sink, &fault),
-    };
     match task {
         Task::Check => check(alloc, sink, &session),
         Task::Run => run_scripts(rt, alloc, sink, session, gate),
         Task::Replay => replay(rt, alloc, sink, session),
         Task::Explain(name) => explain(rt, alloc, sink, session, name),
-    }
-}
-
-// Writes the line of a text's first fault.
-fn refuse<K: Sink>(alloc: Global, sink: &mut K, fault: &SessionFault) -> Outcome
-    ensures { AnswersEach (HasFault fault.now) (change K.held K.faults sink.old sink.new) result }
-{
-    match fault_text(alloc, fault) {
-        Ok(line) => write_line(alloc, sink, NO_SESSION, line.as_str()),
-        Err(_) => without_history(alloc, NO_MEMORY),
     }
 }

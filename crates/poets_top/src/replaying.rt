@@ -1,15 +1,14 @@
 //! The word `replay`: the calls of a journal are made.
 ghost use Rattle.poets_session.specs.declared.form.Form.TheVariants as F;
-ghost use Rattle.poets_top.specs.Writing.{change};
+ghost use Rattle.poets_writing.specs.Writing.{change};
 ghost use Rattle.poets_top.specs.code.Answering.{AnswersSession};
 ghost use Rattle.poets_top.specs.code.Sessions.{WasRead};
 ghost use Rattle.poets_words.specs.declared.mode.Task.TheVariants as T;
 
-use crate::outcome::{NO_MEMORY, Outcome, without_history};
-use crate::work::make_calls;
-use crate::writing::write;
 use poets_io::Sink;
+use poets_making::make_calls;
 use poets_session::Session;
+use poets_writing::{NO_MEMORY, Outcome, without_history, write};
 use std::alloc::Global;
 use std::thread::Threads;
 

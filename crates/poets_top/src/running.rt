@@ -1,16 +1,15 @@
 //! The word `run`: the clerks' scripts are made.
 ghost use Rattle.poets_session.specs.declared.form.Form.TheVariants as F;
-ghost use Rattle.poets_top.specs.Writing.{change};
+ghost use Rattle.poets_writing.specs.Writing.{change};
 ghost use Rattle.poets_top.specs.code.Answering.{AnswersSession};
 ghost use Rattle.poets_top.specs.code.Sessions.{WasRead};
 ghost use Rattle.poets_words.specs.declared.mode.Task.TheVariants as T;
 
-use crate::outcome::{NO_MEMORY, Outcome, without_history};
-use crate::sharing::make_scripts;
-use crate::writing::write;
 use poets_clerks::Gate;
 use poets_io::Sink;
+use poets_making::make_scripts;
 use poets_session::Session;
+use poets_writing::{NO_MEMORY, Outcome, without_history, write};
 use std::alloc::Global;
 use std::sync::Wait;
 use std::thread::Threads;

@@ -14,7 +14,7 @@ use Rattle.poets_call.specs.Rules.{book_of_rules, reports_of_rules}
 use Rattle.poets_engine.specs.State.{State}
 use Rattle.poets_engine.specs.declared.accounts.Account.{Account}
 use Rattle.poets_top.specs.Explaining.{Explains, TellsWay, contract_line, next_lines}
-use Rattle.poets_top.specs.code.Noted.{AreNoted}
+use Rattle.poets_making.specs.Noted.{AreNoted}
 
 -- the text tells how many events there are, whether the empty trace performs the residual, what the residual takes
 -- next, and a way; and the book was studied

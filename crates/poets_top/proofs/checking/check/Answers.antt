@@ -3,7 +3,7 @@ use Rattle.poets_call.specs.Calls.{history_of}
 use Rattle.poets_top.specs.Checking.{book_text}
 use Rattle.poets_top.specs.Runs.{IsAnswerTo}
 use Rattle.poets_words.specs.declared.mode.Task.TheVariants as T
-use Rattle.poets_top.proofs.Endings.{IsWritten-line, IsWritten-nothing}
+use Rattle.poets_writing.proofs.Written.{IsWritten-line, IsWritten-nothing}
 use Rattle.poets_top.proofs.checking.check.Goals as goal
 
 pub returns-in-Ok : goal.returns-in-Ok

@@ -5,9 +5,9 @@ use Rattle.poets_demo.specs.Line.{demo_line}
 use Rattle.poets_demo.specs.Text.{demo_text}
 use Rattle.poets_session.specs.declared.form.Form.TheVariants as F
 use Rattle.poets_session.specs.Sessions.{IsSession}
-use Rattle.poets_top.proofs.Fewness.{scripts_few-held}
+use Rattle.poets_making.proofs.Fewness.{scripts_few-held}
 use Rattle.poets_top.proofs.Owning.{IsHistoryOf-read}
-use Rattle.poets_top.proofs.Taking.{session_taken, session_whole}
+use Rattle.poets_making.proofs.Taking.{session_taken, session_whole}
 use Rattle.poets_top.proofs.demonstrating.demonstration.Goals as goal
 
 pub read-requires : goal.read-requires

@@ -5,11 +5,11 @@ use Rattle.poets_session.specs.Sessions.{calls_in, journal_of}
 use Rattle.poets_session.proofs.LawsFitting.{read_written, journal_written}
 use Rattle.poets_top.specs.Runs.{IsAnswerTo}
 use Rattle.poets_top.specs.code.Explained.{ExplainsAfter}
-use Rattle.poets_top.specs.code.Noted.{AreTaken}
+use Rattle.poets_making.specs.Noted.{AreTaken}
 use Rattle.poets_words.specs.declared.mode.Task.TheVariants as T
-use Rattle.poets_top.proofs.Endings.{IsWritten-nothing, IsWritten-outcome}
+use Rattle.poets_writing.proofs.Written.{IsWritten-nothing, IsWritten-outcome}
 use Rattle.poets_top.proofs.Owning.{IsReplayOf-made}
-use Rattle.poets_top.proofs.Taking.{journal_taken, AreTaken-code, whole_rules}
+use Rattle.poets_making.proofs.Taking.{journal_taken, AreTaken-code, whole_rules}
 use Rattle.poets_top.proofs.Telling.{explanation_read}
 use Rattle.poets_top.proofs.explaining.explain.Goals as goal
 

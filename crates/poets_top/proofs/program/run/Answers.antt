@@ -2,7 +2,7 @@ use Rattle.std.proofs.Common.{map, refl, ap}
 use Rattle.std.specs.Prelude.{string_bytes}
 use Rattle.poets_call.specs.Calls.{history_of}
 use Rattle.poets_top.specs.Runs.{Ends}
-use Rattle.poets_top.specs.Writing.{stream}
+use Rattle.poets_writing.specs.Writing.{stream}
 use Rattle.poets_words.specs.declared.mode.Mode.TheVariants as M
 use Rattle.poets_words.specs.declared.mode.Task.TheVariants as T
 use Rattle.poets_top.proofs.Endings.{asked_of, Ends-asked, Ends-explained, Ends-nothing, Ends-replayed, Ends-run, Ends-shown, Ends-status}

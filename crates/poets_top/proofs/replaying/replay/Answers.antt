@@ -3,11 +3,11 @@ use Rattle.poets_call.specs.Calls.{history_of}
 use Rattle.poets_session.specs.Sessions.{calls_in, journal_of}
 use Rattle.poets_session.proofs.LawsFitting.{read_written, journal_written}
 use Rattle.poets_top.specs.Runs.{IsAnswerTo}
-use Rattle.poets_top.specs.code.Noted.{AreTaken}
+use Rattle.poets_making.specs.Noted.{AreTaken}
 use Rattle.poets_words.specs.declared.mode.Task.TheVariants as T
-use Rattle.poets_top.proofs.Endings.{IsWritten-nothing}
+use Rattle.poets_writing.proofs.Written.{IsWritten-nothing, is_written}
 use Rattle.poets_top.proofs.Owning.{IsReplayOf-made}
-use Rattle.poets_top.proofs.Taking.{journal_taken, AreTaken-code, whole_rules}
+use Rattle.poets_making.proofs.Taking.{journal_taken, AreTaken-code, whole_rules}
 use Rattle.poets_top.proofs.replaying.replay.Goals as goal
 
 pub make_calls-requires-clause-whole : goal.make_calls-requires-clause-whole
@@ -29,10 +29,12 @@ make_calls-requires-clause-taken g c = λ _ _.
 pub returns-in-Ok : goal.returns-in-Ok
 returns-in-Ok g c = λ text statements session.
     let calls = c.in-Ok.ensures.calls ∙ ap calls_in c.as_slice.ensures ∙ session.holds.journal in
-    c.write.ensures text T.Replay (IsAnswerTo.Made session.is (record {
+    is_written (IsAnswerTo text T.Replay) _ _ c.args.session.names c.write.result.status _ (history_of c.in-Ok.history.items) (ap (λ l. history_of l.items) c.write.ensures.history)
+    (IsAnswerTo.Made session.is (record {
       history = IsReplayOf-made c.args.session.rules statements (history_of c.in-Ok.history.items) session.holds.book session.holds.reports c.in-Ok.ensures.right calls;
       lines = refl;
     }))
+    c.write.ensures.lines
 
 pub returns : goal.returns
 returns g c = λ text statements session.

@@ -1,0 +1,3 @@
+-- What ties the code to the definitions: what its private functions promise.
+pub mod Made
+pub mod Ended

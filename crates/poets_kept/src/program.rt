@@ -1,0 +1,99 @@
+//! The program's one call with a disk.
+ghost use Rattle.std.specs.Prelude.{◌≡◌, ◌≤◌, ℕ, List, []};
+ghost use Rattle.poets_top.specs.Explaining.{HasExplained};
+ghost use Rattle.poets_top.specs.Promises.{AskTo, AskToShow, Demonstrates, EndsAsAsked, EndsAsDeserved, IfDone};
+ghost use Rattle.poets_top.specs.Replaying.{HasReplayed};
+ghost use Rattle.poets_top.specs.Running.{HasRun};
+ghost use Rattle.poets_top.specs.Runs.{IsStatusOrMemory};
+ghost use Rattle.poets_words.specs.declared.mode.Task.TheVariants as T;
+ghost use Rattle.poets_writing.specs.Writing.{change};
+ghost use Rattle.poets_disk.specs.Disks.{GoesOn};
+ghost use Rattle.poets_kept.specs.Keeping.{HasKept};
+ghost use Rattle.poets_kept.specs.Promises.{AreNoKeptForm, DeservesKeeping, DeservesRecovering, EndsAsKept};
+ghost use Rattle.poets_kept.specs.Promises.{EndsAsRecovered, EndsDeserved, IfKept, outcome_of};
+ghost use Rattle.poets_kept.specs.Recovering.{HasRecovered};
+ghost use Rattle.poets_kept.specs.Words.{AskForJournal, AskToKeep, AskToRecover};
+
+use crate::keeping::keep;
+use crate::outcome::{KeptOutcome, unstored};
+use crate::recovering::recover_journal;
+use crate::words::{JournalTask, journal_task};
+use poets_clerks::Gate;
+use poets_disk::Disk;
+use poets_io::{Sink, Source};
+use poets_journal::laws::texts_of_a_file;
+use poets_top::run;
+use poets_writing::{DONE, USAGE};
+use std::alloc::Global;
+use std::sync::Wait;
+use std::thread::Threads;
+
+/// Does all that `run` does, and with the words `keep` and `recover` what needs a disk. `keep` runs a session of clerks
+/// and puts each call into the journal on the disk. Over a disk that held no call, an image at any moment of the run
+/// holds the first calls of a right history; at its end it holds the stored ones, whose lines alone are written, and at
+/// most one more. `recover` makes the calls of such a journal under a book, and writes their history.
+///
+/// Other words do not touch the disk. The words and the statuses are those of `docs/LANGUAGE.md`, "Words and statuses";
+/// what is asked of a disk is that of `docs/DEFINITIONS.md`, "Disks and journals". Of a disk that does not tell its
+/// bytes, as a file of the operating system does not, the clauses say nothing but what its count of faults tells, and,
+/// with the statuses 8 and 9 and with `recover`, that there are some texts for which the run is right.
+pub fn run_kept<
+    S: Source,
+    K: Sink,
+    G: Gate + Sync,
+    D: Disk + Drop + Send,
+    R: Threads + Wait + Sync,
+>(
+    rt: &R,
+    alloc: Global,
+    words: &[String],
+    source: &mut S,
+    sink: &mut K,
+    gate: &G,
+    disk: D,
+) -> KeptOutcome<D>
+    ensures usage { result.status ≡ USAGE → AreNoKeptForm words.now }
+    ensures no_form { AreNoKeptForm words.now → IsStatusOrMemory USAGE result.status
+        × source.new ≡ source.old × sink.new ≡ sink.old × result.history.items ≡ [] }
+    ensures ends { EndsAsAsked words.now (change S.left S.faults source.old source.new)
+        (change K.held K.faults sink.old sink.new) (outcome_of result) }
+    ensures has_run { AskTo words.now T.Run → IfDone (outcome_of result)
+        (HasRun (S.left source.old) (S.left source.new) (K.held sink.old) (K.held sink.new)) }
+    ensures has_replayed { AskTo words.now T.Replay → IfDone (outcome_of result)
+        (HasReplayed (S.left source.old) (S.left source.new) (K.held sink.old) (K.held sink.new)) }
+    ensures has_explained { (name : List ℕ) → AskTo words.now (T.Explain name) → IfDone (outcome_of result)
+        (HasExplained name (S.left source.old) (S.left source.new) (K.held sink.old) (K.held sink.new)) }
+    ensures has_demonstrated { (sales : ℕ) → AskToShow words.now sales →
+        Demonstrates sales source.old source.new (K.held sink.old) (K.held sink.new) (outcome_of result) }
+    ensures status { EndsAsDeserved words.now (change S.left S.faults source.old source.new)
+        (change K.held K.faults sink.old sink.new) (outcome_of result) }
+    ensures later { (S.faults source.old ≤ S.faults source.new) × (K.faults sink.old ≤ K.faults sink.new)
+        × (D.faults disk ≤ D.faults result.disk) }
+    ensures time { GoesOn (D.seen disk) (D.seen result.disk) }
+    // Other words do not touch the disk.
+    ensures untouched { ¬ (AskForJournal words.now) → (result.disk ≡ disk) × (result.stored ≡ 0) }
+    ensures keeps { AskToKeep words.now → EndsAsKept D.seen D.faults (change S.left S.faults source.old source.new)
+        (change K.held K.faults sink.old sink.new) disk result }
+    ensures has_kept { AskToKeep words.now → IfKept result
+        (HasKept (S.left source.old) (S.left source.new) (K.held sink.old) (K.held sink.new)
+        (D.seen disk) (D.seen result.disk)) }
+    ensures recovers { AskToRecover words.now →
+        EndsAsRecovered D.seen D.faults (change S.left S.faults source.old source.new)
+        (change K.held K.faults sink.old sink.new) disk result }
+    ensures has_recovered { AskToRecover words.now → IfKept result
+        (HasRecovered (S.left source.old) (S.left source.new) (K.held sink.old) (K.held sink.new) (D.seen disk)) }
+    ensures keep_status { AskToKeep words.now → EndsDeserved DeservesKeeping
+        (change S.left S.faults source.old source.new) (change K.held K.faults sink.old sink.new)
+        (D.seen disk) (D.faults disk) (D.faults result.disk) result.status }
+    ensures recover_status { AskToRecover words.now → EndsDeserved DeservesRecovering
+        (change S.left S.faults source.old source.new) (change K.held K.faults sink.old sink.new)
+        (D.seen disk) (D.faults disk) (D.faults result.disk) result.status }
+{
+    // A file holds one list of texts alone, and a damaged one holds none.
+    texts_of_a_file();
+    match journal_task(words) {
+        Some(JournalTask::Keep) => keep(rt, alloc, source, sink, gate, disk),
+        Some(JournalTask::Recover) => recover_journal(rt, alloc, source, sink, disk),
+        None => unstored(run(rt, alloc, words, source, sink, gate), disk),
+    }
+}

@@ -1,0 +1,4 @@
+pub mod Limits
+pub mod Unread
+pub mod Opening
+pub mod code

@@ -1,0 +1,9 @@
+pub mod Renamed
+pub mod RenamedTypes
+pub mod RenamedTexts
+pub mod Relexed
+pub mod Moved
+pub mod Rereading
+pub mod BookNames
+pub mod Sessions
+pub mod Fronts
