@@ -72,7 +72,7 @@ def whole_lines(out):
     return out[:out.rfind(b"\n") + 1]
 
 
-def is_front(session, out):
+def is_prefix(session, out):
     """Whether these are the first lines of a history of the session."""
     return is_legal(out, False, EIGHT) if session.whole is None else session.whole.startswith(out)
 
@@ -84,11 +84,11 @@ def is_whole(session, ran):
 
 
 def is_recovered(session, printed, least, most):
-    """Whether the journal in the current folder gives the lines of a front of the session's history, at least and at
+    """Whether the journal in the current folder gives the first lines of a history of the session's history, at least and at
     most so many, which begins with what was printed."""
     status, lines = recovered(session.book, journal() or b"")
     right = is_so(run("recover", session.book), status, lines) and (status, whole_lines(lines)) == (0, lines)
-    return right and lines.startswith(printed) and least <= lines.count(b"\n") <= most and is_front(session, lines)
+    return right and lines.startswith(printed) and least <= lines.count(b"\n") <= most and is_prefix(session, lines)
 
 
 def are_stored_first(calls, found=b""):
@@ -107,7 +107,7 @@ def is_refused_so(session, ran, calls):
     else:
         status, lines = 7, stored
     printed = whole_lines(ran.out)
-    return (is_so(ran, status, ran.out) and printed.count(b"\n") == lines and is_front(session, printed)
+    return (is_so(ran, status, ran.out) and printed.count(b"\n") == lines and is_prefix(session, printed)
             and all(call.kind == "p" for call in after) and (is_journal or stored == session.count)
             and (status == 5 or printed == ran.out) and are_stored_first(calls)
             and is_recovered(session, printed, stored, min(stored + 1, session.count)))

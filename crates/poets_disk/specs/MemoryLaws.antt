@@ -3,7 +3,8 @@ use Rattle.std.specs.Prelude.{◌≡◌, ℕ, List, [], ◌∷◌, length, take,
 use mathlib.Core.Path.{sym, subst, ap}
 use mathlib.Core.Logic.{inl}
 use Rattle.poets_disk.specs.Disks.{MayLeave}
-use Rattle.poets_disk.specs.Memory.{DiskCall, wrote, failed_write, synced, failed_sync, MemoryFile, held_after, held_by, left_after, left_by, seen_of}
+use Rattle.poets_disk.specs.Memory.{DiskCall, wrote, failed_write, synced, failed_sync, MemoryFile}
+use Rattle.poets_disk.specs.Memory.{held_after, held_by, left_after, left_by, seen_of}
 
 pub held_left : (held : List ℕ) (left : List ℕ → Type 0) (calls : List DiskCall) → left held
     → left_by held left calls (held_by held calls)

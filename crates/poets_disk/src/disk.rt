@@ -8,7 +8,7 @@ use poets_io::Failed;
 
 /// A disk with one file, with a clock and a count of faults that never fall.
 ///
-/// Until a successful sync a crash may leave any bytes where was written since the last one.
+/// Until the next successful sync, a crash may leave any bytes in the ranges that were written since the last one.
 pub trait Disk {
     /// The bytes that a read gives, where they are told, and what a crash may leave.
     ghost seen: { Self → Seen };

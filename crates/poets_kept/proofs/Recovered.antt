@@ -11,8 +11,8 @@ use Rattle.poets_call.specs.Histories.{IsRightHistory}
 use Rattle.poets_call.specs.Plain.{Entry}
 use Rattle.poets_call.specs.Rules as R
 use Rattle.poets_call.specs.Said.{Statement}
-use Rattle.poets_disk.specs.Disks.{During, GoesOn, Seen}
-use Rattle.poets_journal.specs.Starts.{HasStartCause, OnDamaged, StaysOrIsShort, disk_of}
+use Rattle.poets_disk.specs.Disks.{Seen}
+use Rattle.poets_journal.specs.Starts.{HasStartCause, OnDamaged, disk_of}
 use Rattle.poets_journal.specs.Texts.{Texts}
 use Rattle.poets_journal.specs.declared.start.StartFault.{StartFault}
 use Rattle.poets_journal.specs.declared.start.StartFault.TheVariants as Start
@@ -41,11 +41,6 @@ line_told held faults old new (Err e) text answer status is told untold = inr (u
 -- ---- a start
 
 module _ {D : Type 0} (seen : D → Seen) (faults : D → ℕ) (disk : D) where
-  -- nothing else was done
-  pub only_started : (r : Result (Started D) (StartFault D)) (disk' : D) → disk_of r ≡ disk' → GoesOn (seen disk) (seen (disk_of r)) →
-      During (seen disk) (seen (disk_of r)) (StaysOrIsShort (seen disk) (seen (disk_of r))) → OnlyStarted (seen disk) (seen disk')
-  only_started r disk' same time during = subst (λ d. OnlyStarted (seen disk) (seen d)) same (record { time = time; during = during })
-
   -- a record is damaged
   pub damage_found : (r : Result (Started D) (StartFault D)) (disk' : D) (number : ℕ) → r ≡ Err (Start.Damaged disk' number) → OnDamaged r (λ n. FileIsDamaged (seen disk) n) →
       OnDamaged r (λ n. (seen (disk_of r)).bytes ≡ (seen disk).bytes) → HasStartCause (faults disk) (faults (disk_of r)) r → FoundDamage (seen disk) (seen disk') (faults disk) (faults disk') number

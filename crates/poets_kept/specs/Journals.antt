@@ -29,8 +29,8 @@ pub record OnlyStarted (disk disk' : Seen) : Type 0 where
   pub time : GoesOn disk disk'
   pub during : During disk disk' (StaysOrIsShort disk disk')
 
--- a journal was started without a fault on a disk that held these texts: whatever a crash leaves now holds them too, and
--- a read gives what it gave, but for a closed gate in place of at most one byte
+-- a journal was started without a fault on a disk that held these texts: whatever a crash leaves now holds them too,
+-- and a read gives what it gave, but for a closed gate in place of at most one byte
 pub record HeldTexts (disk disk' : Seen) (faults faults' : ℕ) (texts : Texts) : Type 0 where
   pub held : FileHolds disk texts
   pub all : AllHold disk' texts

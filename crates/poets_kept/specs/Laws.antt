@@ -11,6 +11,8 @@ use Rattle.poets_reread.specs.Reread.{AreReread}
 use Rattle.poets_session.specs.declared.form.Form.TheVariants as F
 use Rattle.poets_session.specs.Places.{most_commands, most_reports, most_templates}
 use Rattle.poets_session.specs.Sessions.{Text, IsSession}
+use Rattle.poets_syntax.specs.Spread.{largest}
+use Rattle.poets_syntax.specs.Width.{widest}
 use Rattle.poets_writing.specs.declared.outcome.TheConstants.{DONE, NO_MEMORY, NO_SESSION, READ_FAULT, TOO_LONG, USAGE}
 use Rattle.poets_writing.specs.declared.outcome.TheConstants.{WRITE_FAULT}
 use Rattle.poets_kept.specs.Journals.{texts_of}
@@ -25,12 +27,12 @@ StatusesAre =
 
 -- the limits of a session: bytes of its text, clerks, templates, reports and commands; sales of a demonstration; open
 -- brackets and operators of a statement, and open brackets of one that is read from a journal, whose texts have at
--- most so many bytes
+-- most so many bytes; the size and the spread of a contract that is kept
 abbrev pub LimitsAre : Type 0
 LimitsAre =
     (longest_text ≡ 16_777_216) × (most_clerks ≡ 64) × (most_templates ≡ 256) × (most_reports ≡ 256)
     × (most_commands ≡ 65_536) × (most_sales ≡ 1_000) × (most_open ≡ 200) × (most_operators ≡ 1_000)
-    × (most_open_stored ≡ 201) × (most_stored ≡ 4_000_000_000)
+    × (most_open_stored ≡ 201) × (most_stored ≡ 4_000_000_000) × (largest ≡ 1_000) × (widest ≡ 4_096)
 
 -- the texts of a session's calls, kept in whatever order, have less than 1,400,000,000 bytes together
 abbrev pub KeptTextsAreFew : Type 0

@@ -99,8 +99,8 @@ pub data DeservesRecovering (text : Text) (file : List ℕ) : (status : ℕ) →
       OfSession F.Book text (λ names statements. (number : ℕ) × IsDamaged file number) →
       DeservesRecovering text file DAMAGED
 
--- where source and disk tell their bytes, and no count of faults rose, the run ends with the status that it deserves, or
--- with that of want of memory
+-- where source and disk tell their bytes, and no count of faults rose, the run ends with the status that it deserves,
+-- or it runs out of memory
 abbrev pub EndsDeserved :
     (Deserves : Text → List ℕ → ℕ → Type 0) → (source sink : Change) → Seen → (faults faults' : ℕ) → (status : ℕ) →
     Type 0

@@ -9,8 +9,8 @@ use Rattle.poets_recover.specs.Stored.{AreStoredCalls, IsRefusedText, length_of_
 -- texts that are calls of a book, and have no more bytes than the most, are not refused
 abbrev pub CallsAreNotRefused : Type 0
 CallsAreNotRefused =
-    (book : Book) (reports : List Report) (names after : Table) (texts : List (List ℕ)) (calls : List Call) (number : ℕ) →
-    AreStoredCalls book reports names texts calls after → length_of_all texts ≤ most_stored →
+    (book : Book) (reports : List Report) (names after : Table) (texts : List (List ℕ)) (calls : List Call) →
+    (number : ℕ) → AreStoredCalls book reports names texts calls after → length_of_all texts ≤ most_stored →
     ¬ (IsRefusedText book reports names texts number)
 
 -- how many bytes the texts of a journal have together at most

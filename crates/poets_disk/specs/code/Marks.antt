@@ -1,5 +1,6 @@
 -- The calls of a disk in memory as they are kept: what each was, and all bytes that were written, piece after piece.
-use Rattle.std.specs.Prelude.{◌≡◌, ◌≢◌, ℕ, ◌+◌, ◌≤◌, ◌⊎◌, List, [], ◌∷◌, ◌++◌, length, take, drop, All, vec_len, vec_capacity}
+use Rattle.std.specs.Prelude.{◌≡◌, ◌≢◌, ℕ, ◌+◌, ◌≤◌, ◌⊎◌, vec_len, vec_capacity}
+use Rattle.std.specs.Prelude.{List, [], ◌∷◌, ◌++◌, length, take, drop, All}
 use Rattle.poets_value.specs.Limits.{longest_text}
 use Rattle.poets_disk.specs.Memory.{DiskCall, wrote, failed_write, synced, failed_sync, held_by, held_after, most_calls}
 use Rattle.poets_disk.specs.Kept.{calls_of}

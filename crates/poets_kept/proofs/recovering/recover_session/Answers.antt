@@ -5,7 +5,8 @@ use Rattle.poets_journal.specs.Journals.{texts_of}
 use Rattle.poets_journal.specs.Starts.{disk_of}
 use Rattle.poets_writing.specs.Writing.{stream}
 use Rattle.poets_kept.specs.Journals.{HeldTexts, FoundDamage, OnlyStarted, damaged_line}
-use Rattle.poets_kept.proofs.Recovered.{book_damaged, book_recovered, book_unread, book_unstarted, damage_found, disk_failed, line_told, only_started}
+use Rattle.poets_kept.proofs.Kept.{only_started}
+use Rattle.poets_kept.proofs.Recovered.{book_damaged, book_recovered, book_unread, book_unstarted, damage_found, disk_failed, line_told}
 use Rattle.poets_kept.proofs.recovering.recover_session.Goals as goal
 
 pub returns-in-Ok-clause-recovers : goal.returns-in-Ok-clause-recovers
