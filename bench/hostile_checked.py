@@ -6,7 +6,7 @@ Usage: bench/hostile_checked.py [N..]   (231 and 232; each takes some minutes)
 For each N `rt try` compiles the program so that it stops at an index out of bounds, an overflow, a failed unwrap or a
 bad access, and refuses its Nth allocation. It is run on 141 journals. Each has one name more than the one before, so
 that what the Nth allocation is for moves from behind the end of the run to the names. It must end with the whole
-history, or with status 3 and a front of its lines. It ends the script with status 1 if it does not.
+history, or with status 3 and a prefix of its lines. It ends the script with status 1 if it does not.
 """
 import pathlib
 import re
@@ -60,15 +60,15 @@ def answers(number):
 
 
 def is_right(answer):
-    """Whether the run ended with the whole history, or with want of memory and a front of its lines."""
+    """Whether the run ended with the whole history, or with want of memory and a prefix of its lines."""
     found = ANSWER.fullmatch(answer)
     if not found:
         return False
     printed, rest = found.groups()
     if "run=ended status=0 " in rest:
         return printed == WHOLE
-    fronts = ["".join(WHOLE.splitlines(keepends=True)[:count]) for count in range(WHOLE.count("\n"))]
-    return "run=ended status=3 " in rest and "poets: out of memory\n" in rest and printed in fronts
+    prefixes = ["".join(WHOLE.splitlines(keepends=True)[:count]) for count in range(WHOLE.count("\n"))]
+    return "run=ended status=3 " in rest and "poets: out of memory\n" in rest and printed in prefixes
 
 
 def main():

@@ -101,7 +101,7 @@ def threads():
 
 
 def killed(seed):
-    """64 clerks, killed after some time: what stands in the file is a front of a legal history, in whole lines."""
+    """64 clerks, killed after some time: what stands in the file is a prefix of a legal history, in whole lines."""
     rng, scripts = random.Random(seed), scripts_of(seed)
     source, sink = held(clerks.session(scripts).encode()), held()
     child = os.posix_spawn(
@@ -112,7 +112,7 @@ def killed(seed):
     os.waitpid(child, 0)
     os.close(source)
     out = holds(sink)
-    yield None if is_legal(out, False, scripts) else f"killed, seed {seed}: no front of a history in {len(out)} bytes"
+    yield None if is_legal(out, False, scripts) else f"killed, seed {seed}: no prefix of a history in {len(out)} bytes"
 
 
 def kills():

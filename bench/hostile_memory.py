@@ -93,16 +93,16 @@ REFUSALS = {
 
 
 def is_legal(out, is_whole, scripts=None):
-    """Whether this is a history of the scripts, or a front of one: whole lines, each clerk's commands in order, and by
+    """Whether this is a history of the scripts, or a prefix of one: whole lines, each clerk's commands in order, and by
     `poets replay` the same lines."""
     scripts = scripts or SCRIPTS
     history = out.decode()
     own = clerks.own_commands(history)
-    fronts = all(scripts[clerk - 1][:len(commands)] == commands for clerk, commands in own.items())
+    prefixes = all(scripts[clerk - 1][:len(commands)] == commands for clerk, commands in own.items())
     counts = sum(map(len, own.values())), sum(map(len, scripts))
     whole_lines = history.count("\n") == counts[0] and (not history or history.endswith("\n"))
     every = sorted(os.sched_getaffinity(0))
-    return (fronts and whole_lines and (counts[0] == counts[1] or not is_whole)
+    return (prefixes and whole_lines and (counts[0] == counts[1] or not is_whole)
             and clerks.is_replayed(history, shared["program"], every))
 
 
@@ -112,8 +112,8 @@ def is_whole(ran, name):
     return is_so(ran, 0, whole) if whole else is_so(ran, 0, ran.out) and is_legal(ran.out, True)
 
 
-def is_front(ran, name):
-    """Whether the run of the session ended with the whole result, or with want of memory and a front of its lines."""
+def is_prefix(ran, name):
+    """Whether the run of the session ended with the whole result, or with want of memory and a prefix of its lines."""
     _, _, whole = SESSIONS[name]
     if whole is None:
         told = MEMORY if ran.status else b""
@@ -121,8 +121,8 @@ def is_front(ran, name):
     if ran.status == 0:
         return is_so(ran, 0, whole)
     lines = [] if name in ("demo 1", "a book", "an explanation") else whole.splitlines(keepends=True)
-    fronts = [b"".join(lines[:count]) for count in range(len(lines) + 1)]
-    return ran.out in fronts and is_so(ran, 3, ran.out)
+    prefixes = [b"".join(lines[:count]) for count in range(len(lines) + 1)]
+    return ran.out in prefixes and is_so(ran, 3, ran.out)
 
 
 def is_refused(ran, name):
@@ -138,7 +138,7 @@ def refused_growths(name, on):
         ran = run_refusing("growth", at, words, text, on=on)
         if not ran.refused:
             break
-        right = is_front(ran, name) if name in SESSIONS else is_refused(ran, name)
+        right = is_prefix(ran, name) if name in SESSIONS else is_refused(ran, name)
         yield None if right else told_wrong(f"{name}, growth {at}{' and all after' if on else ''}", ran)
 
 
@@ -156,11 +156,11 @@ def limited_space(name, steps, offset, stride):
     least = least_space()
     for more in steps[offset::stride]:
         ran = run(words, text, limits={resource.RLIMIT_AS: least + more})
-        yield None if is_front(ran, name) else told_wrong(f"{name}, {least + more} bytes of address space", ran)
+        yield None if is_prefix(ran, name) else told_wrong(f"{name}, {least + more} bytes of address space", ran)
 
 
 def more_than_memory(space):
-    """Tallies whose rows together take more than this space: the lines that are written are a front of the history."""
+    """Tallies whose rows together take more than this space: the lines that are written are a prefix of the history."""
     tallies = COMMANDS - EVENTS - 1
     events = [f"transmit c ann bob {amount} Oil @2006-01-01" for amount in range(1, EVENTS + 1)]
     commands = ["register c = any()", *events] + tallies * ["tally each()"]

@@ -1,7 +1,7 @@
 #!/usr/bin/env python3
 """Times calls at the turnstile: 65,536 calls of a machine that adds ones, shared by 1, 2, 8 and 64 clerks in threads.
 
-Usage: bench/turns.py [PROGRAM]      (PROGRAM: crates/poets_counting/out/poets_counting, made by `rt run -- 8 24` in
+Usage: bench/turns.py [PROGRAM]      (PROGRAM: crates/poets_counting/out/poets_counting, made by `rt run -- 64 6400` in
                                       crates/poets_counting)
 
 Beside it the same calls go through locks in plain Rust, bench/turns.rs, which this script builds by rustc: a `Mutex` of

@@ -59,12 +59,63 @@ fn other_words_read_and_write_nothing(rt: HostRuntime) -> Result<(), Fail> {
     no_form(&rt, alloc, &["explain", "a", "b"])
 }
 
-// The number, how many entries there are, and what is written.
-const DEMONSTRATIONS: [(&str, usize, &str); 2] = [
+// The number, how many entries there are, and what is written: for 2 sales, and for each number of them at which a
+// number in the text gets another digit.
+const DEMONSTRATIONS: [(&str, usize, &str); 12] = [
     (
         "2",
         88,
         "demo 2: entries 88, registered 16, recorded 32, ended 16, refused 16, paid 72\n",
+    ),
+    (
+        "1",
+        48,
+        "demo 1: entries 48, registered 8, recorded 16, ended 8, refused 8, paid 24\n",
+    ),
+    (
+        "9",
+        368,
+        "demo 9: entries 368, registered 72, recorded 144, ended 72, refused 72, paid 1080\n",
+    ),
+    (
+        "10",
+        408,
+        "demo 10: entries 408, registered 80, recorded 160, ended 80, refused 80, paid 1320\n",
+    ),
+    (
+        "33",
+        1_328,
+        "demo 33: entries 1328, registered 264, recorded 528, ended 264, refused 264, paid 13464\n",
+    ),
+    (
+        "34",
+        1_368,
+        "demo 34: entries 1368, registered 272, recorded 544, ended 272, refused 272, paid 14280\n",
+    ),
+    (
+        "99",
+        3_968,
+        "demo 99: entries 3968, registered 792, recorded 1584, ended 792, refused 792, paid 118800\n",
+    ),
+    (
+        "100",
+        4_008,
+        "demo 100: entries 4008, registered 800, recorded 1600, ended 800, refused 800, paid 121200\n",
+    ),
+    (
+        "333",
+        13_328,
+        "demo 333: entries 13328, registered 2664, recorded 5328, ended 2664, refused 2664, paid 1334664\n",
+    ),
+    (
+        "334",
+        13_368,
+        "demo 334: entries 13368, registered 2672, recorded 5344, ended 2672, refused 2672, paid 1342680\n",
+    ),
+    (
+        "999",
+        39_968,
+        "demo 999: entries 39968, registered 7992, recorded 15984, ended 7992, refused 7992, paid 11988000\n",
     ),
     (
         "1000",

@@ -216,6 +216,13 @@ struct SmallAdder {
     room: usize,
 }
 
+// Gives up the processor so often that all who wait sleep by then: each looks 1,100 times at most before it does.
+fn hold() {
+    for _ in 0..20_000 {
+        thread::yield_now();
+    }
+}
+
 impl Machine for SmallAdder {
     type Call = u64;
 
@@ -243,6 +250,7 @@ impl Machine for SmallAdder {
         call: &Arc<u64>,
     ) -> Result<Sum, Memory> {
         if self.adder.entries().len() >= self.room {
+            hold();
             return Err(Memory);
         }
         self.adder.turn(rt, alloc, clerk, call)
@@ -262,6 +270,23 @@ fn the_machine_comes_back_out_of_memory(rt: HostRuntime) -> Result<(), Fail> {
     let alloc = rt.alloc();
     let amount = Arc::new(alloc, 5)?;
     let scripts = scripts(alloc, 8, 10, &amount)?;
+    let adder = SmallAdder {
+        adder: Adder::new(alloc, 9),
+        room: 25,
+    };
+    let MadeOf { machine, replies } = attempt_history(&rt, alloc, adder, &scripts, &NoGate);
+    assert!(rt; replies.is_none());
+    assert_eq!(rt; machine.adder.entries().len(), 25);
+    assert_eq!(rt; machine.adder.sum(), 125);
+    Ok(())
+}
+
+// The first turn that runs out of memory is held until the nine others sleep; each has to be woken by the one before.
+#[test]
+fn nine_who_sleep_are_woken_when_memory_runs_out(rt: HostRuntime) -> Result<(), Fail> {
+    let alloc = rt.alloc();
+    let amount = Arc::new(alloc, 5)?;
+    let scripts = scripts(alloc, 10, 10, &amount)?;
     let adder = SmallAdder {
         adder: Adder::new(alloc, 9),
         room: 25,
