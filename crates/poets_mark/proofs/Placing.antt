@@ -2,6 +2,7 @@
 use Rattle.std.proofs.Common.{◌≡◌, ℕ, zero, suc, ◌+◌, ◌-◌, ◌<◌, ◌≤◌, Bool, true, false, List, [], ◌∷◌, ◌++◌, Option, None, Some, IfSome, inl, inr, length, take, drop, get_or, refl, sym, ap, subst, ◌∙◌, arith}
 use Rattle.std.specs.Prelude.{unwrap_or, if◌then◌else◌}
 use Rattle.std.proofs.lemmas.List.{append-nil, take-append-drop, take_all, take_more, drop_more}
+use Rattle.poets_value.specs.declared.value.Name.{Name}
 use Rattle.poets_lex.specs.declared.token.Token.{Token}
 use Rattle.poets_lex.specs.declared.fault.LexFault.{LexFault}
 use Rattle.poets_lex.specs.declared.fault.LexFault.TheVariants as L
@@ -10,6 +11,8 @@ use Rattle.poets_lex.specs.Lexes.{FirstFault}
 use Rattle.poets_lex.specs.Laws.{Stand}
 use Rattle.poets_lex.proofs.Standing.{standing}
 use Rattle.poets_parse.specs.declared.fault.SyntaxFault.TheVariants as F
+use Rattle.poets_types.specs.declared.cause.TypeCause.{TypeCause}
+use Rattle.poets_types.specs.declared.cause.TypeCause.TheVariants as T
 use Rattle.poets_call.specs.Said.{Statement}
 use Rattle.poets_session.specs.declared.form.Form.{Form}
 use Rattle.poets_session.specs.declared.fault.SessionCause.{SessionCause}
@@ -18,7 +21,8 @@ use Rattle.poets_session.specs.Pieces.{Piece, is_end}
 use Rattle.poets_session.specs.Sessions.{Text}
 use Rattle.poets_session.specs.Refusals.{Refusal, BadByte, LongNumber, LongName, refusal_at_byte, IsUnread, IsUnreadable, AreRefused, IsRefused}
 use Rattle.poets_session.specs.Causes.{IsCauseOf}
-use Rattle.poets_mark.specs.Places.{ahead_of_end, after_end, statement_tokens, first_place, byte_of, IsBeginOf, IsWithin, IsPlaceOf}
+use Rattle.poets_mark.specs.Places.{ahead_of_end, after_end, statement_tokens, first_place, byte_of, IsBeginOf, IsWithin, IsNamePlace, IsTypePlace, IsPlaceOf}
+use Rattle.poets_mark.proofs.Named.{at_token}
 
 -- ---- the end of a statement
 
@@ -102,6 +106,20 @@ within_inside : (text : Text) (number place : ℕ) → IsWithin text number plac
 within_inside text number place b =
     or_end text place (first_place (drop b.count (statement_tokens (number - 1) b.tokens))) (later_inside b.names text 0 b.count (number - 1) b.tokens (standing b.lexed text [] refl refl)) b.here
 
+name_inside : (text : Text) (number : ℕ) (x : Name) (place : ℕ) → IsNamePlace text number x place → place ≤ length text
+name_inside text number x place (inl b) =
+    let ts = statement_tokens (number - 1) b.tokens in
+    or_end text place (first_place (drop b.count ts)) (later_inside b.names text 0 b.count (number - 1) b.tokens (standing b.lexed text [] refl refl)) (b.here ∙ sym (ap (λ o. unwrap_or o (length text)) (at_token ts b.count b.token b.inside)))
+name_inside text number x place (inr b) =
+    or_end text place (first_place (statement_tokens (number - 1) b.tokens)) (later_inside b.names text 0 0 (number - 1) b.tokens (standing b.lexed text [] refl refl)) b.here
+
+type_inside : (text : Text) (number : ℕ) (cause : TypeCause) (place : ℕ) → IsTypePlace text number cause place → place ≤ length text
+type_inside text number (T.Twice x) place is = name_inside text number x place is
+type_inside text number (T.Unknown x) place is = name_inside text number x place is
+type_inside text number (T.WrongCount x wanted found) place is = name_inside text number x place is
+type_inside text number (T.WrongType wanted found) place is = within_inside text number place is
+type_inside text number T.Memory place is = absurd is
+
 -- the byte that a refusal tells
 abbrev byte_in : Refusal → Option ℕ
 byte_in (BadByte at) = Some at
@@ -147,6 +165,6 @@ fault_inside text form names (C.Syntax number F.TooDeep) place h is = begin_insi
 fault_inside text form names (C.Syntax number F.Memory) place h is = begin_inside text number place is
 fault_inside text form names (C.Misplaced number) place h is = begin_inside text number place is
 fault_inside text form names (C.TooMany number) place h is = begin_inside text number place is
-fault_inside text form names (C.Types fault) place h is = begin_inside text fault.statement place is
+fault_inside text form names (C.Types fault) place h is = type_inside text fault.statement fault.cause place is
 fault_inside text form names (C.Guard number fault) place h is = begin_inside text number place is
 fault_inside text form names C.Memory place h is = absurd is

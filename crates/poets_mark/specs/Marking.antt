@@ -1,5 +1,5 @@
 -- Where the first fault of a text stands.
-use Rattle.std.specs.Prelude.{◌≡◌, ℕ, ◌≤◌, List, length, String, string_bytes}
+use Rattle.std.specs.Prelude.{◌≡◌, ℕ, ◌≤◌, List, ◌++◌, length, Option, String, string_bytes}
 use Rattle.std.specs.declared.alloc.Global.{Global}
 use Rattle.poets_value.specs.Limits.{longest_text}
 use Rattle.poets_call.specs.Said.{Statement}
@@ -11,7 +11,9 @@ use Rattle.poets_session.specs.declared.form.Form.{Form}
 use Rattle.poets_mark.specs.Lines.{mark_text}
 use Rattle.poets_mark.specs.Places.{IsPlaceOf}
 use Rattle.poets_mark.specs.Spots.{IsSpot}
+use Rattle.poets_mark.specs.Whys.{why_line}
 use Rattle.poets_mark.specs.declared.spots.Spot.{Spot}
+use Rattle.poets_mark.specs.declared.why.Mistake.{Mistake}
 
 -- the text is a session of the form
 abbrev pub IsSomeSession : Text → Form → Type 0
@@ -26,9 +28,11 @@ abbrev pub IsFaultSpot : Text → Form → Spot → Type 0
 IsFaultSpot text form spot =
     (fault : SessionFault) × IsFirstFault text form fault × IsPlaceOf text fault.what spot.place × IsSpot text spot
 
--- the lines that show where the first fault of the text stands
+-- the lines that show where the first fault of the text stands, and after them one that tells a mistake, or none
 abbrev pub IsMarkOf : Text → Form → List ℕ → Type 0
-IsMarkOf text form lines = (spot : Spot) × IsFaultSpot text form spot × (lines ≡ mark_text text spot)
+IsMarkOf text form lines =
+    (spot : Spot) × (mistake : Option Mistake) × IsFaultSpot text form spot
+    × (lines ≡ mark_text text spot ++ why_line mistake)
 
 -- the string is the lines that show where the first fault of the text stands
 abbrev pub ShowsMark : Text → Form → String Global → Type 0

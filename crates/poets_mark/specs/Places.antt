@@ -1,16 +1,21 @@
 -- Where a fault stands in its text.
 use Rattle.std.specs.Prelude.{◌≡◌, ℕ, zero, suc, ◌-◌, List, [], ◌∷◌, length, Option, None, Some, unwrap_or, drop, ◌≤◌}
-use Rattle.std.specs.Prelude.{if◌then◌else◌}
+use Rattle.std.specs.Prelude.{◌⊎◌, slice_get, if◌then◌else◌}
+use Rattle.poets_value.specs.declared.value.Name.{Name}
+use Rattle.poets_lex.specs.declared.token.Tok.TheVariants as K
 use Rattle.poets_lex.specs.declared.token.Token.{Token}
 use Rattle.poets_lex.specs.declared.fault.LexFault.{LexFault}
 use Rattle.poets_lex.specs.declared.fault.LexFault.TheVariants as L
 use Rattle.poets_lex.specs.Table.{Table}
 use Rattle.poets_lex.specs.Lexes.{Lexes}
 use Rattle.poets_parse.specs.declared.fault.SyntaxFault.TheVariants as F
+use Rattle.poets_types.specs.declared.cause.TypeCause.{TypeCause}
+use Rattle.poets_types.specs.declared.cause.TypeCause.TheVariants as T
 use Rattle.poets_session.specs.Pieces.{is_end}
 use Rattle.poets_session.specs.Sessions.{Text}
 use Rattle.poets_session.specs.declared.fault.SessionCause.{SessionCause}
 use Rattle.poets_session.specs.declared.fault.SessionCause.TheVariants as C
+use Rattle.poets_mark.specs.Naming.{LacksName}
 
 -- the tokens ahead of the first `;;`
 abbrev pub ahead_of_end : List Token → List Token
@@ -51,6 +56,38 @@ pub record IsWithin (text : Text) (number place : ℕ) : Type 0 where
   pub inside : count ≤ length (ahead_of_end (statement_tokens (number - 1) tokens))
   pub here : place ≡ unwrap_or (first_place (drop count (statement_tokens (number - 1) tokens))) (length text)
 
+-- a token of the statement with the number that is the name stands here
+pub record IsNameOf (text : Text) (number : ℕ) (x : Name) (place : ℕ) : Type 0 where
+  pub tokens : List Token
+  pub names : Table
+  pub lexed : Lexes [] text 0 tokens names
+  pub token : Token
+  -- so many of the statement's tokens stand ahead of it
+  pub count : ℕ
+  pub inside : slice_get (ahead_of_end (statement_tokens (number - 1) tokens)) count ≡ Some token
+  pub name : token.what ≡ K.Name x
+  pub here : place ≡ token.from
+
+-- no token of the statement with the number is the name, and the statement begins here
+pub record IsBeginWithout (text : Text) (number : ℕ) (x : Name) (place : ℕ) : Type 0 where
+  pub tokens : List Token
+  pub names : Table
+  pub lexed : Lexes [] text 0 tokens names
+  pub none : LacksName (ahead_of_end (statement_tokens (number - 1) tokens)) x
+  pub here : place ≡ unwrap_or (first_place (statement_tokens (number - 1) tokens)) (length text)
+
+-- the name stands here in the statement with the number, which begins here if it does not have the name
+abbrev pub IsNamePlace : Text → (number : ℕ) → Name → ℕ → Type 0
+IsNamePlace text number x place = IsNameOf text number x place ⊎ IsBeginWithout text number x place
+
+-- a fault of names stands at the name, one of types within the statement; want of memory has no place
+abbrev pub IsTypePlace : Text → (number : ℕ) → TypeCause → ℕ → Type 0
+IsTypePlace text number (T.Twice x) place = IsNamePlace text number x place
+IsTypePlace text number (T.Unknown x) place = IsNamePlace text number x place
+IsTypePlace text number (T.WrongCount x wanted found) place = IsNamePlace text number x place
+IsTypePlace text number (T.WrongType wanted found) place = IsWithin text number place
+IsTypePlace text number T.Memory place = ⊥
+
 -- where the bytes cannot be cut into tokens; want of memory has no place
 abbrev pub byte_of : LexFault → Option ℕ
 byte_of (L.BadByte at) = Some at
@@ -58,13 +95,14 @@ byte_of (L.LongNumber at) = Some at
 byte_of (L.LongName at) = Some at
 byte_of L.Memory = None
 
--- the fault stands here: at the byte, or where the statement begins, or within a statement that is no sentence
+-- the fault stands here: at the byte, or at the name, or where the statement begins, or within a statement that is no
+-- sentence or not typed
 abbrev pub IsPlaceOf : Text → SessionCause → ℕ → Type 0
 IsPlaceOf text (C.Lex fault) place = byte_of fault ≡ Some place
 IsPlaceOf text (C.Syntax number F.NoSentence) place = IsWithin text number place
 IsPlaceOf text (C.Syntax number fault) place = IsBeginOf text number place
 IsPlaceOf text (C.Misplaced number) place = IsBeginOf text number place
 IsPlaceOf text (C.TooMany number) place = IsBeginOf text number place
-IsPlaceOf text (C.Types fault) place = IsBeginOf text fault.statement place
+IsPlaceOf text (C.Types fault) place = IsTypePlace text fault.statement fault.cause place
 IsPlaceOf text (C.Guard number fault) place = IsBeginOf text number place
 IsPlaceOf text C.Memory place = ⊥

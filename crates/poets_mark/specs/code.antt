@@ -1,3 +1,4 @@
 -- What ties the code to the definitions: what private functions promise.
 pub mod InLines
 pub mod Ends
+pub mod Named

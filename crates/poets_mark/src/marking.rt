@@ -4,11 +4,13 @@ ghost use Rattle.poets_value.specs.Limits.{longest_text};
 ghost use Rattle.poets_mark.specs.Marking.{IsFaultSpot, IsSomeSession, NeedsNoMark, ShowsMark};
 ghost use Rattle.poets_mark.specs.Lines.{text_line, mark_line};
 ghost use Rattle.poets_mark.specs.Lines as spec;
+ghost use Rattle.poets_mark.specs.Whys.{why_line};
 ghost use Rattle.poets_value.specs.code.Texts.{Puts};
 ghost use Rattle.poets_mark.specs.code.InLines.{LiesIn};
 
 use crate::places::place_of;
 use crate::spots::{Spot, spot_at};
+use crate::why::{Mistake, why};
 use poets_session::{Form, read};
 use poets_value::{LONGEST_TEXT, Memory};
 use std::alloc::Global;
@@ -18,17 +20,23 @@ const BEFORE: usize = 20;
 
 const AFTER: usize = 80;
 
-// Where the first fault of the text stands, as a session of the form. None where the text is a session.
-fn fault_spot(alloc: Global, text: &[u8], form: Form) -> Result<Option<Spot>, Memory>
+// Where the first fault of the text stands, as a session of the form, and the mistake that it comes from, if it is one
+// of the commonest. None where the text is a session.
+fn fault_spot(
+    alloc: Global,
+    text: &[u8],
+    form: Form,
+) -> Result<Option<(Spot, Option<Mistake>)>, Memory>
     requires { length text.now ≤ longest_text }
-    ensures fault { IfOk result (λ found. IfSome found (IsFaultSpot text.now form)) }
+    ensures fault { IfOk result (λ found. IfSome found (λ f. IsFaultSpot text.now form f.0)) }
     ensures none { IfOk result (λ found. IfNone found (IsSomeSession text.now form)) }
 {
     match read(alloc, text, form) {
         Ok(_) => Ok(None),
         Err(fault) => {
             let place = place_of(alloc, text, &fault.what)?;
-            Ok(Some(spot_at(text, place)))
+            let mistake = why(alloc, text, form, &fault.what, place)?;
+            Ok(Some((spot_at(text, place), mistake)))
         }
     }
 }
@@ -78,6 +86,17 @@ fn add_line(lines: &mut String, text: &[u8], spot: &Spot) -> Result<(), Memory>
     Ok(())
 }
 
+// Puts the line that tells the mistake, if there is one.
+fn add_why(lines: &mut String, mistake: Option<Mistake>) -> Result<(), Memory>
+    ensures { OnOk result (Puts lines.old lines.new (why_line mistake)) }
+{
+    if let Some(mistake) = mistake {
+        lines.push_str(mistake.text())?;
+        lines.push('\n')?;
+    }
+    Ok(())
+}
+
 // The line that tells the place.
 fn place_line(alloc: Global, spot: &Spot) -> Result<String, Memory>
     ensures { IfOk result (λ line. string_bytes line ≡ spec.place_line spot.now) }
@@ -86,7 +105,8 @@ fn place_line(alloc: Global, spot: &Spot) -> Result<String, Memory>
 }
 
 /// Where the first fault of the text stands, as a session of the form: its line and its column, counted from 1, the
-/// part of the line around it, and a mark below its first byte. None where the text is a session, or is longer than one
+/// part of the line around it, and a mark below its first byte; and one line more that says why, if it is one of the
+/// commonest mistakes (`docs/LANGUAGE.md`, "Refused texts"). None where the text is a session, or is longer than one
 /// may be.
 pub fn mark_of(alloc: Global, text: &[u8], form: Form) -> Result<Option<String>, Memory>
     ensures none { IfOk result (λ found. IfNone found (NeedsNoMark text.now form)) }
@@ -95,10 +115,11 @@ pub fn mark_of(alloc: Global, text: &[u8], form: Form) -> Result<Option<String>,
     if text.len() > LONGEST_TEXT {
         return Ok(None);
     }
-    let Some(spot) = fault_spot(alloc, text, form)? else {
+    let Some((spot, mistake)) = fault_spot(alloc, text, form)? else {
         return Ok(None);
     };
     let mut lines = place_line(alloc, &spot)?;
     add_line(&mut lines, text, &spot)?;
+    add_why(&mut lines, mistake)?;
     Ok(Some(lines))
 }

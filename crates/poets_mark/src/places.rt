@@ -1,72 +1,17 @@
 //! The places of faults.
-ghost use Rattle.std.specs.Prelude.{◌≡◌, ◌≤◌, ◌+◌, ◌-◌, length, drop, unwrap_or, IfOk, IfSome, IfNone};
+ghost use Rattle.std.specs.Prelude.{◌≡◌, ◌≤◌, length, unwrap_or, IfOk};
 ghost use Rattle.poets_value.specs.Limits.{longest_text};
-ghost use Rattle.poets_session.specs.Pieces as pieces;
-ghost use Rattle.poets_mark.specs.Places.{first_place, statement_tokens, IsBeginOf, IsWithin, IsPlaceOf};
-ghost use Rattle.poets_mark.specs.Places as places;
-ghost use Rattle.poets_mark.specs.code.Ends.{StandAheadOfEnd, HaveNoEnd};
+ghost use Rattle.poets_mark.specs.Places.{first_place, IsBeginOf, IsWithin, IsNamePlace, IsTypePlace, IsPlaceOf};
 
-use poets_lex::{LexFault, Names, Sign, Tok, Token, tokens};
+use crate::naming::{all_said, faulty_token};
+use crate::pieces::{ahead_of_end, from_statement};
+use crate::typing::mistyped;
+use poets_lex::{LexFault, Names, Token, tokens};
 use poets_parse::{SyntaxFault, begun};
 use poets_session::SessionCause;
-use poets_value::Memory;
+use poets_types::{TypeCause, TypeFault};
+use poets_value::{Memory, Name};
 use std::alloc::Global;
-
-// Whether the token ends a statement.
-fn is_end(token: &Token) -> bool
-    ensures { result ≡ pieces.is_end token.now.what }
-{
-    match token.what {
-        Tok::Sign(Sign::DoubleSemicolon) => true,
-        _ => false,
-    }
-}
-
-// The number of tokens ahead of the first `;;`, if there is one.
-fn end_of(tokens: &[Token]) -> Option<usize>
-    ensures ahead { IfSome result (StandAheadOfEnd tokens.now) }
-    ensures after { IfSome result (λ n. places.after_end tokens.now ≡ drop (n + 1) tokens.now) }
-    ensures none { IfNone result (HaveNoEnd tokens.now) }
-{
-    for (place, token) in tokens.iter().enumerate() {
-        if is_end(token) {
-            return Some(place);
-        }
-    }
-    None
-}
-
-// The tokens ahead of the first `;;`.
-fn ahead_of_end(tokens: &[Token]) -> &[Token]
-    ensures ahead { result.now ≡ places.ahead_of_end tokens.now }
-    ensures few { length result.now ≤ length tokens.now }
-{
-    match end_of(tokens) {
-        Some(end) => &tokens[..end],
-        None => tokens,
-    }
-}
-
-// The tokens after the first `;;`.
-fn after_end(tokens: &[Token]) -> &[Token]
-    ensures { result.now ≡ places.after_end tokens.now }
-{
-    match end_of(tokens) {
-        Some(end) => &tokens[end + 1..],
-        None => &[],
-    }
-}
-
-// The tokens from the statement with the number on.
-fn from_statement(tokens: &[Token], number: u64) -> &[Token]
-    ensures { result.now ≡ statement_tokens (number - 1) tokens.now }
-{
-    let mut rest = tokens;
-    for _ in 1..number {
-        rest = after_end(rest);
-    }
-    rest
-}
 
 // Where the first token stands, or else the end of the text.
 fn place_of_first(tokens: &[Token], text: &[u8]) -> usize
@@ -106,9 +51,60 @@ fn stop_of(alloc: Global, text: &[u8], number: u64) -> Result<usize, Memory>
     Ok(place_of_first(&rest[count..], text))
 }
 
-/// Where a fault of the text stands: the byte that it tells, or the begin of its statement, or of a statement that is
-/// no sentence the first token with which it begins none. Bytes count from 0. `Err` is want of memory, also where the
-/// fault is that.
+// Where the name that the fault tells stands in its statement, or where that begins, if it does not have the name.
+fn name_place(alloc: Global, text: &[u8], fault: &TypeFault, name: Name) -> Result<usize, Memory>
+    requires { length text.now ≤ longest_text }
+    ensures { IfOk result (IsNamePlace text.now fault.now.statement name) }
+{
+    let mut names = Names::new(alloc);
+    let Ok(found) = tokens(alloc, text, &mut names) else {
+        return Err(Memory);
+    };
+    let all = found.as_slice();
+    let rest = from_statement(all, fault.statement);
+    let own = ahead_of_end(rest);
+    let other = Name { id: names.len() };
+    let Some(place) = faulty_token(alloc, all, own, fault, name, other)? else {
+        return Ok(place_of_first(rest, text));
+    };
+    Ok(own[place].from as usize)
+}
+
+// Where the expression of the wrong type begins, or else its statement.
+fn expression_place(alloc: Global, text: &[u8], number: u64) -> Result<usize, Memory>
+    requires { length text.now ≤ longest_text }
+    ensures { IfOk result (IsWithin text.now number) }
+{
+    let mut names = Names::new(alloc);
+    let Ok(all) = tokens(alloc, text, &mut names) else {
+        return Err(Memory);
+    };
+    let rest = from_statement(all.as_slice(), number);
+    let own = ahead_of_end(rest);
+    let statements = all_said(alloc, all.as_slice())?;
+    match mistyped(alloc, statements.as_slice(), number, own)? {
+        Some(place) if place < own.len() => Ok(place_of_first(&rest[place..], text)),
+        _ => Ok(place_of_first(rest, text)),
+    }
+}
+
+// Where a fault of names or types stands.
+fn type_place(alloc: Global, text: &[u8], fault: &TypeFault) -> Result<usize, Memory>
+    requires { length text.now ≤ longest_text }
+    ensures { IfOk result (IsTypePlace text.now fault.now.statement fault.now.cause) }
+{
+    match fault.cause {
+        TypeCause::Twice { name }
+        | TypeCause::Unknown { name }
+        | TypeCause::WrongCount { name, .. } => name_place(alloc, text, fault, name),
+        TypeCause::WrongType { .. } => expression_place(alloc, text, fault.statement),
+        TypeCause::Memory => Err(Memory),
+    }
+}
+
+/// Where a fault of the text stands: at the byte or the name that it tells, or where its statement begins, or in a
+/// statement that is no sentence at the first token with which it begins none (`docs/LANGUAGE.md`, "Refused texts").
+/// Bytes count from 0. `Err` is want of memory, also where the fault is that.
 pub(crate) fn place_of(alloc: Global, text: &[u8], cause: &SessionCause) -> Result<usize, Memory>
     requires { length text.now ≤ longest_text }
     ensures { IfOk result (IsPlaceOf text.now cause.now) }
@@ -125,7 +121,7 @@ pub(crate) fn place_of(alloc: Global, text: &[u8], cause: &SessionCause) -> Resu
         | SessionCause::Misplaced { statement }
         | SessionCause::TooMany { statement }
         | SessionCause::Guard { statement, .. } => begin_of(alloc, text, *statement),
-        SessionCause::Types(fault) => begin_of(alloc, text, fault.statement),
+        SessionCause::Types(fault) => type_place(alloc, text, fault),
         SessionCause::Lex(LexFault::Memory) | SessionCause::Memory => Err(Memory),
     }
 }

@@ -1,7 +1,7 @@
 use Rattle.std.proofs.Common.{◌+◌, ◌-◌, ap, ◌∙◌}
 use Rattle.poets_mark.specs.Places.{statement_tokens}
 use Rattle.poets_mark.proofs.Placing.{one_on}
-use Rattle.poets_mark.proofs.places.from_statement.Goals as goal
+use Rattle.poets_mark.proofs.pieces.from_statement.Goals as goal
 
 pub loop-preserved : goal.loop-preserved
 loop-preserved c =

@@ -1,6 +1,6 @@
 use Rattle.std.proofs.Common.{sym}
 use Rattle.poets_mark.proofs.Placing.{no_end_next, ahead_at, after_at, never_ahead}
-use Rattle.poets_mark.proofs.places.end_of.Goals as goal
+use Rattle.poets_mark.proofs.pieces.end_of.Goals as goal
 
 pub loop-place-init : goal.loop-place-init
 loop-place-init c = tt
