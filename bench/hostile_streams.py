@@ -11,7 +11,7 @@ from concurrent.futures import ThreadPoolExecutor
 from hostile_memory import (AUDIT, AUDITED, DEMO, EXAMPLES, EXPLAINED, PAGE, SALE, SESSIONS, SOLD, TWO_SALES, is_legal,
                             is_whole)
 from measuring import COMMANDS
-from running import held, holds, is_so, run, run_refusing, shared, told_wrong
+from running import held, holds, is_left, is_so, run, run_refusing, shared, told_wrong
 
 MOST_BYTES = 16_777_216
 LONGER = b"refused: longer than 16777216 bytes\n"
@@ -163,7 +163,8 @@ def unwritable(words, text, status):
             ("no sink", None, lambda: os.close(1)), ("a full device", full, None), ("a source", only_read, None),
             ("a pipe that nobody reads", sink, None)):
         ran = run(words, text, sink=taken, first=first)
-        yield None if is_so(ran, status, b"") else told_wrong(f"{words} into {about}", ran)
+        right = is_left(ran, b"") if status == 5 and taken == sink else is_so(ran, status, b"")
+        yield None if right else told_wrong(f"{words} into {about}", ran)
     for file in (full, only_read, sink):
         os.close(file)
 
@@ -198,26 +199,26 @@ def run_into_pipe(text, most, room):
 
 
 def read_in_part(most):
-    """A pipe of the usual size whose reader leaves after so many bytes: what he read is a front of the history."""
+    """A pipe of the usual size whose reader leaves after so many bytes: what he read is a prefix of the history."""
     text, whole = long_history()
     ran, found = run_into_pipe(text, most, 65_536)
-    right = is_so(ran, 5, b"") and found == whole[:most]
+    right = is_left(ran, b"") and found == whole[:most]
     yield None if right else told_wrong(f"a reader that leaves after {most} bytes", ran)
 
 
 def left_after(offset):
-    """A pipe of a page whose reader leaves after each number of bytes: he read a front of the history, and the program
+    """A pipe of a page whose reader leaves after each number of bytes: he read a prefix of the history, and the program
     did not write it all, unless what he left has room in the pipe."""
     text, whole = long_history(ENDS)
     for most in range(offset, len(whole) + 1, STRIDE):
         ran, found = run_into_pipe(text, most, PAGE)
-        ended = is_so(ran, 5, b"") or len(whole) <= most + PAGE and is_so(ran, 0, b"")
+        ended = is_left(ran, b"") or len(whole) <= most + PAGE and is_so(ran, 0, b"")
         right = ended and found == whole[:most]
         yield None if right else told_wrong(f"a reader who leaves after {most} of {len(whole)} bytes", ran)
 
 
 def full_pipe():
-    """A pipe that is full and does not wait: what it took is a front of the history."""
+    """A pipe that is full and does not wait: what it took is a prefix of the history."""
     text, whole = long_history()
     source, sink = os.pipe2(os.O_CLOEXEC | os.O_NONBLOCK)
     fcntl.fcntl(sink, fcntl.F_SETPIPE_SZ, PAGE)
@@ -272,7 +273,7 @@ NO_FORMS = [
     "demo \u0661",
     "demo 18446744073709551617", "demo 4294967297", "-h", "--help", "--version", "-V", "-", "--", "-- run", "run --",
     "run -", "--run", "help", "explain", "explain 1", "explain in", "explain c d", "explain c#", "Explain c",
-    "explain " + 65 * "a", "keep f", "keep keep", "recover 1", "Keep", "export",
+    "explain " + 65 * "a", "keep f", "keep keep", "recover 1", "Keep", "export 1",
     "run\0".rstrip("\0") + "\u00a0", "@file",
     "demo " + 4_000 * "1", 100_000 * "a", " ".join(10_000 * ["run"]), " ", "run ", " run", "demo  1"]
 

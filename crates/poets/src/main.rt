@@ -4,12 +4,14 @@
 #![tactic(auto)]
 
 mod help;
+mod pipe;
+mod progress;
 
-ghost use Rattle.std.specs.Prelude.{◌≡◌};
+ghost use Rattle.std.specs.Prelude.{◌≡◌, ◌⊎◌, IfErr};
 ghost use Rattle.std.specs.Process.{exit_status};
 
 use help::HELP;
-use poets_clerks::NoGate;
+use pipe::PipeWriter;
 use poets_disk::FileDisk;
 use poets_io::{StdSink, StdSource};
 use poets_kept::{DISK_FAULT, journal_task, run_kept};
@@ -17,37 +19,59 @@ use poets_mark::{KeptSource, mark_of};
 use poets_session::Form;
 use poets_top::{NO_MEMORY, NO_SESSION, READ_FAULT, USAGE, WRITE_FAULT, form_of};
 use poets_words::{Mode, mode_of};
+use progress::Progress;
+use std::io::IsTerminal;
 use std::process::ExitCode;
 use std::{env, io};
 
 fn main(rt: HostRuntime) -> ExitCode {
-    let mut words = Vec::new(rt.alloc());
-    match env::args(&rt) {
-        Ok(args) => {
-            for word in args.skip(1) {
-                if words.push(word).is_err() {
-                    return end(&rt, NO_MEMORY);
-                }
-            }
-        }
-        Err(error) if error.kind() == io::ErrorKind::OutOfMemory => return end(&rt, NO_MEMORY),
-        Err(_) => return end(&rt, USAGE),
+    let words = match words_of(&rt) {
+        Ok(words) => words,
+        Err(status) => return end(&rt, status),
+    };
+    let words = words.as_slice();
+    if form_asked(&rt, words).is_some() && rt.stdin().is_terminal() {
+        let _ = eprint!(rt; "{HELP}");
     }
+    let progress = Progress::new(rt, rt.stderr().is_terminal());
+    let mut is_left = false;
     let mut source = KeptSource::new(rt.alloc(), StdSource::new(rt.reader()));
-    let mut sink = StdSink::new(io::writer(&rt));
+    let mut sink = StdSink::new(PipeWriter::new(io::writer(&rt), &progress, &mut is_left));
     let outcome = run_kept(
         &rt,
         rt.alloc(),
-        words.as_slice(),
+        words,
         &mut source,
         &mut sink,
-        &NoGate,
+        &progress,
         FileDisk::new(&rt),
     );
+    progress.clear();
     if outcome.status == NO_SESSION {
-        mark(&rt, words.as_slice(), source.given());
+        mark(&rt, words, source.given());
+    }
+    if outcome.status == WRITE_FAULT && is_left {
+        return ExitCode::from(WRITE_FAULT);
     }
     end(&rt, outcome.status)
+}
+
+// The words behind the program's name, or the status with which a program ends that cannot have them.
+fn words_of(rt: &HostRuntime) -> Result<Vec<String>, u8>
+    ensures { IfErr result (λ status. (status ≡ NO_MEMORY) ⊎ (status ≡ USAGE)) }
+{
+    let args = match env::args(rt) {
+        Ok(args) => args,
+        Err(error) if error.kind() == io::ErrorKind::OutOfMemory => return Err(NO_MEMORY),
+        Err(_) => return Err(USAGE),
+    };
+    let mut words = Vec::new(rt.alloc());
+    for word in args.skip(1) {
+        if words.push(word).is_err() {
+            return Err(NO_MEMORY);
+        }
+    }
+    Ok(words)
 }
 
 // Shows on standard error where the first fault of the text stands that the words told to read. Want of memory for that
