@@ -19,7 +19,7 @@ UNKEPT = b"poets: poets.journal cannot be read or written\n"
 # The toolchain's logic, by which alone a proof holds: kits that differ in name alone have one.
 LOGIC = subprocess.run(["rt", "version"], stdout=subprocess.PIPE, check=True).stdout.split()[-1]
 USAGE = b"""\
-usage: poets check | run | replay | demo N | explain NAME | keep | recover
+usage: poets check | run | replay | demo N | explain NAME | keep | recover | export
 
 A text is read from standard input, as in: poets run < session.poets
   check         counts the templates and reports of a book, or names the first fault of the text
@@ -29,12 +29,13 @@ A text is read from standard input, as in: poets run < session.poets
   demo N        prints one line about N sales by each of eight clerks, N from 1 to 1000, and reads nothing
   keep          does what run does, and puts each command into the file poets.journal before its line is printed
   recover       reads a book, makes the commands that poets.journal holds, and prints their history
+  export        makes the commands of a journal, and prints its book and their history as one JSON document
 
 docs/LANGUAGE.md has the language, docs/REPLIES.md the replies, docs/COOKBOOK.md whole contracts.
 poets, proved by the Rattle toolchain with the logic """ + LOGIC + b"\n"
 TOLD = {0: b"", 2: USAGE, 3: MEMORY, 4: UNREAD, 5: UNWRITTEN, 6: b"", 7: UNKEPT, 8: b"", 9: b""}
-# Where a text is refused, with status 1; nothing where memory for that wants.
-PLACE = re.compile(rb"(line [1-9]\d*, column [1-9]\d*\n[ -~]*\n *\^\n)?")
+# Where a text is refused, with status 1, and maybe why; nothing where memory for that wants.
+PLACE = re.compile(rb"(line [1-9]\d*, column [1-9]\d*\n[ -~]*\n *\^\n([ -~]+\n)?)?")
 MOST_SECONDS = 120
 
 # How a run ended: its status, or the signal's number below 0; what it wrote; its peak memory in bytes; and whether a
@@ -136,6 +137,11 @@ def is_so(ran, status, out):
     """Whether the run ended with the status, wrote this, and told of it what must be told."""
     told = PLACE.fullmatch(ran.err) if status == 1 else ran.err == TOLD[status]
     return (ran.status, ran.out) == (status, out) and bool(told)
+
+
+def is_left(ran, out):
+    """Whether the run wrote this and ended because nobody reads its pipe any more, which the status alone tells."""
+    return (ran.status, ran.out, ran.err) == (5, out, b"")
 
 
 def told_wrong(about, ran):

@@ -45,6 +45,7 @@ no_journal_form words mode asks (inl keep) = neither mode (sym asks.0 ∙ keep)
     neither (M.Read T.Run) e = absurd cc
     neither (M.Read T.Replay) e = absurd cc
     neither (M.Read (T.Explain name)) e = absurd cc
+    neither (M.Read T.Export) e = absurd cc
     neither (M.Demo n) e = absurd cc
 no_journal_form words mode asks (inr recover) = neither mode (sym asks.0 ∙ recover)
   where
@@ -53,6 +54,7 @@ no_journal_form words mode asks (inr recover) = neither mode (sym asks.0 ∙ rec
     neither (M.Read T.Run) e = absurd cc
     neither (M.Read T.Replay) e = absurd cc
     neither (M.Read (T.Explain name)) e = absurd cc
+    neither (M.Read T.Export) e = absurd cc
     neither (M.Demo n) e = absurd cc
 
 -- no words are both

@@ -1,6 +1,7 @@
 //! The program's one call with a disk.
 ghost use Rattle.std.specs.Prelude.{◌≡◌, ◌≤◌, ℕ, List, []};
 ghost use Rattle.poets_top.specs.Explaining.{HasExplained};
+ghost use Rattle.poets_top.specs.Exporting.{HasExported};
 ghost use Rattle.poets_top.specs.Promises.{AskTo, AskToShow, Demonstrates, EndsAsAsked, EndsAsDeserved, IfDone};
 ghost use Rattle.poets_top.specs.Replaying.{HasReplayed};
 ghost use Rattle.poets_top.specs.Running.{HasRun};
@@ -63,6 +64,8 @@ pub fn run_kept<
         (HasReplayed (S.left source.old) (S.left source.new) (K.held sink.old) (K.held sink.new)) }
     ensures has_explained { (name : List ℕ) → AskTo words.now (T.Explain name) → IfDone (outcome_of result)
         (HasExplained name (S.left source.old) (S.left source.new) (K.held sink.old) (K.held sink.new)) }
+    ensures has_exported { AskTo words.now T.Export → IfDone (outcome_of result)
+        (HasExported (S.left source.old) (S.left source.new) (K.held sink.old) (K.held sink.new)) }
     ensures has_demonstrated { (sales : ℕ) → AskToShow words.now sales →
         Demonstrates sales source.old source.new (K.held sink.old) (K.held sink.new) (outcome_of result) }
     ensures status { EndsAsDeserved words.now (change S.left S.faults source.old source.new)

@@ -21,6 +21,7 @@ use Rattle.poets_words.specs.declared.mode.Mode.TheVariants as M
 use Rattle.poets_words.proofs.Forms.{asked_once}
 use Rattle.poets_top.specs.Demonstrating.{IsDemonstration, HasDemonstrated}
 use Rattle.poets_top.specs.Explaining.{HasExplained}
+use Rattle.poets_top.specs.Exporting.{HasExported}
 use Rattle.poets_top.specs.Replaying.{HasReplayed}
 use Rattle.poets_top.specs.Running.{HasRun}
 use Rattle.poets_top.specs.Runs.{IsMade, IsAnswerTo, IsResult, IsEnding, Ends, Deserves, DeservesRun, IsStatusOrMemory, NoFaultRose}
@@ -297,6 +298,21 @@ module _ (source source' sink sink' : Stream) (status : ℕ) (h : List Entry) wh
         history = d.made.history;
         explanation = d.line;
         explains = d.made.explains;
+        written = d.written;
+      }
+
+  pub Ends-exported : status ≡ 0 → Ends source source' sink sink' status h (M.Read T.Export) → HasExported source.bytes source'.bytes sink.bytes sink'.bytes h
+  Ends-exported zero (Ends.OfTask e) =
+      let d = ending_done T.Export source source' sink sink' zero e in
+      record {
+        text = d.text;
+        given = d.given;
+        names = d.names;
+        statements = d.statements;
+        session = d.session;
+        history = d.made.history;
+        line = d.line;
+        document = d.made.document;
         written = d.written;
       }
 

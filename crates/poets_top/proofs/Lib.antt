@@ -1,3 +1,4 @@
 pub mod Owning
 pub mod Endings
 pub mod Telling
+pub mod Exported

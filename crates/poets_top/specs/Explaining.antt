@@ -91,7 +91,8 @@ pub record ExplainsJournal (name : List ℕ) (names : Table) (statements : List 
 -- a journal was replayed, and the contract with a name explained: what the source had left before and after, what the
 -- sink held before and after, and the history
 pub record HasExplained (name : List ℕ) (left left' held held' : Option (List ℕ)) (h : List Entry) : Type 0 where
-  -- the source was read to its end, and its bytes are the text of a session with a journal
+  -- the source was read to its end, and its bytes are the text of a session with a journal; where it does
+  -- not tell its bytes, there is such a text
   pub text : Text
   pub given : GivesAll left left' text
   pub names : Table

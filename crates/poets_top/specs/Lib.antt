@@ -3,6 +3,7 @@ pub mod Checking
 pub mod Running
 pub mod Replaying
 pub mod Explaining
+pub mod Exporting
 pub mod Demonstrating
 pub mod Runs
 pub mod Promises

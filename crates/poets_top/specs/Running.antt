@@ -26,7 +26,8 @@ pub record RunsScripts (names : Table) (statements : List Statement) (h : List E
 
 -- a session was run: what the source had left before and after, what the sink held before and after, and the history
 pub record HasRun (left left' held held' : Option (List ℕ)) (h : List Entry) : Type 0 where
-  -- the source was read to its end, and its bytes are the text of a session of clerks
+  -- the source was read to its end, and its bytes are the text of a session of clerks; where it does
+  -- not tell its bytes, there is such a text
   pub text : Text
   pub given : GivesAll left left' text
   pub names : Table

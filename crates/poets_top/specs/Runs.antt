@@ -16,6 +16,7 @@ use Rattle.poets_top.specs.Demonstrating.{IsDemonstration}
 use Rattle.poets_top.specs.Running.{RunsScripts}
 use Rattle.poets_top.specs.Replaying.{ReplaysJournal}
 use Rattle.poets_top.specs.Explaining.{ExplainsJournal}
+use Rattle.poets_top.specs.Exporting.{ExportsJournal}
 use Rattle.poets_writing.specs.Writing.{Stream, HasFailed, IsWritten}
 use Rattle.poets_top.specs.Tasks.{form_of}
 use Rattle.poets_words.specs.declared.mode.Task.{Task}
@@ -28,6 +29,7 @@ IsMade T.Check names statements = ChecksBook statements
 IsMade T.Run names statements = RunsScripts names statements
 IsMade T.Replay names statements = ReplaysJournal names statements
 IsMade (T.Explain name) names statements = ExplainsJournal name names statements
+IsMade T.Export names statements = ExportsJournal names statements
 
 -- what a text asks for that was read
 pub data IsAnswerTo (text : Text) (task : Task) : (status : ℕ) → List Entry → List ℕ → Type 0 where

@@ -10,3 +10,4 @@ form_of T.Check = F.Book
 form_of T.Run = F.Clerks
 form_of T.Replay = F.Journal
 form_of (T.Explain name) = F.Journal
+form_of T.Export = F.Journal

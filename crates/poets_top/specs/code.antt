@@ -2,3 +2,4 @@
 pub mod Sessions
 pub mod Answering
 pub mod Explained
+pub mod Exported

@@ -4,6 +4,7 @@
 mod checking;
 mod demonstrating;
 mod explaining;
+mod exporting;
 pub mod laws;
 mod program;
 mod replaying;

@@ -1,6 +1,7 @@
 //! The program's one call.
 ghost use Rattle.std.specs.Prelude.{◌≡◌, ◌≢◌, ◌≤◌, ℕ, List, []};
 ghost use Rattle.poets_top.specs.Explaining.{HasExplained};
+ghost use Rattle.poets_top.specs.Exporting.{HasExported};
 ghost use Rattle.poets_top.specs.Promises.{AreNoForm, AskTo, AskToShow, Demonstrates, EndsAsAsked, EndsAsDeserved};
 ghost use Rattle.poets_top.specs.Promises.{IfDone};
 ghost use Rattle.poets_top.specs.Replaying.{HasReplayed};
@@ -15,6 +16,7 @@ ghost use Rattle.poets_writing.specs.Writing.{change};
 use crate::checking::check;
 use crate::demonstrating::demonstrate;
 use crate::explaining::explain;
+use crate::exporting::export;
 use crate::replaying::replay;
 use crate::running::run_scripts;
 use crate::tasks::form_of;
@@ -29,7 +31,7 @@ use std::sync::Wait;
 use std::thread::Threads;
 
 /// Does all that the program does: reads a session, makes its calls, and writes the history, one line by each call of
-/// `write` where the sink takes whole pieces, or what explains one of its contracts; or reads a book, and writes what
+/// `write` where the sink takes whole pieces, or what explains one of its contracts, or a JSON document; or reads a book, and writes what
 /// it declares; or reads nothing, and shows a demonstration. The clerks of a session or a demonstration work at once,
 /// each in a thread of its own where one can be started. The gate is told of the stages of their calls, and may hold
 /// them back.
@@ -56,6 +58,8 @@ pub fn run<S: Source, K: Sink, G: Gate + Sync, R: Threads + Wait + Sync>(
         IfDone result (HasReplayed (S.left source.old) (S.left source.new) (K.held sink.old) (K.held sink.new)) }
     ensures has_explained { (name : List ℕ) → AskTo words.now (T.Explain name) →
         IfDone result (HasExplained name (S.left source.old) (S.left source.new) (K.held sink.old) (K.held sink.new)) }
+    ensures has_exported { AskTo words.now T.Export →
+        IfDone result (HasExported (S.left source.old) (S.left source.new) (K.held sink.old) (K.held sink.new)) }
     ensures has_demonstrated { (sales : ℕ) → AskToShow words.now sales →
         Demonstrates sales source.old source.new (K.held sink.old) (K.held sink.new) result }
     ensures status { EndsAsDeserved words.now (change S.left S.faults source.old source.new)
@@ -110,5 +114,6 @@ fn answer<K: Sink, G: Gate + Sync, R: Threads + Wait + Sync>(
         Task::Run => run_scripts(rt, alloc, sink, session, gate),
         Task::Replay => replay(rt, alloc, sink, session),
         Task::Explain(name) => explain(rt, alloc, sink, session, name),
+        Task::Export => export(rt, alloc, sink, session),
     }
 }

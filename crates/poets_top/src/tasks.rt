@@ -12,6 +12,6 @@ pub fn form_of(task: &Task) -> Form
     match task {
         Task::Check => Form::Book,
         Task::Run => Form::Clerks,
-        Task::Replay | Task::Explain(_) => Form::Journal,
+        Task::Replay | Task::Explain(_) | Task::Export => Form::Journal,
     }
 }

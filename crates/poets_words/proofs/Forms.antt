@@ -1,5 +1,5 @@
 -- The words for what the program may be asked to do.
-use Rattle.std.proofs.Common.{◌≡◌, ◌≢◌, ℕ, ◌≤◌, ◌∙◌, List, [], ◌∷◌, length, refl, sym, ap, arith, Bool, true, false, not, IsTrue, ◌↔◌}
+use Rattle.std.proofs.Common.{◌≡◌, ◌≢◌, ℕ, ◌≤◌, ◌∙◌, List, [], ◌∷◌, length, get_or, refl, sym, ap, arith, Bool, true, false, not, IsTrue, ◌↔◌}
 use Rattle.std.specs.Fmt.{decimal}
 use Rattle.std.specs.List.{list_any}
 use Rattle.std.specs.Str.Parse.{starts_with_minus}
@@ -30,6 +30,7 @@ plain_words (M.Read T.Check) h = (omega arith, omega arith, refl)
 plain_words (M.Read T.Run) h = (omega arith, omega arith, refl)
 plain_words (M.Read T.Replay) h = (omega arith, omega arith, refl)
 plain_words (M.Read (T.Explain name)) h = (omega arith, omega arith, or_from _ _ (name_unsigned name h.shape) refl)
+plain_words (M.Read T.Export) h = (omega arith, omega arith, refl)
 plain_words (M.Demo n) h = (omega arith, omega arith, or_from _ _ (no_sign n h.0 h.1) refl)
 
 -- a command form is plain
@@ -42,6 +43,11 @@ no_demo T.Check n e = absurd cc
 no_demo T.Run n e = absurd cc
 no_demo T.Replay n e = absurd cc
 no_demo (T.Explain name) n e = absurd cc
+no_demo T.Export n e = absurd cc
+
+-- the first byte of the first word
+abbrev first_byte : List (List ℕ) → ℕ
+first_byte words = get_or (get_or words 0 []) 0 0
 
 -- words are those for one task
 task_once : (a b : Task) → words_of_task a ≡ words_of_task b → a ≡ b
@@ -49,6 +55,9 @@ task_once T.Check T.Check e = refl
 task_once T.Run T.Run e = refl
 task_once T.Replay T.Replay e = refl
 task_once (T.Explain name) (T.Explain other) e = cc
+task_once T.Export T.Export e = refl
+task_once T.Replay T.Export e = let first : 114 ≡ 101 = ap first_byte e in absurd (omega (arith, first))
+task_once T.Export T.Replay e = let first : 101 ≡ 114 = ap first_byte e in absurd (omega (arith, first))
 task_once a b e = absurd cc
 
 -- words ask for one thing

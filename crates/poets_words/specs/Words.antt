@@ -19,6 +19,7 @@ words_of_task T.Check = codes "check" ∷ []
 words_of_task T.Run = codes "run" ∷ []
 words_of_task T.Replay = codes "replay" ∷ []
 words_of_task (T.Explain name) = codes "explain" ∷ name ∷ []
+words_of_task T.Export = codes "export" ∷ []
 
 -- the words for what the program may be asked to do
 abbrev pub words_of : Mode → List (List ℕ)
@@ -31,6 +32,7 @@ IsTask T.Check = Unit {0}
 IsTask T.Run = Unit {0}
 IsTask T.Replay = Unit {0}
 IsTask (T.Explain name) = IsName name
+IsTask T.Export = Unit {0}
 
 -- the task is well-formed (`IsTask`), and a demonstration has 1 to 1,000 sales of each clerk
 abbrev pub IsMode : Mode → Type 0

@@ -21,6 +21,8 @@ pub enum Task<'a> {
     Replay,
     /// Replay a journal, and explain the contract with a name.
     Explain(ContractName<'a>),
+    /// Replay a journal, and export its book and its history.
+    Export,
 }
 
 /// What the program is asked to do.
@@ -66,6 +68,7 @@ fn mode_from<'a>(first: Option<&'a str>, second: Option<&'a str>) -> Option<Mode
         (Some("run"), None) => Some(Mode::Read(Task::Run)),
         (Some("replay"), None) => Some(Mode::Read(Task::Replay)),
         (Some("explain"), Some(name)) => Some(Mode::Read(Task::Explain(ContractName::new(name)?))),
+        (Some("export"), None) => Some(Mode::Read(Task::Export)),
         (Some("demo"), Some(number)) => Some(Mode::Demo(sales_of(number)?)),
         _ => None,
     }

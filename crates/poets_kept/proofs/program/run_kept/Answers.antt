@@ -3,6 +3,7 @@ use Rattle.std.specs.Prelude.{string_bytes}
 use Rattle.poets_call.specs.Calls.{history_of}
 use Rattle.poets_top.specs.Demonstrating.{HasDemonstrated}
 use Rattle.poets_top.specs.Explaining.{HasExplained}
+use Rattle.poets_top.specs.Exporting.{HasExported}
 use Rattle.poets_top.specs.Replaying.{HasReplayed}
 use Rattle.poets_top.specs.Running.{HasRun}
 use Rattle.poets_top.specs.Runs.{IsStatusOrMemory}
@@ -31,6 +32,9 @@ returns-in-Some-Keep-clause-has_replayed g c = λ asks. absurd (no_journal_form 
 
 pub returns-in-Some-Keep-clause-has_explained : goal.returns-in-Some-Keep-clause-has_explained
 returns-in-Some-Keep-clause-has_explained g c = λ name asks. absurd (no_journal_form (map string_bytes c.args.words.now) (M.Read (T.Explain name)) asks (inl (rw c.in-Some-Keep.field-0-is at c.in-Some-Keep.ensures.some)))
+
+pub returns-in-Some-Keep-clause-has_exported : goal.returns-in-Some-Keep-clause-has_exported
+returns-in-Some-Keep-clause-has_exported g c = λ asks. absurd (no_journal_form (map string_bytes c.args.words.now) (M.Read T.Export) asks (inl (rw c.in-Some-Keep.field-0-is at c.in-Some-Keep.ensures.some)))
 
 pub returns-in-Some-Keep-clause-has_demonstrated : goal.returns-in-Some-Keep-clause-has_demonstrated
 returns-in-Some-Keep-clause-has_demonstrated g c = λ sales asks. absurd (no_journal_form (map string_bytes c.args.words.now) (M.Demo sales) asks (inl (rw c.in-Some-Keep.field-0-is at c.in-Some-Keep.ensures.some)))
@@ -74,6 +78,9 @@ returns-in-Some-Recover-clause-has_replayed g c = λ asks. absurd (no_journal_fo
 
 pub returns-in-Some-Recover-clause-has_explained : goal.returns-in-Some-Recover-clause-has_explained
 returns-in-Some-Recover-clause-has_explained g c = λ name asks. absurd (no_journal_form (map string_bytes c.args.words.now) (M.Read (T.Explain name)) asks (inr (rw c.in-Some-Recover.field-0-is at c.in-Some-Recover.ensures.some)))
+
+pub returns-in-Some-Recover-clause-has_exported : goal.returns-in-Some-Recover-clause-has_exported
+returns-in-Some-Recover-clause-has_exported g c = λ asks. absurd (no_journal_form (map string_bytes c.args.words.now) (M.Read T.Export) asks (inr (rw c.in-Some-Recover.field-0-is at c.in-Some-Recover.ensures.some)))
 
 pub returns-in-Some-Recover-clause-has_demonstrated : goal.returns-in-Some-Recover-clause-has_demonstrated
 returns-in-Some-Recover-clause-has_demonstrated g c = λ sales asks. absurd (no_journal_form (map string_bytes c.args.words.now) (M.Demo sales) asks (inr (rw c.in-Some-Recover.field-0-is at c.in-Some-Recover.ensures.some)))
@@ -119,6 +126,9 @@ returns-in-None-clause-has_replayed g c = λ asks done. subst (HasReplayed _ _ _
 
 pub returns-in-None-clause-has_explained : goal.returns-in-None-clause-has_explained
 returns-in-None-clause-has_explained g c = λ name asks done. subst (HasExplained name _ _ _ _) (sym (ap (λ l. history_of l.items) c.unstored.ensures.history)) (c.run.ensures.has_explained name asks (sym c.unstored.ensures.status ∙ done))
+
+pub returns-in-None-clause-has_exported : goal.returns-in-None-clause-has_exported
+returns-in-None-clause-has_exported g c = λ asks done. subst (HasExported _ _ _ _) (sym (ap (λ l. history_of l.items) c.unstored.ensures.history)) (c.run.ensures.has_exported asks (sym c.unstored.ensures.status ∙ done))
 
 pub returns-in-None-clause-has_demonstrated : goal.returns-in-None-clause-has_demonstrated
 returns-in-None-clause-has_demonstrated g c = λ sales asks.

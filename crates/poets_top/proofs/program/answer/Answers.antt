@@ -18,3 +18,7 @@ returns-in-Replay g c =
 pub returns-in-Explain : goal.returns-in-Explain
 returns-in-Explain g c =
     subst (λ t. AnswersSession t c.args.session (change g.K.Sink.held g.K.Sink.faults c.args.sink.now c.explain.new.sink) c.explain.result) (sym c.in-Explain.is) c.explain.ensures
+
+pub returns-in-Export : goal.returns-in-Export
+returns-in-Export g c =
+    subst (λ t. AnswersSession t c.args.session (change g.K.Sink.held g.K.Sink.faults c.args.sink.now c.export.new.sink) c.export.result) (sym c.in-Export.is) c.export.ensures

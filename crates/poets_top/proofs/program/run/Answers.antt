@@ -5,7 +5,7 @@ use Rattle.poets_top.specs.Runs.{Ends}
 use Rattle.poets_writing.specs.Writing.{stream}
 use Rattle.poets_words.specs.declared.mode.Mode.TheVariants as M
 use Rattle.poets_words.specs.declared.mode.Task.TheVariants as T
-use Rattle.poets_top.proofs.Endings.{asked_of, Ends-asked, Ends-explained, Ends-nothing, Ends-replayed, Ends-run, Ends-shown, Ends-status}
+use Rattle.poets_top.proofs.Endings.{asked_of, Ends-asked, Ends-explained, Ends-exported, Ends-nothing, Ends-replayed, Ends-run, Ends-shown, Ends-status}
 use Rattle.poets_top.proofs.program.run.Goals as goal
 
 pub returns-in_default-clause-ends : goal.returns-in_default-clause-ends
@@ -35,6 +35,12 @@ returns-in-Read-clause-has_explained g c = λ name asks zero.
     let words = map string_bytes c.args.words.now in
     let asked = asked_of words c.in-Ok.found c.in-Some.mode (M.Read c.in-Read.task) c.in-Some.is c.in-Read.is c.in-Ok.ensures.some in
     Ends-explained _ _ _ _ _ _ name zero (Ends-asked _ _ _ _ _ _ words (M.Read c.in-Read.task) (M.Read (T.Explain name)) asked asks (Ends.OfTask c.read_and_answer.ensures.ends))
+
+pub returns-in-Read-clause-has_exported : goal.returns-in-Read-clause-has_exported
+returns-in-Read-clause-has_exported g c = λ asks zero.
+    let words = map string_bytes c.args.words.now in
+    let asked = asked_of words c.in-Ok.found c.in-Some.mode (M.Read c.in-Read.task) c.in-Some.is c.in-Read.is c.in-Ok.ensures.some in
+    Ends-exported _ _ _ _ _ _ zero (Ends-asked _ _ _ _ _ _ words (M.Read c.in-Read.task) (M.Read T.Export) asked asks (Ends.OfTask c.read_and_answer.ensures.ends))
 
 pub returns-in-Read-clause-status : goal.returns-in-Read-clause-status
 returns-in-Read-clause-status g c = λ mode wanted asks deserved faultless.

@@ -1,0 +1,5 @@
+pub mod Statements
+pub mod Books
+pub mod Laws
+pub mod Replies
+pub mod code

@@ -1,0 +1,3 @@
+pub mod Plain
+pub mod Document
+pub mod code

@@ -1,0 +1,14 @@
+//! What is exported.
+
+use poets_call::Entry;
+use poets_report::Report;
+use poets_syntax::Book;
+use poets_value::List;
+
+/// A book with its reports, and a history.
+#[derive(Drop)]
+pub struct Exported {
+    pub book: Book,
+    pub reports: List<Report>,
+    pub history: List<Entry>,
+}
