@@ -9,8 +9,10 @@ TOP = pathlib.Path(__file__).resolve().parent.parent
 PAGE = TOP / "docs/DEFINITIONS.md"
 HEADING = "## From A to Z\n"
 WORD = re.compile(r"[^\s(){}\[\];,.\"]+")
-# `pub data Name`, `abbrev pub name`, `pub record Name (..)`: the name
-ITEM = re.compile(r"(?:abbrev |opaque |unfoldable )?pub (?:data |record )?([^\s:({]+)")
+# `pub data Name`, `abbrev pub name`, `pub record Name (..)`: the name. Within `module _ .. where` it is indented, as the
+# fields of a record are, which have no such word
+ITEM = re.compile(r"(?:(?:abbrev |opaque |unfoldable )?pub (?:data |record )?"
+                  r"| +(?:(?:abbrev|opaque|unfoldable) pub|pub (?:data|record)) )([^\s:({]+)")
 NO_ITEM = re.compile(r"(?:pub )?(?:use|mod) |unfolding")
 IMPORT = re.compile(r"^\s*(?:ghost |pub )*use (Rattle[^;\n]*(?:\n[ \t}][^;\n]*)*)", re.MULTILINE)
 # `ghost use MODULE as name`, and what is then written `name.definition`
@@ -18,6 +20,9 @@ MODULE = re.compile(r"^ *ghost use (Rattle[^;\n{]*) as (\w+);", re.MULTILINE)
 WITHIN = re.compile(r"(?<![\w'.])(\w+)\.([^\s(){}\[\];,.\"]+)")
 CONTRACT = re.compile(
     r"^ *pub fn [^{]*?(?=^\s*(?:requires|ensures) |\{)(.*?)(?=^ *\{\s*$|^ *\{\}|;\s*$)", re.MULTILINE | re.DOTALL)
+# what a trait asks of its functions
+TRAIT = re.compile(r"^pub trait .*?^\}", re.MULTILINE | re.DOTALL)
+ASKED = re.compile(r"^ *fn [^{]*?(?=^\s*(?:requires|ensures) )(.*?);\s*$", re.MULTILINE | re.DOTALL)
 # what callers see of a type
 MODEL = re.compile(r"ghost (?:Value|view) = \{(.*?)\};", re.DOTALL)
 # what it keeps: of its private fields too, whose definitions may stand in specs/code
@@ -26,17 +31,19 @@ KEPT = re.compile(r"ghost invariant = \{(.*?)\};", re.DOTALL)
 
 def comments_of(text):
     """Each definition of the file with the comment above it."""
-    found, comment, is_open = {}, [], False
+    found, comment, is_open, depth = {}, [], False, 0
     for line in text.splitlines():
-        item = ITEM.match(line)
-        if line.startswith("-- ----"):
+        item, bare = ITEM.match(line), line.lstrip()
+        indent = len(line) - len(bare)
+        if bare.startswith("-- ----"):
             comment, is_open = [], False
-        elif line.startswith("--"):
-            comment, is_open = ([] if is_open else comment) + [line[2:].strip()], False
+        elif bare.startswith("--"):
+            comment, is_open = ([] if is_open or indent != depth else comment) + [bare[2:].strip()], False
+            depth = indent
         elif NO_ITEM.match(line):
             comment, is_open = [], False
         elif item:
-            found.setdefault(item[1], " ".join(comment))
+            found.setdefault(item[1], " ".join(comment) if indent == depth else "")
             comment, is_open = [], True
     return found
 
@@ -82,7 +89,8 @@ def named(modules):
         text = path.read_text()
         imports = imports_of(text)
         aliases = {alias: module for module, alias in MODULE.findall(text)}
-        for contract in CONTRACT.findall(text) + MODEL.findall(text):
+        asked = [contract for trait in TRAIT.findall(text) for contract in ASKED.findall(trait)]
+        for contract in CONTRACT.findall(text) + asked + MODEL.findall(text):
             found.update(standing(modules, *imports[word]) for word in WORD.findall(contract) if word in imports)
             found.update(
                 standing(modules, aliases[alias], word) for alias, word in WITHIN.findall(contract) if alias in aliases)

@@ -10,7 +10,7 @@ use Rattle.poets_machine.specs.Histories.{own_calls}
 use Rattle.poets_turn.specs.declared.types.Turn.{Turn}
 use Rattle.poets_turn.specs.declared.types.ClerkOf.{ClerkOf}
 use Rattle.poets_turn.specs.Clerks.{front, calls, number, turn_frame, AreNumbered, IsClerkIn, IsFresh}
-use Rattle.poets_turn.specs.code.Turnstile.{OnlyClerks}
+use Rattle.poets_turn.specs.Settings.{OnlyClerks}
 use Rattle.poets_clerks.specs.Histories.{AreInOrder, AreReplies, FillPlaces, HasScripts}
 use Rattle.poets_clerks.specs.Scripts.{IsAnswer, AreAnswers, EachWorked, HaveWorked}
 use Rattle.poets_clerks.proofs.Covering.{covers, right_there, dropped}

@@ -9,7 +9,7 @@ use Rattle.poets_machine.specs.Histories.{own_calls}
 use Rattle.poets_turn.specs.declared.types.Turn.{Turn}
 use Rattle.poets_turn.specs.declared.types.ClerkOf.{ClerkOf}
 use Rattle.poets_turn.specs.Clerks.{front, calls, number, AreNumbered, IsClerkIn, IsFresh}
-use Rattle.poets_turn.specs.code.Turnstile.{OnlyClerks}
+use Rattle.poets_turn.specs.Settings.{OnlyClerks}
 use Rattle.poets_turn.proofs.Fronts.{prefix_nil}
 use Rattle.poets_clerks.specs.Histories.{HasScriptParts}
 use Rattle.poets_clerks.specs.Scripts.{EachWorked, HaveWorked}

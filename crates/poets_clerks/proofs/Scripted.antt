@@ -6,7 +6,7 @@ use Rattle.std.proofs.lemmas.List.{map-append}
 use Rattle.std.proofs.lemmas.List.Elements.{All-contains, All-map, Contains-append_left, Contains-append_right}
 use Rattle.std.proofs.lemmas.Option.{slice_get-get_or}
 use Rattle.poets_machine.specs.Histories.{own_calls}
-use Rattle.poets_turn.specs.code.Turnstile.{OnlyClerks}
+use Rattle.poets_turn.specs.Settings.{OnlyClerks}
 use Rattle.poets_clerks.specs.Histories.{HasScriptParts, HasScripts}
 
 module _ {C : Type 0} where

@@ -2,7 +2,7 @@
 use Rattle.std.specs.Prelude.{◌≡◌, ℕ, ◌+◌, ◌<◌, List, length, take, All, Contains, Option, Some, slice_get}
 use mathlib.Core.List.{IsPrefix}
 use Rattle.poets_machine.specs.Histories.{own_calls}
-use Rattle.poets_turn.specs.code.Turnstile.{OnlyClerks}
+use Rattle.poets_turn.specs.Settings.{OnlyClerks}
 
 -- the calls of each clerk are its script, in order, and no other clerk's stand there
 pub record HasScripts {C : Type 0} (scripts : List (List C)) (history : List (ℕ × C)) : Type 0 where

@@ -63,9 +63,12 @@ pub(crate) struct Crew<'a, M: Machine> {
 impl<'a, M: Machine> Team for Crew<'a, M> {
     type Desk = DeskOf<M, M::Call, M::Frame, M::Reply>;
 
-    ghost may = { λ t n d. (n < length t.scripts.now) × IsClerkOf M.frame t.turn.now d.clerk × ((s : _) → All (λ c. M.takes (turn_frame M.frame t.turn.now) (arc_value c)) (slice_index_or t.scripts.now n s).items) };
+    ghost may = { λ t n d. (n < length t.scripts.now) × IsClerkOf M.frame t.turn.now d.clerk
+        × ((s : _) → All (λ c. M.takes (turn_frame M.frame t.turn.now) (arc_value c))
+        (slice_index_or t.scripts.now n s).items) };
 
-    ghost did = { λ t n d e. (s : _) → HasWorked M.frame M.answers t.turn.now e.memory (calls_of (slice_index_or t.scripts.now n s)) d.clerk e.clerk (answers_of e.answers) };
+    ghost did = { λ t n d e. (s : _) → HasWorked M.frame M.answers t.turn.now e.memory
+        (calls_of (slice_index_or t.scripts.now n s)) d.clerk e.clerk (answers_of e.answers) };
 
     fn run<G: Gate, R: Threads + Wait + Sync>(
         &self,

@@ -50,7 +50,8 @@ fn asked(rt: &HostRuntime) -> Option<(u32, u32)>
 fn opened(alloc: Global, clerks: u32) -> Result<(Turn<Adder>, List<Clerk<Adder>>), Memory>
     requires { (0 < clerks) × (clerks ≤ most_clerks) }
     ensures turn { IfOk result (λ r. (clerk_count r.0 ≡ clerks) × (turn_frame most_of r.0 ≡ 1)) }
-    ensures clerks { IfOk result (λ r. (length r.1.items ≡ clerks) × AreNumbered r.1.items × All (λ c. IsClerkOf most_of r.0 c) r.1.items) }
+    ensures clerks { IfOk result (λ r. (length r.1.items ≡ clerks) × AreNumbered r.1.items
+        × All (λ c. IsClerkOf most_of r.0 c) r.1.items) }
 {
     match Turn::start(alloc, Adder::new(alloc, 1), clerks) {
         Ok(opened) => Ok(opened),

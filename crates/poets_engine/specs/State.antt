@@ -11,10 +11,12 @@ use Rattle.poets_call.specs.Rules.{book_of_rules, reports_of_rules}
 use Rattle.poets_call.specs.Calls.{Call, calls_of, command_of}
 use Rattle.poets_call.specs.Plain.{Reply}
 use Rattle.poets_call.specs.Histories.{AnswersIn, IsLegal}
+use Rattle.poets_call.specs.Ledger.{ledger_of}
 use Rattle.poets_call.specs.Plain as plain
 use Rattle.poets_engine.specs.Accepted.{has_changed}
 use Rattle.poets_engine.specs.Works.{OwesReply}
 use Rattle.poets_engine.specs.Store.{StoreView}
+use Rattle.poets_engine.specs.Rows.{IsLedger}
 use Rattle.poets_engine.specs.declared.kept.Body.{Body}
 use Rattle.poets_engine.specs.declared.kept.Kept.{Kept}
 
@@ -32,11 +34,12 @@ commands_of history = map (λ p. (p.0, arc_value p.1)) history
 abbrev pub plain_calls : List (ℕ × Command) → List Call
 plain_calls calls = map (λ p. (p.0, command_of p.1)) calls
 
--- the engine's calls are those of a legal history
+-- the engine's calls are those of a legal history, and what it keeps is what that history amounts to
 pub record HasLegalHistory (e : State) : Type 0 where
   pub entries : List plain.Entry
   pub legal : IsLegal (book_of_rules e.rules) (reports_of_rules e.rules) entries
   pub same : calls_of entries ≡ plain_calls e.calls
+  pub ledger : IsLedger e.rules (ledger_of entries) e.store
 
 -- the engine has one call more, which is the clerk's, with the command
 abbrev pub AddsCall : ℕ → Arc Command Global → (old new : State) → Type 0

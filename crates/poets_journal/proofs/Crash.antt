@@ -3,7 +3,7 @@ use Rattle.std.proofs.Common.{◌≡◌, inl, inr, ℕ, ◌+◌, ◌≤◌, List
 use Rattle.std.proofs.lemmas.Bool.{cases_eq}
 use Rattle.std.proofs.lemmas.List.{take_at, drop_at, drop_more}
 use Rattle.poets_disk.specs.Disks.{Seen, MayLeave, During, Writes, IsTorn, IsSure, over}
-use Rattle.poets_journal.specs.Texts.{BeginsWith, AreRecords, IsClosed, HoldsFrom, Holds, IsFrame}
+use Rattle.poets_journal.specs.Texts.{BeginsWith, AreRecords, IsClosed, HoldsFrom, HoldsTexts, IsFrame}
 use Rattle.poets_journal.specs.Journals.{AllHold, HoldsOrMore, with_record}
 use Rattle.poets_journal.specs.code.Gates.{HasGateAt, HasStaged, IsReady, IsStaged}
 use Rattle.poets_journal.proofs.Held.{records_more, same_held, held_by_gate, gate_of}
@@ -23,7 +23,7 @@ take_front : (at : ℕ) (file front : List ℕ) (gate : ℕ) (rest : List ℕ) �
 take_front at file front gate rest is place = ap (λ (l : List ℕ). take at l) is ∙ take_at front (gate ∷ rest) at (sym place)
 
 -- the gate stands in each outcome of the first write
-pub torn_behind : (at count : ℕ) (file image : List ℕ) (texts : List (List ℕ)) → HasGateAt at file → IsTorn (at + 1) count file image → Holds file texts → Holds image texts
+pub torn_behind : (at count : ℕ) (file image : List ℕ) (texts : List (List ℕ)) → HasGateAt at file → IsTorn (at + 1) count file image → HoldsTexts file texts → HoldsTexts image texts
 torn_behind at count file image texts g torn held =
     let front : take (at + 1) image ≡ g.front ++ g.gate ∷ [] = torn.before ∙ take_gate at file g.front g.gate g.rest g.has.is g.place in
     let is : image ≡ g.front ++ g.gate ∷ drop (at + 1) image =
@@ -70,11 +70,11 @@ opened_records at text file image s is =
 zero_closed : (rest : List ℕ) → IsClosed (0 ∷ rest)
 zero_closed rest = omega arith
 
-staged_texts : (at : ℕ) (text file : List ℕ) (texts : List (List ℕ)) (s : HasStaged at text file) → Holds file texts → s.texts ≡ texts
+staged_texts : (at : ℕ) (text file : List ℕ) (texts : List (List ℕ)) (s : HasStaged at text file) → HoldsTexts file texts → s.texts ≡ texts
 staged_texts at text file texts s held = same_held file s.texts texts (inr (held_by_gate file s.texts s.front s.gate (s.frame ++ s.rest) s.has)) held
 
 -- in each outcome of the second write the record counts or it does not
-pub torn_gate : (at : ℕ) (text file image : List ℕ) (texts : List (List ℕ)) → HasStaged at text file → IsTorn at 1 file image → Holds file texts → HoldsOrMore texts text image
+pub torn_gate : (at : ℕ) (text file image : List ℕ) (texts : List (List ℕ)) → HasStaged at text file → IsTorn at 1 file image → HoldsTexts file texts → HoldsOrMore texts text image
 torn_gate at text file image texts s torn held =
     let long : length file ≡ at + 1 + length (s.frame ++ s.rest) = ap length s.has.is ∙ length-append s.front (s.gate ∷ (s.frame ++ s.rest)) ∙ omega (arith, s.place) in
     let gate : ℕ = get_or image at 0 in
@@ -97,7 +97,7 @@ over_gate at text file s =
     ap (λ (l : List ℕ). l ++ (1 ∷ drop (at + 1) file)) (take_front at file s.front s.gate (s.frame ++ s.rest) s.has.is s.place)
     ∙ ap (λ (l : List ℕ). s.front ++ (1 ∷ l)) (drop_gate at file s.front s.gate (s.frame ++ s.rest) s.has.is s.place)
 
-pub opened_holds : (at : ℕ) (text file : List ℕ) (texts : List (List ℕ)) → HasStaged at text file → Holds file texts → Holds (over at (1 ∷ []) file) (texts ++ text ∷ [])
+pub opened_holds : (at : ℕ) (text file : List ℕ) (texts : List (List ℕ)) → HasStaged at text file → HoldsTexts file texts → HoldsTexts (over at (1 ∷ []) file) (texts ++ text ∷ [])
 opened_holds at text file texts s held =
     let same : s.texts ≡ texts = staged_texts at text file texts s held in
     inr (subst (λ ts. HoldsFrom (over at (1 ∷ []) file) (ts ++ text ∷ [])) same (record {
@@ -136,7 +136,7 @@ pub told : (P : List ℕ → Type 0) (bytes : Option (List ℕ)) (file : List �
 told P bytes file p e = subst (λ o. IfSome o P) e p
 
 -- the first write, at each moment
-pub stage_during : (old new : Seen) (at : ℕ) (frame : List ℕ) (texts : List (List ℕ)) → IsReady old at → Writes (at + 1) frame old new → AllHold old texts → During old new (λ image. Holds image texts)
+pub stage_during : (old new : Seen) (at : ℕ) (frame : List ℕ) (texts : List (List ℕ)) → IsReady old at → Writes (at + 1) frame old new → AllHold old texts → During old new (λ image. HoldsTexts image texts)
 stage_during old new at frame texts ready writes held image since =
     let t = writes.during image since in
     torn_behind at (length frame) t.whole image texts (told (HasGateAt at) old.bytes t.whole ready.file (ready.sure t.whole t.left)) t.torn (held t.whole t.left)
@@ -155,13 +155,13 @@ none_absurd : (file : List ℕ) → None ≡ Some file → ⊥
 none_absurd file e = subst is_none e tt
 
 -- after both, whatever a crash leaves has the new text
-pub opened_image : (bytes : Option (List ℕ)) (next : Option (List ℕ)) (at : ℕ) (text image : List ℕ) (texts : List (List ℕ)) → IfSome bytes (HasStaged at text) → IfSome bytes (λ file. Holds file texts)
-    → next ≡ option_map (over at (1 ∷ [])) bytes → next ≡ Some image → Holds image (texts ++ text ∷ [])
+pub opened_image : (bytes : Option (List ℕ)) (next : Option (List ℕ)) (at : ℕ) (text image : List ℕ) (texts : List (List ℕ)) → IfSome bytes (HasStaged at text) → IfSome bytes (λ file. HoldsTexts file texts)
+    → next ≡ option_map (over at (1 ∷ [])) bytes → next ≡ Some image → HoldsTexts image (texts ++ text ∷ [])
 opened_image None next at text image texts s held e is = absurd (none_absurd image (sym e ∙ is))
 opened_image (Some file) next at text image texts s held e is =
-    told (λ l. Holds l (texts ++ text ∷ [])) (option_map (over at (1 ∷ [])) (Some file)) image (opened_holds at text file texts s held) (sym e ∙ is)
+    told (λ l. HoldsTexts l (texts ++ text ∷ [])) (option_map (over at (1 ∷ [])) (Some file)) image (opened_holds at text file texts s held) (sym e ∙ is)
 
-pub held_bytes : (disk : Seen) (bytes : Option (List ℕ)) (texts : List (List ℕ)) → AllHold disk texts → ((file : List ℕ) → bytes ≡ Some file → MayLeave disk file) → IfSome bytes (λ file. Holds file texts)
+pub held_bytes : (disk : Seen) (bytes : Option (List ℕ)) (texts : List (List ℕ)) → AllHold disk texts → ((file : List ℕ) → bytes ≡ Some file → MayLeave disk file) → IfSome bytes (λ file. HoldsTexts file texts)
 held_bytes disk None texts held left = tt
 held_bytes disk (Some file) texts held left = held file (left file refl)
 

@@ -1,7 +1,7 @@
 -- What files of records hold.
 use Rattle.std.proofs.Common.{◌≡◌, inl, inr, ℕ, ◌+◌, ◌≤◌, List, [], ◌∷◌, ◌++◌, length, get_or, take, drop, refl, sym, ◌∙◌, ap, subst, arith, append_assoc, length-append}
 use Rattle.std.proofs.lemmas.List.{take_at, drop_at}
-use Rattle.poets_journal.specs.Texts.{number_of, BeginsWith, AreRecords, IsClosed, HoldsFrom, Holds}
+use Rattle.poets_journal.specs.Texts.{number_of, BeginsWith, AreRecords, IsClosed, HoldsFrom, HoldsTexts}
 use Rattle.poets_journal.specs.code.Gates.{HasGate, HasGateAt}
 
 -- what stands ahead of the rest
@@ -63,7 +63,7 @@ short_none : (bytes : List ℕ) (texts : List (List ℕ)) → length bytes ≤ 1
 short_none bytes [] short h = refl
 short_none bytes (t ∷ ts) short h = absurd (omega (arith, short, ap length h.records.1.is))
 
-pub same_held : (bytes : List ℕ) (texts others : List (List ℕ)) → Holds bytes texts → Holds bytes others → texts ≡ others
+pub same_held : (bytes : List ℕ) (texts others : List (List ℕ)) → HoldsTexts bytes texts → HoldsTexts bytes others → texts ≡ others
 same_held bytes texts others (inl h) (inl k) = h.1 ∙ sym k.1
 same_held bytes texts others (inl h) (inr k) = h.1 ∙ sym (short_none bytes others h.0 k)
 same_held bytes texts others (inr h) (inl k) = short_none bytes texts k.0 h ∙ sym k.1

@@ -3,7 +3,7 @@ use Rattle.std.proofs.Common.{◌≡◌, ◌⊎◌, inl, inr, ⊎_elim, ℕ, ◌
 use Rattle.std.proofs.lemmas.List.{take_all, take_at, take-append-le, length_push, map_push}
 use Rattle.poets_io.specs.Causes.{Rose}
 use Rattle.poets_disk.specs.Disks.{Seen, Since, GoesOn, During}
-use Rattle.poets_journal.specs.Texts.{Holds}
+use Rattle.poets_journal.specs.Texts.{HoldsTexts}
 use Rattle.poets_journal.specs.Journals.{AllHold, HoldsOrMore}
 use Rattle.poets_journal.specs.Keeping.{IsKept, HoldsFirst, HoldsFront, texts_by}
 use Rattle.poets_disk.proofs.Moments.{left_now, since_both, goes_on, stands, only_now}
@@ -12,23 +12,23 @@ use Rattle.poets_disk.proofs.Moments.{left_now, since_both, goes_on, stands, onl
 pub first_more : (texts : List (List ℕ)) (text : List ℕ) (count : ℕ) (file : List ℕ) → HoldsFirst texts count file → HoldsFirst (texts ++ text ∷ []) count file
 first_more texts text count file h = (
   omega (arith, h.0, length_push texts text),
-  subst (Holds file) (sym (take-append-le count texts (text ∷ []) h.0)) h.1,
+  subst (HoldsTexts file) (sym (take-append-le count texts (text ∷ []) h.0)) h.1,
 )
 
 -- all texts are so many first ones of them and one more
-pub first_all : (texts : List (List ℕ)) (text file : List ℕ) → Holds file texts → HoldsFirst (texts ++ text ∷ []) (length texts) file
+pub first_all : (texts : List (List ℕ)) (text file : List ℕ) → HoldsTexts file texts → HoldsFirst (texts ++ text ∷ []) (length texts) file
 first_all texts text file h = (
   omega (arith, length_push texts text),
-  subst (Holds file) (sym (take_at texts (text ∷ []) (length texts) refl)) h,
+  subst (HoldsTexts file) (sym (take_at texts (text ∷ []) (length texts) refl)) h,
 )
 
-pub first_whole : (texts : List (List ℕ)) (file : List ℕ) → Holds file texts → HoldsFirst texts (length texts) file
-first_whole texts file h = (omega arith, subst (Holds file) (sym (take_all (length texts) texts (omega arith))) h)
+pub first_whole : (texts : List (List ℕ)) (file : List ℕ) → HoldsTexts file texts → HoldsFirst texts (length texts) file
+first_whole texts file h = (omega arith, subst (HoldsTexts file) (sym (take_all (length texts) texts (omega arith))) h)
 
 -- where the journal has not failed, each image holds all texts
 pub all_held : (made disk : Seen) (before now stored : ℕ) (texts : List (List ℕ)) → IsKept made disk before now false stored texts → AllHold disk texts
 all_held made disk before now stored texts k image left = ⊎_elim
-    (λ here. subst (Holds image) (take_all stored texts (omega (arith, k.whole refl))) here.1)
+    (λ here. subst (HoldsTexts image) (take_all stored texts (omega (arith, k.whole refl))) here.1)
     (λ past. absurd (omega (arith, past.0, k.whole refl)))
     (k.now_holds image left)
 

@@ -2,7 +2,7 @@
 use Rattle.std.proofs.Common.{◌≡◌, inl, inr, ℕ, ◌+◌, ◌-◌, ◌<◌, ◌≤◌, List, [], ◌∷◌, ◌++◌, length, Option, Some, None, IfSome, option_map, refl, sym, ◌∙◌, ap, subst, arith, zero-le}
 use Rattle.std.proofs.lemmas.List.{drop_all}
 use Rattle.poets_disk.specs.Disks.{Seen, MayLeave, GoesOn, During, Rests, Writes, IsTorn, IsSure, over, longest_file}
-use Rattle.poets_journal.specs.Texts.{BeginsWith, AreRecords, IsClosed, Holds, IsCutShort, IsDamaged}
+use Rattle.poets_journal.specs.Texts.{BeginsWith, AreRecords, IsClosed, HoldsTexts, IsCutShort, IsDamaged}
 use Rattle.poets_journal.specs.Journals.{AllHold}
 use Rattle.poets_journal.specs.Starts.{StaysOrIsShort, with_gate}
 use Rattle.poets_journal.specs.code.Gates.{HasGateAt, IsReady}
@@ -31,11 +31,11 @@ damaged_none bytes (t ∷ ts) rest (u ∷ us) last r cut q closed =
     let same = same_text t u bytes r.0 q.0 r.1 q.1 in
     damaged_none r.0 ts rest us last r.2 cut (subst (λ l. AreRecords l us last) (sym same.1) q.2) closed
 
-pub damaged_holds_none : (file : List ℕ) (number : ℕ) → IsDamaged file number → (texts : List (List ℕ)) → Holds file texts → ⊥
+pub damaged_holds_none : (file : List ℕ) (number : ℕ) → IsDamaged file number → (texts : List (List ℕ)) → HoldsTexts file texts → ⊥
 damaged_holds_none file number d texts (inl h) = omega (arith, d.long, h.0)
 damaged_holds_none file number d texts (inr h) = damaged_none file d.texts d.rest texts h.rest d.records d.cut h.records h.closed
 
-pub damaged_bytes : (bytes : Option (List ℕ)) (number : ℕ) → IfSome bytes (λ file. IsDamaged file number) → IfSome bytes (λ file. (texts : List (List ℕ)) → Holds file texts → ⊥)
+pub damaged_bytes : (bytes : Option (List ℕ)) (number : ℕ) → IfSome bytes (λ file. IsDamaged file number) → IfSome bytes (λ file. (texts : List (List ℕ)) → HoldsTexts file texts → ⊥)
 damaged_bytes None number d = tt
 damaged_bytes (Some file) number d = damaged_holds_none file number d
 
@@ -70,7 +70,7 @@ zero_short (Some file) is = omega (arith, ap length is)
 pub opened_gates : (file : List ℕ) (texts : List (List ℕ)) (gate : ℕ) → IsOpened file texts gate → HasGateAt gate file
 opened_gates file texts gate o = gate_of file texts o.rest gate o.records o.closed o.place
 
-pub opened_held : (file : List ℕ) (texts : List (List ℕ)) (gate : ℕ) → IsOpened file texts gate → Holds file texts
+pub opened_held : (file : List ℕ) (texts : List (List ℕ)) (gate : ℕ) → IsOpened file texts gate → HoldsTexts file texts
 opened_held file texts gate o = inr (record { rest = o.rest; records = o.records; closed = o.closed })
 
 pub zero_in : (bytes : Option (List ℕ)) → IfSome bytes (λ file. 0 ≤ length file)
@@ -101,13 +101,13 @@ ready_of disk list texts gate o long same sure = record {
 
 pub held_of : (disk : Seen) (list : List ℕ) (texts : List (List ℕ)) (gate : ℕ) → IsOpened list texts gate → IfSome disk.bytes (λ file. list ≡ file) → IsSure disk → AllHold disk texts
 held_of disk list texts gate o same sure image left =
-    told (λ file. Holds file texts) disk.bytes image (same_file (λ file. Holds file texts) disk.bytes list same (opened_held list texts gate o)) (sure image left)
+    told (λ file. HoldsTexts file texts) disk.bytes image (same_file (λ file. HoldsTexts file texts) disk.bytes list same (opened_held list texts gate o)) (sure image left)
 
-pub texts_of_bytes : (bytes : Option (List ℕ)) (list : List ℕ) (texts : List (List ℕ)) (gate : ℕ) → IsOpened list texts gate → IfSome bytes (λ file. list ≡ file) → IfSome bytes (λ file. Holds file texts)
-texts_of_bytes bytes list texts gate o same = same_file (λ file. Holds file texts) bytes list same (opened_held list texts gate o)
+pub texts_of_bytes : (bytes : Option (List ℕ)) (list : List ℕ) (texts : List (List ℕ)) (gate : ℕ) → IsOpened list texts gate → IfSome bytes (λ file. list ≡ file) → IfSome bytes (λ file. HoldsTexts file texts)
+texts_of_bytes bytes list texts gate o same = same_file (λ file. HoldsTexts file texts) bytes list same (opened_held list texts gate o)
 
-pub none_held : (bytes : Option (List ℕ)) (list : List ℕ) → length list ≤ 1 → IfSome bytes (λ file. list ≡ file) → IfSome bytes (λ file. Holds file [])
-none_held bytes list short same = same_file (λ file. Holds file []) bytes list same (inl (short, refl))
+pub none_held : (bytes : Option (List ℕ)) (list : List ℕ) → length list ≤ 1 → IfSome bytes (λ file. list ≡ file) → IfSome bytes (λ file. HoldsTexts file [])
+none_held bytes list short same = same_file (λ file. HoldsTexts file []) bytes list same (inl (short, refl))
 
 -- both at once, for the shorter of two files: the start of a file of at most one byte
 pub short_during : (a b c : Seen) → Rests a b → GoesOn b c → During b c (λ image. length image ≤ 1) → IfSome c.bytes (λ file. length file ≤ 1) → During a c (StaysOrIsShort a c)

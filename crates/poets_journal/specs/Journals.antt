@@ -2,15 +2,15 @@
 use Rattle.std.specs.Prelude.{◌⊎◌, ℕ, ◌+◌, List, [], ◌∷◌, ◌++◌, map}
 use Rattle.poets_value.specs.Listed.{Listed}
 use Rattle.poets_disk.specs.Disks.{Seen, MayLeave, over}
-use Rattle.poets_journal.specs.Texts.{Holds}
+use Rattle.poets_journal.specs.Texts.{HoldsTexts}
 
 -- each image holds the texts
 abbrev pub AllHold : Seen → List (List ℕ) → Type 0
-AllHold disk texts = (image : List ℕ) → MayLeave disk image → Holds image texts
+AllHold disk texts = (image : List ℕ) → MayLeave disk image → HoldsTexts image texts
 
 -- the file holds the texts, or these and one more
 abbrev pub HoldsOrMore : List (List ℕ) → List ℕ → List ℕ → Type 0
-HoldsOrMore texts text file = Holds file texts ⊎ Holds file (texts ++ text ∷ [])
+HoldsOrMore texts text file = HoldsTexts file texts ⊎ HoldsTexts file (texts ++ text ∷ [])
 
 -- the file with the frame behind the gate at that place, and then the gate opened
 abbrev pub with_record : ℕ → List ℕ → List ℕ → List ℕ

@@ -3,7 +3,7 @@ use Rattle.std.specs.Prelude.{◌≡◌, ◌⊎◌, ℕ, ◌+◌, ◌≤◌, ◌
 use Rattle.poets_io.specs.Causes.{Rose}
 use Rattle.std.specs.Coded.{Coded, code_by, coded×, coded_ℕ}
 use Rattle.poets_disk.specs.Disks.{Seen, MayLeave, Since, GoesOn}
-use Rattle.poets_journal.specs.Texts.{Holds}
+use Rattle.poets_journal.specs.Texts.{HoldsTexts}
 use Rattle.poets_journal.specs.JournalValue.{JournalOf, journal_code}
 
 -- what contracts see of it: the machine, its journal, what gives calls their texts, how many of its first calls are
@@ -28,7 +28,7 @@ texts_by text history = map (λ e. text e.0 e.1) history
 
 -- the file holds so many of the texts, the first ones
 abbrev pub HoldsFirst : List (List ℕ) → ℕ → List ℕ → Type 0
-HoldsFirst texts count file = (count ≤ length texts) × Holds file (take count texts)
+HoldsFirst texts count file = (count ≤ length texts) × HoldsTexts file (take count texts)
 
 -- the file holds the first ones of the texts, however many
 abbrev pub HoldsFront : List (List ℕ) → List ℕ → Type 0

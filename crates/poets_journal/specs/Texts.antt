@@ -40,8 +40,8 @@ pub record HoldsFrom (bytes : List ℕ) (texts : List (List ℕ)) : Type 0 where
   pub closed : IsClosed rest
 
 -- the file holds the texts: records of them, or none where it has at most one byte
-abbrev pub Holds : List ℕ → List (List ℕ) → Type 0
-Holds file texts = ((length file ≤ 1) × (texts ≡ [])) ⊎ HoldsFrom file texts
+abbrev pub HoldsTexts : List ℕ → List (List ℕ) → Type 0
+HoldsTexts file texts = ((length file ≤ 1) × (texts ≡ [])) ⊎ HoldsFrom file texts
 
 -- a record is begun that is not whole, or has no byte behind it
 pub record IsCutShort (bytes : List ℕ) : Type 0 where

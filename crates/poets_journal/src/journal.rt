@@ -2,7 +2,7 @@
 ghost use Rattle.std.specs.Prelude.{◌≡◌, ◌≤◌, ◌<◌, ◌+◌, false, true, ◌++◌, [], ◌∷◌, length, option_map, OnOk, OnErr};
 ghost use Rattle.poets_io.specs.Causes.{HasCause};
 ghost use Rattle.poets_disk.specs.Disks.{During, GoesOn, longest_file, over};
-ghost use Rattle.poets_journal.specs.Texts.{Holds, IsFrame, Text, Texts};
+ghost use Rattle.poets_journal.specs.Texts.{HoldsTexts, IsFrame, Text, Texts};
 ghost use Rattle.poets_journal.specs.Journals.{AllHold, HoldsOrMore, with_record};
 ghost use Rattle.poets_journal.specs.code.Gates.{IsReady, IsStaged};
 
@@ -121,7 +121,7 @@ fn stage<D: Disk>(disk: &mut D, at: u64, frame: &[u8]) -> Result<(), Failed>
     requires ready { IsReady (D.seen disk.old) at }
     ensures time { GoesOn (D.seen disk.old) (D.seen disk.new) }
     ensures during { (texts : Texts) → AllHold (D.seen disk.old) texts
-        → During (D.seen disk.old) (D.seen disk.new) (λ image. Holds image texts) }
+        → During (D.seen disk.old) (D.seen disk.new) (λ image. HoldsTexts image texts) }
     ensures staged { OnOk result ((text : Text) → IsFrame text frame.now → IsStaged (D.seen disk.new) at text) }
     ensures file { OnOk result ((D.seen disk.new).bytes
         ≡ option_map (over (at + 1) frame.now) (D.seen disk.old).bytes) }

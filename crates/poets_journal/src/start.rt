@@ -2,7 +2,7 @@
 ghost use Rattle.std.specs.Prelude.{◌≡◌, ◌<◌, ◌≤◌, ◌+◌, false, [], ◌∷◌, true, drop, length, option_map, IfOk, IfSome, OnOk, IsErrOf};
 ghost use Rattle.poets_io.specs.Causes.{HasCause, Rose};
 ghost use Rattle.poets_disk.specs.Disks.{Rests, GoesOn, During, IsSure, longest_file};
-ghost use Rattle.poets_journal.specs.Texts.{Holds, IsClosed, IsDamaged, Texts};
+ghost use Rattle.poets_journal.specs.Texts.{HoldsTexts, IsClosed, IsDamaged, Texts};
 ghost use Rattle.poets_journal.specs.Journals.{AllHold, texts_of};
 ghost use Rattle.poets_journal.specs.code.Gates.{IsReady};
 ghost use Rattle.poets_journal.specs.Starts.{StaysOrIsShort, with_gate};
@@ -86,11 +86,11 @@ impl<D: Disk> Journal<D> {
             (StaysOrIsShort (D.seen disk) (D.seen (disk_of result))) }
         ensures works { IfOk result (λ s. s.journal.failed ≡ false) }
         ensures started { IfOk result (λ s. AllHold (D.seen s.journal.disk) (texts_of s.texts)) }
-        ensures texts { IfOk result (λ s. IfSome (D.seen disk).bytes (λ file. Holds file (texts_of s.texts))) }
+        ensures texts { IfOk result (λ s. IfSome (D.seen disk).bytes (λ file. HoldsTexts file (texts_of s.texts))) }
         ensures file { IfOk result (λ s. (D.seen s.journal.disk).bytes ≡ option_map with_gate (D.seen disk).bytes) }
         ensures damaged { OnDamaged result (λ number. IfSome (D.seen disk).bytes (λ file. IsDamaged file number)) }
         ensures nothing { OnDamaged result (λ number. IfSome (D.seen disk).bytes
-            (λ file. (texts : Texts) → ¬ (Holds file texts))) }
+            (λ file. (texts : Texts) → ¬ (HoldsTexts file texts))) }
         ensures kept { OnDamaged result (λ number. (D.seen (disk_of result)).bytes ≡ (D.seen disk).bytes) }
         ensures later { D.faults disk ≤ D.faults (disk_of result) }
         ensures cause { HasStartCause (D.faults disk) (D.faults (disk_of result)) result }
@@ -115,7 +115,7 @@ fn open<D: Disk>(alloc: Global, disk: &mut D) -> Result<Opened, OpenFault>
         (StaysOrIsShort (D.seen disk.old) (D.seen disk.new)) }
     ensures ready { IfOk result (λ o. IsReady (D.seen disk.new) o.gate) }
     ensures all { IfOk result (λ o. AllHold (D.seen disk.new) (texts_of o.texts)) }
-    ensures texts { IfOk result (λ o. IfSome (D.seen disk.old).bytes (λ file. Holds file (texts_of o.texts))) }
+    ensures texts { IfOk result (λ o. IfSome (D.seen disk.old).bytes (λ file. HoldsTexts file (texts_of o.texts))) }
     ensures file { IfOk result (λ o. (D.seen disk.new).bytes ≡ option_map with_gate (D.seen disk.old).bytes) }
     ensures damaged { OnNumber result (λ number. IfSome (D.seen disk.old).bytes (λ file. IsDamaged file number)) }
     ensures kept { OnNumber result (λ number. (D.seen disk.new).bytes ≡ (D.seen disk.old).bytes) }

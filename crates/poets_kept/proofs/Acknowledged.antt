@@ -7,7 +7,7 @@ use Rattle.poets_call.specs.Calls.{Call, calls_of}
 use Rattle.poets_call.specs.Plain.{Entry}
 use Rattle.poets_disk.specs.Disks.{Seen, MayLeave}
 use Rattle.poets_disk.proofs.Moments.{during_both}
-use Rattle.poets_journal.specs.Texts.{Holds, Texts}
+use Rattle.poets_journal.specs.Texts.{HoldsTexts, Texts}
 use Rattle.poets_journal.specs.Journals.{AllHold}
 use Rattle.poets_journal.specs.Keeping.{HoldsFirst, HoldsFront, IsKept}
 use Rattle.poets_journal.specs.Starts.{StaysOrIsShort}
@@ -42,11 +42,11 @@ module _ (names : Table) (disk made disk' : Seen) (faults faults' stored : ℕ) 
   unacknowledged false kept few = let all = kept.whole refl in let long = texts_long names h in absurd (omega (arith, all, long, few))
 
 -- where all calls are acknowledged, an image has them all
-pub all_survive : (names : Table) (disk disk' : Seen) (h : List Entry) → AreAcknowledged names disk disk' (length h) h → (image : List ℕ) → MayLeave disk' image → Holds image (texts_of names h)
+pub all_survive : (names : Table) (disk disk' : Seen) (h : List Entry) → AreAcknowledged names disk disk' (length h) h → (image : List ℕ) → MayLeave disk' image → HoldsTexts image (texts_of names h)
 all_survive names disk disk' h ack image left = whole (ack.survive image left)
   where
-    whole : HoldsFirst (texts_of names h) (length h) image ⊎ HoldsFirst (texts_of names h) (length h + 1) image → Holds image (texts_of names h)
-    whole (inl held) = subst (Holds image) (ap (λ n. take n (texts_of names h)) (sym (texts_long names h)) ∙ take_whole (texts_of names h)) held.1
+    whole : HoldsFirst (texts_of names h) (length h) image ⊎ HoldsFirst (texts_of names h) (length h + 1) image → HoldsTexts image (texts_of names h)
+    whole (inl held) = subst (HoldsTexts image) (ap (λ n. take n (texts_of names h)) (sym (texts_long names h)) ∙ take_whole (texts_of names h)) held.1
       where
         take_whole : (xs : Texts) → take (length xs) xs ≡ xs
         take_whole [] = refl

@@ -10,7 +10,7 @@ use Rattle.poets_call.specs.Calls.{calls_of}
 use Rattle.poets_call.specs.Plain.{Entry}
 use Rattle.poets_call.specs.Said.{Statement}
 use Rattle.poets_disk.specs.Disks.{Seen}
-use Rattle.poets_journal.specs.Texts.{Holds, IsDamaged, Texts}
+use Rattle.poets_journal.specs.Texts.{HoldsTexts, IsDamaged, Texts}
 use Rattle.poets_session.specs.declared.form.Form.{Form}
 use Rattle.poets_session.specs.declared.form.Form.TheVariants as F
 use Rattle.poets_session.specs.Sessions.{IsNoSession, IsSession, Text}
@@ -29,11 +29,11 @@ use Rattle.poets_kept.specs.Writing.{EndsWriting}
 
 -- what a file holds
 abbrev OneHeld : Type 0
-OneHeld = (file : List ℕ) (texts others : Texts) → Holds file texts → Holds file others → texts ≡ others
+OneHeld = (file : List ℕ) (texts others : Texts) → HoldsTexts file texts → HoldsTexts file others → texts ≡ others
 
 -- a damaged file holds nothing
 abbrev NoneHeld : Type 0
-NoneHeld = (file : List ℕ) (number : ℕ) (texts : Texts) → IsDamaged file number → Holds file texts → ⊥
+NoneHeld = (file : List ℕ) (number : ℕ) (texts : Texts) → IsDamaged file number → HoldsTexts file texts → ⊥
 
 told : (P : List ℕ → Type 0) (bytes : Option (List ℕ)) (file : List ℕ) → bytes ≡ Some file → IfSome bytes P → P file
 told P bytes file is held = subst (λ b. IfSome b P) is held
@@ -97,22 +97,22 @@ module _ {D : Type 0} (seen : D → Seen) (faults : D → ℕ) (one : OneHeld) (
   kept_as gave (DeservesKeeping.Kept s) (IsKeptAs.Part empty history ack few rose) = absurd (d rose)
   kept_as gave (DeservesKeeping.Kept s) (IsKeptAs.NotStarted started rose) = absurd (d rose)
   kept_as gave (DeservesKeeping.Kept s) (IsKeptAs.HeldCalls texts started held some) =
-      absurd (let empty = one file texts [] (told (λ f. Holds f texts) (seen disk).bytes file holds held.held) s.holds in let short = ap length empty in omega (arith, short, some))
+      absurd (let empty = one file texts [] (told (λ f. HoldsTexts f texts) (seen disk).bytes file holds held.held) s.holds in let short = ap length empty in omega (arith, short, some))
   kept_as gave (DeservesKeeping.Kept s) (IsKeptAs.Damaged number started damaged) =
       absurd (none file number [] (told (λ f. IsDamaged f number) (seen disk).bytes file holds damaged.damaged) s.holds)
   kept_as gave (DeservesKeeping.HeldCalls s) (IsKeptAs.Whole empty history ack) =
-      absurd (let same = one file s.holds.0 [] s.holds.1 (told (λ f. Holds f []) (seen disk).bytes file holds empty) in let short = ap length same in let some = s.holds.2 in omega (arith, short, some))
+      absurd (let same = one file s.holds.0 [] s.holds.1 (told (λ f. HoldsTexts f []) (seen disk).bytes file holds empty) in let short = ap length same in let some = s.holds.2 in omega (arith, short, some))
   kept_as gave (DeservesKeeping.HeldCalls s) (IsKeptAs.Part empty history ack few rose) = absurd (d rose)
   kept_as gave (DeservesKeeping.HeldCalls s) (IsKeptAs.NotStarted started rose) = absurd (d rose)
   kept_as gave (DeservesKeeping.HeldCalls s) (IsKeptAs.HeldCalls texts started held some) = refl
   kept_as gave (DeservesKeeping.HeldCalls s) (IsKeptAs.Damaged number started damaged) =
       absurd (none file number s.holds.0 (told (λ f. IsDamaged f number) (seen disk).bytes file holds damaged.damaged) s.holds.1)
   kept_as gave (DeservesKeeping.Damaged s) (IsKeptAs.Whole empty history ack) =
-      absurd (none file s.holds.0 [] s.holds.1 (told (λ f. Holds f []) (seen disk).bytes file holds empty))
+      absurd (none file s.holds.0 [] s.holds.1 (told (λ f. HoldsTexts f []) (seen disk).bytes file holds empty))
   kept_as gave (DeservesKeeping.Damaged s) (IsKeptAs.Part empty history ack few rose) = absurd (d rose)
   kept_as gave (DeservesKeeping.Damaged s) (IsKeptAs.NotStarted started rose) = absurd (d rose)
   kept_as gave (DeservesKeeping.Damaged s) (IsKeptAs.HeldCalls texts started held some) =
-      absurd (none file s.holds.0 texts s.holds.1 (told (λ f. Holds f texts) (seen disk).bytes file holds held.held))
+      absurd (none file s.holds.0 texts s.holds.1 (told (λ f. HoldsTexts f texts) (seen disk).bytes file holds held.held))
   kept_as gave (DeservesKeeping.Damaged s) (IsKeptAs.Damaged number started damaged) = refl
 
   -- what is answered to a source without a session, where the text deserves a status
@@ -139,7 +139,7 @@ module _ {D : Type 0} (seen : D → Seen) (faults : D → ℕ) (one : OneHeld) (
   recovered_as gave (DeservesRecovering.Recovered s) (IsRecoveredAs.Whole texts held history) = refl
   recovered_as {names} {statements} gave (DeservesRecovering.Recovered s) (IsRecoveredAs.NoCall texts {number = number} held refused) =
       let same = read_once text s.names names s.statements statements s.session.read (gave_session F.Book text source source' is gave).read in
-      let texts_same = one file texts s.holds.texts (told (λ f. Holds f texts) (seen disk).bytes file holds held.held) s.holds.held in
+      let texts_same = one file texts s.holds.texts (told (λ f. HoldsTexts f texts) (seen disk).bytes file holds held.held) s.holds.held in
       absurd (calls_unrefused (book_from s.statements) (reports_of s.statements) s.names s.holds.after s.holds.texts s.holds.calls number s.holds.stored s.holds.within
       (subst (λ t. IsRefusedText (book_from s.statements) (reports_of s.statements) t s.holds.texts number) (sym same.0)
       (subst (λ g. IsRefusedText (book_from g) (reports_of g) names s.holds.texts number) (sym same.1)
@@ -148,7 +148,7 @@ module _ {D : Type 0} (seen : D → Seen) (faults : D → ℕ) (one : OneHeld) (
       absurd (none file number s.holds.texts (told (λ f. IsDamaged f number) (seen disk).bytes file holds damaged.damaged) s.holds.held)
   recovered_as {names} {statements} gave (DeservesRecovering.Refused s) (IsRecoveredAs.Whole texts {after = after} {h = h} held history) =
       let same = read_once text s.names names s.statements statements s.session.read (gave_session F.Book text source source' is gave).read in
-      let texts_same = one file texts s.holds.texts (told (λ f. Holds f texts) (seen disk).bytes file holds held.held) s.holds.held in
+      let texts_same = one file texts s.holds.texts (told (λ f. HoldsTexts f texts) (seen disk).bytes file holds held.held) s.holds.held in
       absurd (calls_unrefused (book_from statements) (reports_of statements) names after texts (calls_of h) s.holds.number history.stored history.within
       (subst (λ t. IsRefusedText (book_from statements) (reports_of statements) t texts s.holds.number) same.0
       (subst (λ g. IsRefusedText (book_from g) (reports_of g) s.names texts s.holds.number) same.1
@@ -156,7 +156,7 @@ module _ {D : Type 0} (seen : D → Seen) (faults : D → ℕ) (one : OneHeld) (
   recovered_as gave (DeservesRecovering.Refused s) (IsRecoveredAs.NoCall texts held refused) = refl
   recovered_as gave (DeservesRecovering.Refused s) (IsRecoveredAs.Damaged number damaged) = refl
   recovered_as gave (DeservesRecovering.Damaged s) (IsRecoveredAs.Whole texts held history) =
-      absurd (none file s.holds.0 texts s.holds.1 (told (λ f. Holds f texts) (seen disk).bytes file holds held.held))
+      absurd (none file s.holds.0 texts s.holds.1 (told (λ f. HoldsTexts f texts) (seen disk).bytes file holds held.held))
   recovered_as gave (DeservesRecovering.Damaged s) (IsRecoveredAs.NoCall texts held refused) = refl
   recovered_as gave (DeservesRecovering.Damaged s) (IsRecoveredAs.Damaged number damaged) = refl
 

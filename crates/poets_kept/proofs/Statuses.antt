@@ -10,7 +10,7 @@ use Rattle.poets_call.specs.Declarations.{book_from, reports_of}
 use Rattle.poets_call.specs.Plain.{Entry}
 use Rattle.poets_call.specs.Said.{Statement}
 use Rattle.poets_disk.specs.Disks.{Seen}
-use Rattle.poets_journal.specs.Texts.{Holds, IsDamaged, Texts}
+use Rattle.poets_journal.specs.Texts.{HoldsTexts, IsDamaged, Texts}
 use Rattle.poets_session.specs.declared.form.Form.{Form}
 use Rattle.poets_session.specs.declared.form.Form.TheVariants as F
 use Rattle.poets_session.specs.Sessions.{IsNoSession, IsSession, Text}

@@ -5,7 +5,7 @@ use Rattle.poets_lex.specs.Table.{Table}
 use Rattle.poets_call.specs.Calls.{calls_of}
 use Rattle.poets_call.specs.Plain.{Entry}
 use Rattle.poets_disk.specs.Disks.{Seen, MayLeave, GoesOn, During}
-use Rattle.poets_journal.specs.Texts.{Texts, Holds, IsDamaged}
+use Rattle.poets_journal.specs.Texts.{Texts, HoldsTexts, IsDamaged}
 use Rattle.poets_journal.specs.Journals.{AllHold}
 use Rattle.poets_journal.specs.Keeping.{HoldsFirst, HoldsFront}
 use Rattle.poets_journal.specs.Starts.{StaysOrIsShort, with_gate}
@@ -17,7 +17,7 @@ texts_of names h = texts_of_calls names (calls_of h)
 
 -- the disk's file holds the texts, where the disk tells its bytes
 abbrev pub FileHolds : Seen → Texts → Type 0
-FileHolds disk texts = IfSome disk.bytes (λ file. Holds file texts)
+FileHolds disk texts = IfSome disk.bytes (λ file. HoldsTexts file texts)
 
 -- the record with the number is damaged in the disk's file, where the disk tells its bytes
 abbrev pub FileIsDamaged : Seen → (number : ℕ) → Type 0

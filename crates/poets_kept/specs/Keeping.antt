@@ -9,7 +9,7 @@ use Rattle.poets_call.specs.Said.{Statement}
 use Rattle.poets_call.specs.Declarations.{book_from, reports_of}
 use Rattle.poets_call.specs.Histories.{IsRightHistory}
 use Rattle.poets_disk.specs.Disks.{Seen, MayLeave, During}
-use Rattle.poets_journal.specs.Texts.{Texts, Holds}
+use Rattle.poets_journal.specs.Texts.{Texts, HoldsTexts}
 use Rattle.poets_journal.specs.Journals.{AllHold}
 use Rattle.poets_journal.specs.Keeping.{HoldsFront}
 use Rattle.poets_print.specs.Lines.{history_text}
@@ -98,6 +98,6 @@ pub record HasKept (left left' held held' : Option (List ℕ)) (disk disk' : See
   pub run : HasRun left left' held held' h
   pub stored_all : stored ≡ length h
   -- whatever a crash leaves now holds the texts of all calls
-  pub kept : (image : List ℕ) → MayLeave disk' image → Holds image (texts_of run.names h)
+  pub kept : (image : List ℕ) → MayLeave disk' image → HoldsTexts image (texts_of run.names h)
   -- and where the disk held no call before, a crash at any moment of the run left the first calls, however many
   pub during : AllHold disk [] → During disk disk' (HoldsFront (texts_of run.names h))

@@ -8,7 +8,7 @@ use Rattle.poets_call.specs.Plain.{Entry}
 use Rattle.poets_call.specs.Said.{Statement}
 use Rattle.poets_call.specs.Declarations.{book_from, reports_of}
 use Rattle.poets_disk.specs.Disks.{Seen}
-use Rattle.poets_journal.specs.Texts.{Texts, Holds, IsDamaged}
+use Rattle.poets_journal.specs.Texts.{Texts, HoldsTexts, IsDamaged}
 use Rattle.poets_recover.specs.Stored.{AreStoredCalls, IsRefusedText, length_of_all, most_stored}
 use Rattle.poets_session.specs.declared.form.Form.{Form}
 use Rattle.poets_session.specs.declared.form.Form.TheVariants as F
@@ -66,9 +66,9 @@ pub record OfSession (form : Form) (text : Text) (P : Table → List Statement �
 -- the status that keeping deserves, by the text and the disk's file
 pub data DeservesKeeping (text : Text) (file : List ℕ) : (status : ℕ) → Type 0 where
   Unread : {status : ℕ} → DeservesUnread F.Clerks text status → DeservesKeeping text file status
-  Kept : OfSession F.Clerks text (λ names statements. Holds file []) → DeservesKeeping text file DONE
+  Kept : OfSession F.Clerks text (λ names statements. HoldsTexts file []) → DeservesKeeping text file DONE
   HeldCalls :
-      OfSession F.Clerks text (λ names statements. (texts : Texts) × Holds file texts × (0 < length texts)) →
+      OfSession F.Clerks text (λ names statements. (texts : Texts) × HoldsTexts file texts × (0 < length texts)) →
       DeservesKeeping text file HOLDS_CALLS
   Damaged :
       OfSession F.Clerks text (λ names statements. (number : ℕ) × IsDamaged file number) →
@@ -77,7 +77,7 @@ pub data DeservesKeeping (text : Text) (file : List ℕ) : (status : ℕ) → Ty
 -- the file holds texts that are calls of the book
 pub record HoldsCalls (file : List ℕ) (names : Table) (statements : List Statement) : Type 0 where
   pub texts : Texts
-  pub held : Holds file texts
+  pub held : HoldsTexts file texts
   pub within : length_of_all texts ≤ most_stored
   pub calls : List Call
   pub after : Table
@@ -86,7 +86,7 @@ pub record HoldsCalls (file : List ℕ) (names : Table) (statements : List State
 -- the file holds texts, one of which is refused
 pub record HoldsRefused (file : List ℕ) (names : Table) (statements : List Statement) : Type 0 where
   pub texts : Texts
-  pub held : Holds file texts
+  pub held : HoldsTexts file texts
   pub number : ℕ
   pub refused : IsRefusedText (book_from statements) (reports_of statements) names texts number
 

@@ -9,7 +9,8 @@ use Rattle.atomic_table.specs.Table.{Final, Seen}
 use Rattle.poets_machine.specs.Histories.{own_calls}
 use Rattle.poets_turn.specs.declared.view.View.{View}
 use Rattle.poets_turn.specs.declared.view.Stage.TheVariants.{Idle}
-use Rattle.poets_turn.specs.code.Turnstile.{HasEnded, OnlyClerks, Rule, longer}
+use Rattle.poets_turn.specs.Settings.{OnlyClerks}
+use Rattle.poets_turn.specs.code.Turnstile.{HasEnded, Rule, longer}
 use Rattle.poets_turn.specs.code.Steps.{with_clerk}
 use Rattle.poets_turn.specs.Clerks.{KnowsClerk, IsClerkIn}
 use Rattle.poets_turn.proofs.Fronts.{prefix_trans}

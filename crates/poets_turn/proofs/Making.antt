@@ -9,7 +9,7 @@ use Rattle.poets_machine.proofs.Histories.{own_added}
 use Rattle.poets_turn.specs.declared.view.View.{View}
 use Rattle.poets_turn.specs.declared.view.Setting.{Setting}
 use Rattle.poets_turn.specs.declared.view.Stage.TheVariants.{Idle}
-use Rattle.poets_turn.specs.code.Turnstile.{OnlyClerks}
+use Rattle.poets_turn.specs.Settings.{OnlyClerks}
 use Rattle.poets_turn.specs.code.Steps.{Served, IsServing}
 use Rattle.poets_turn.specs.Clerks.{IsCall}
 

@@ -15,7 +15,8 @@ use Rattle.poets_turn.specs.declared.view.View.{View}
 use Rattle.poets_turn.specs.declared.view.Setting.{Setting}
 use Rattle.poets_turn.specs.declared.view.Stage.{Stage}
 use Rattle.poets_turn.specs.declared.view.Stage.TheVariants.{Idle, Serving}
-use Rattle.poets_turn.specs.code.Turnstile.{Numbers, Meaning, HasTicket, HasEnded, OnlyClerks, longer, known, IsKnown, IsEnded, IsClerk, Fits, IsInSlot, IsHeld, HasNumber, Rule}
+use Rattle.poets_turn.specs.Settings.{OnlyClerks}
+use Rattle.poets_turn.specs.code.Turnstile.{Numbers, Meaning, HasTicket, HasEnded, longer, known, IsKnown, IsEnded, IsClerk, Fits, IsInSlot, IsHeld, HasNumber, Rule}
 use Rattle.poets_turn.specs.code.Steps.{first_view, note_view, one_more, next_clerk, with_note, with_clerk, empty_view}
 use Rattle.poets_turn.proofs.Fronts.{prefix_nil, longer_nil, longer_left, longer_right}
 use Rattle.poets_turn.proofs.Places.{put, put_here, put_else, moved, moved_here, moved_else, at_below, at_end, one_there, still, each_stays}

@@ -18,7 +18,8 @@ use Rattle.poets_turn.specs.declared.view.View.{View}
 use Rattle.poets_turn.specs.declared.view.Setting.{Setting}
 use Rattle.poets_turn.specs.declared.view.Stage.{Stage}
 use Rattle.poets_turn.specs.declared.view.Stage.TheVariants.{Idle, Waiting, Serving}
-use Rattle.poets_turn.specs.code.Turnstile.{Numbers, Meaning, FitsStage, HasTicket, HasEnded, OnlyClerks, longer, known, IsKnown, IsEnded, Fits, IsInSlot, IsHeld, HasNumber, TicketsHeld, NumbersHeld, Rule}
+use Rattle.poets_turn.specs.Settings.{OnlyClerks}
+use Rattle.poets_turn.specs.code.Turnstile.{Numbers, Meaning, FitsStage, HasTicket, HasEnded, longer, known, IsKnown, IsEnded, Fits, IsInSlot, IsHeld, HasNumber, TicketsHeld, NumbersHeld, Rule}
 use Rattle.poets_turn.specs.code.Steps.{AfterDraw, AfterLook, AfterEntry, AfterPass, AfterSettling}
 use Rattle.poets_turn.proofs.Fronts.{prefix_self, prefix_nil, prefix_trans, own_between, longer_one, longer_nil, longer_left}
 use Rattle.poets_turn.proofs.Places.{put, put_here, put_else, at_below, one_there, still, each_stays}

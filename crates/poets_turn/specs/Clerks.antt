@@ -11,8 +11,7 @@ use Rattle.poets_turn.specs.declared.types.Turn.{Turn}
 use Rattle.poets_turn.specs.declared.types.ClerkOf.{ClerkOf}
 use Rattle.poets_turn.specs.declared.types.NoteOf.{NoteOf}
 use Rattle.poets_turn.specs.declared.view.View.{View}
-use Rattle.poets_turn.specs.code.Turnstile.{OnlyClerks}
-use Rattle.poets_turn.specs.code.Steps.{setting_of}
+use Rattle.poets_turn.specs.Settings.{setting_of, OnlyClerks}
 
 module _ {M C R K F : Type 0} where
   -- how many clerks there are

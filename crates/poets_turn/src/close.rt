@@ -2,7 +2,7 @@
 ghost use Rattle.std.specs.Prelude.{◌≡◌, ◌<◌, length, All};
 ghost use Rattle.poets_turn.specs.Clerks.{AreAll, AreClerksIn, KnowsClerk, front, calls, number, clerk_count, turn_frame, IsClerkOf};
 ghost use Rattle.poets_turn.specs.code.Seats.{KnowsAllOf, KnowsClerks, MayTakeIn};
-ghost use Rattle.poets_turn.specs.code.Turnstile.{OnlyClerks};
+ghost use Rattle.poets_turn.specs.Settings.{OnlyClerks};
 ghost use Rattle.poets_turn.specs.declared.view.Stage.TheVariants.{Idle};
 
 use crate::rule::{Settle, TakeClerk};

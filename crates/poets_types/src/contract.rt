@@ -39,7 +39,8 @@ pub(crate) fn check_arguments(
     params: &[Param],
     args: &[Expr],
 ) -> Result<(), TypeCause>
-    ensures { result ≡ answer_of (under decls.now scope.now typed.check_arguments name params.now (map expression_of args.now)) }
+    ensures { result ≡ answer_of (under decls.now scope.now typed.check_arguments name params.now
+        (map expression_of args.now)) }
 {
     if params.len() != args.len() {
         return Err(TypeCause::WrongCount {

@@ -6,10 +6,8 @@ use Rattle.poets_machine.specs.Histories.{own_calls}
 use Rattle.poets_turn.specs.declared.view.View.{View}
 use Rattle.poets_turn.specs.declared.view.Setting.{Setting}
 use Rattle.poets_turn.specs.declared.view.Stage.TheVariants.{Idle, Waiting, Serving}
-use Rattle.poets_turn.specs.code.Turnstile.{OnlyClerks, longer}
-
-abbrev pub setting_of : {F : Type 0} → F → ℕ → Setting F
-setting_of f clerks = record { frame = f; clerks = clerks }
+use Rattle.poets_turn.specs.Settings.{setting_of, OnlyClerks}
+use Rattle.poets_turn.specs.code.Turnstile.{longer}
 
 module _ {C F : Type 0} where
   -- the first clerk, which numbers the others

@@ -8,6 +8,7 @@ use mathlib.Core.Option.{none, some}
 use lib.ListN.{get_elem?}
 use Rattle.atomic_table.specs.Table.{State}
 use Rattle.poets_machine.specs.Histories.{own_calls}
+use Rattle.poets_turn.specs.Settings.{OnlyClerks}
 use Rattle.poets_turn.specs.declared.view.View.{View}
 use Rattle.poets_turn.specs.declared.view.Setting.{Setting}
 use Rattle.poets_turn.specs.declared.view.Stage.{Stage}
@@ -52,10 +53,6 @@ module _ {C : Type 0} where
   -- the clerk of the number is among those that were taken in
   abbrev pub HasEnded : ℕ → List (ℕ × List C) → Type 0
   HasEnded number ended = (calls : List C) × Contains ended (number, calls)
-
-  -- each entry is under the number of a clerk, of so many
-  abbrev pub OnlyClerks : ℕ → List (ℕ × C) → Type 0
-  OnlyClerks count entries = All (λ e. (0 < e.0) × (e.0 ≤ count)) entries
 
   abbrev pub longer : List (ℕ × C) → List (ℕ × C) → List (ℕ × C)
   longer xs ys = if ltb (length xs) (length ys) then ys else xs

@@ -2,7 +2,7 @@ use Rattle.std.proofs.Common.{rules, ◌≡◌, ◌≤◌, length, map, sym, sub
 use Rattle.std.specs.Prelude.{Contains}
 use Rattle.std.proofs.lemmas.List.{length-map}
 use Rattle.poets_turn.specs.Clerks.{clerk_count}
-use Rattle.poets_turn.specs.code.Turnstile.{OnlyClerks}
+use Rattle.poets_turn.specs.Settings.{OnlyClerks}
 use Rattle.poets_turn.proofs.Numbered.{numbered_are_all}
 use Rattle.poets_clerks.specs.Histories.{AreInOrder, AreReplies}
 use Rattle.poets_clerks.specs.Scripts.{calls_of}

@@ -1,6 +1,6 @@
 use Rattle.std.proofs.Common.{◌∙◌, arith, sym, ap, subst}
 use Rattle.std.specs.Prelude.{All}
-use Rattle.poets_turn.specs.code.Turnstile.{OnlyClerks}
+use Rattle.poets_turn.specs.Settings.{OnlyClerks}
 use Rattle.poets_turn.specs.Clerks.{IsClerkIn, number, front, calls, clerk_count}
 use Rattle.poets_turn.proofs.Ending.{some_item, closing, machine_back, none_left}
 use Rattle.poets_turn.proofs.types.Turn.close.Goals as goal
