@@ -1,6 +1,6 @@
 mod Held
 mod Crash
-mod Starting
+pub mod Starting
 mod Keeps
 mod Parts
 mod Opening

@@ -1,9 +1,10 @@
 -- What a machine with a journal keeps.
-use Rattle.std.specs.Prelude.{◌≡◌, ◌⊎◌, ℕ, ◌+◌, ◌≤◌, ◌<◌, ◌^◌, Bool, true, false, List, length, take, map, refl}
+use Rattle.std.specs.Prelude.{◌≡◌, ◌⊎◌, ℕ, ◌+◌, ◌≤◌, ◌<◌, ◌^◌, Bool, true, false, List, ◌++◌, length, take, map, refl}
 use Rattle.poets_io.specs.Causes.{Rose}
 use Rattle.std.specs.Coded.{Coded, code_by, coded×, coded_ℕ}
 use Rattle.poets_disk.specs.Disks.{Seen, MayLeave, Since, GoesOn}
-use Rattle.poets_journal.specs.Texts.{HoldsTexts}
+use Rattle.poets_journal.specs.Texts.{HoldsTexts, Texts}
+use Rattle.poets_journal.specs.Journals.{AllHold}
 use Rattle.poets_journal.specs.JournalValue.{JournalOf, journal_code}
 
 -- what contracts see of it: the machine, its journal, what gives calls their texts, how many of its first calls are
@@ -26,24 +27,25 @@ journaled_code {M} {D} {P} m d p =
 abbrev pub texts_by : {C : Type 0} → (ℕ → C → List ℕ) → List (ℕ × C) → List (List ℕ)
 texts_by text history = map (λ e. text e.0 e.1) history
 
--- the file holds so many of the texts, the first ones
-abbrev pub HoldsFirst : List (List ℕ) → ℕ → List ℕ → Type 0
-HoldsFirst texts count file = (count ≤ length texts) × HoldsTexts file (take count texts)
+-- the file holds the earlier texts, and then so many of the new ones, the first ones
+abbrev pub HoldsFirst : (earlier texts : Texts) → ℕ → List ℕ → Type 0
+HoldsFirst earlier texts count file = (count ≤ length texts) × HoldsTexts file (earlier ++ take count texts)
 
--- the file holds the first ones of the texts, however many
-abbrev pub HoldsFront : List (List ℕ) → List ℕ → Type 0
-HoldsFront texts file = (count : ℕ) × HoldsFirst texts count file
+-- the file holds the earlier texts, and then the first ones of the new ones, however many
+abbrev pub HoldsFront : (earlier texts : Texts) → List ℕ → Type 0
+HoldsFront earlier texts file = (count : ℕ) × HoldsFirst earlier texts count file
 
--- what is kept of the texts of a history since the making: an image holds the first so many of them, which are stored,
--- or one more; at each moment an image held some first ones; and where the journal has not failed, all are stored, and
--- the disk had no fault
+-- what is kept of the texts of a history since the making, whatever texts the disk held then: an image holds these, and
+-- then the first so many of the history's, which are stored, or one more; at each moment an image held these, and then
+-- some first ones; and where the journal has not failed, all are stored, and the disk had no fault
 pub record IsKept (made disk : Seen) (before now : ℕ)
-    (failed : Bool) (stored : ℕ) (texts : List (List ℕ)) : Type 0 where
+    (failed : Bool) (stored : ℕ) (texts : Texts) : Type 0 where
   pub time : GoesOn made disk
   pub first : stored ≤ length texts
-  pub now_holds : (image : List ℕ) → MayLeave disk image
-      → HoldsFirst texts stored image ⊎ HoldsFirst texts (stored + 1) image
-  pub since : (image : List ℕ) → Since disk made.clock image → HoldsFront texts image
+  pub now_holds : (earlier : Texts) → AllHold made earlier → (image : List ℕ) → MayLeave disk image
+      → HoldsFirst earlier texts stored image ⊎ HoldsFirst earlier texts (stored + 1) image
+  pub since : (earlier : Texts) → AllHold made earlier → (image : List ℕ) → Since disk made.clock image
+      → HoldsFront earlier texts image
   pub whole : failed ≡ false → stored ≡ length texts
   pub later : before ≤ now
   pub sound : failed ≡ false → now ≡ before

@@ -2,7 +2,6 @@
 ghost use Rattle.std.specs.Prelude.{◌≡◌, ◌<◌, ◌≤◌, ◌+◌, ℕ, [], ◌∷◌, ◌++◌, false, if◌then◌else◌};
 ghost use Rattle.poets_disk.specs.Disks.{GoesOn, longest_file};
 ghost use Rattle.poets_journal.specs.Texts.{IsFrame, Text, Texts};
-ghost use Rattle.poets_journal.specs.Journals.{AllHold};
 ghost use Rattle.poets_journal.specs.Keeping.{IsKept, IsStorable, texts_by};
 
 use crate::records::frame;
@@ -58,10 +57,10 @@ impl<M: Machine, D: Disk, P: Put<M::Call>> Model for Journaled<M, D, P> {
 }
 
 impl<M: Machine, D: Disk + Drop, P: Put<M::Call> + Drop> Journaled<M, D, P> {
-    /// A machine that took no call yet, whose calls go into an empty journal. It takes no memory.
+    /// A machine that took no call yet, whose calls go into the journal, behind the texts that it holds. It takes no
+    /// memory.
     pub fn new(machine: M, journal: Journal<D>, put: P) -> Journaled<M, D, P>
         requires new { M.history machine ≡ [] }
-        requires empty { AllHold (D.seen journal.disk) [] }
         requires works { journal.failed ≡ false }
         ensures machine { result.machine ≡ machine }
         ensures journal { result.journal ≡ journal }

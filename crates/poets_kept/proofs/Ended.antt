@@ -15,7 +15,9 @@ use Rattle.poets_call.specs.Histories.{IsRightHistory}
 use Rattle.poets_call.specs.Plain.{Entry}
 use Rattle.poets_call.specs.Rules.{book_of_rules, reports_of_rules}
 use Rattle.poets_call.specs.Said.{Statement}
-use Rattle.poets_disk.specs.Disks.{Seen}
+use Rattle.poets_disk.specs.Disks.{During, Seen}
+use Rattle.poets_journal.specs.Journals.{AllHold}
+use Rattle.poets_journal.specs.Texts.{HoldsTexts}
 use Rattle.poets_print.specs.Lines.{history_text}
 use Rattle.poets_session.specs.Sessions.{Represents, commands_in}
 use Rattle.poets_session.specs.declared.session.Session.{Session}
@@ -23,7 +25,7 @@ use Rattle.poets_top.specs.Running.{IsHistoryOf}
 use Rattle.poets_top.proofs.Owning.{IsHistoryOf-read}
 use Rattle.poets_writing.specs.Writing.{Stream}
 use Rattle.poets_writing.specs.Outcomes.{lines_of}
-use Rattle.poets_kept.specs.Journals.{AreAcknowledged, FileHolds, OnlyStarted}
+use Rattle.poets_kept.specs.Journals.{AreAcknowledged, FileHolds}
 use Rattle.poets_kept.specs.Keeping.{IsKeptAs, KeepsSession}
 use Rattle.poets_kept.specs.Writing.{EndsWriting}
 use Rattle.poets_kept.specs.code.Ended.{kept_status}
@@ -39,7 +41,7 @@ take_all xs n is = ap (λ k. take k xs) is ∙ whole xs
     whole (y ∷ ys) = ap (λ l. y ∷ l) (whole ys)
 
 module _ {D : Type 0} (seen : D → Seen) (faults : D → ℕ) (statements : List Statement) (session : Session) (holds : Represents statements session) (disk made disk' : D)
-    (started : OnlyStarted (seen disk) (seen made)) (none : FileHolds (seen disk) []) (faultless : faults made ≡ faults disk) (sink sink' : Stream) (stored : ℕ) where
+    (started : AllHold (seen disk) [] → During (seen disk) (seen made) (λ image. HoldsTexts image [])) (held : AllHold (seen made) []) (none : FileHolds (seen disk) []) (faultless : faults made ≡ faults disk) (sink sink' : Stream) (stored : ℕ) where
   abbrev Made : Option (Listed code.Entry) → Type 0
   Made whole = AreMade session.rules session.names (commands_in session.scripts.items) (seen made) (seen disk') (faults made) (faults disk') stored whole
 
@@ -49,8 +51,8 @@ module _ {D : Type 0} (seen : D → Seen) (faults : D → ℕ) (statements : Lis
       subst (λ s. KeepsSession seen faults session.names statements sink sink' disk disk' s h stored) (sym three)
       (subst (λ g. KeepsSession seen faults session.names statements sink sink' disk disk' 3 g stored) (sym empty)
       (KeepsSession.PartMade none (IsPartOf-read statements session m.made holds m.right m.parts)
-      (acknowledged session.names (seen disk) (seen made) (seen disk') (faults made) (faults disk') stored m.made m.failed started m.kept)
-      (λ few. subst (λ n. Rose n (faults disk')) faultless (unacknowledged session.names (seen disk) (seen made) (seen disk') (faults made) (faults disk') stored m.made m.failed m.kept few)) same))
+      (acknowledged session.names (seen made) (seen disk') stored m.made [] (seen disk) started held m.kept)
+      (λ few. subst (λ n. Rose n (faults disk')) faultless (unacknowledged session.names (seen made) (seen disk') stored m.made m.failed m.kept few)) same))
 
   -- all calls were made, and the lines of those that are stored were written
   pub keeps_whole : (status : ℕ) (es : Listed code.Entry) → Made (Some es) → EndsWriting (kept_status stored es) (lines_of session.names (take stored es.items)) sink sink' status →
@@ -63,9 +65,9 @@ module _ {D : Type 0} (seen : D → Seen) (faults : D → ℕ) (statements : Lis
       long : length h ≡ length es.items
       long = length-map es.items entry_of
 
-      ack : AreAcknowledged session.names (seen disk) (seen disk') stored h
-      ack = subst (AreAcknowledged session.names (seen disk) (seen disk') stored) (sym m.all.0)
-          (acknowledged session.names (seen disk) (seen made) (seen disk') (faults made) (faults disk') stored m.made m.failed started m.kept)
+      ack : AreAcknowledged session.names [] (seen disk) (seen disk') stored h
+      ack = subst (AreAcknowledged session.names [] (seen disk) (seen disk') stored) (sym m.all.0)
+          (acknowledged session.names (seen made) (seen disk') stored m.made [] (seen disk) started held m.kept)
 
       history : IsHistoryOf statements h
       history = IsHistoryOf-read statements session h holds
@@ -79,13 +81,13 @@ module _ {D : Type 0} (seen : D → Seen) (faults : D → ℕ) (statements : Lis
           subst (λ l. EndsWriting 0 (lines_of session.names l) sink sink' status) (take_all es.items stored is)
           (subst (λ (b : Bool). EndsWriting (if b then 0 else 7) (lines_of session.names (take stored es.items)) sink sink' status) (eq-eqb stored (length es.items) is) ends) in
           subst (KeepsSession seen faults session.names statements sink sink' disk disk' status h) (sym same)
-          (KeepsSession.Answered (IsKeptAs.Whole none history (subst (λ n. AreAcknowledged session.names (seen disk) (seen disk') n h) same ack)) written)
+          (KeepsSession.Answered (IsKeptAs.Whole none history (subst (λ n. AreAcknowledged session.names [] (seen disk) (seen disk') n h) same ack)) written)
 
       some : (stored ≡ length es.items → ⊥) → KeepsSession seen faults session.names statements sink sink' disk disk' status h stored
       some ne =
           let few : stored < length h = let within = ack.within in omega (arith, within, long, ne) in
           let rose = subst (λ n. Rose n (faults disk')) faultless
-          (unacknowledged session.names (seen disk) (seen made) (seen disk') (faults made) (faults disk') stored m.made m.failed m.kept (subst (λ g. stored < length g) m.all.0 few)) in
+          (unacknowledged session.names (seen made) (seen disk') stored m.made m.failed m.kept (subst (λ g. stored < length g) m.all.0 few)) in
           let written : EndsWriting 7 (history_text session.names (take stored h)) sink sink' status =
           subst (λ g. EndsWriting 7 (history_text session.names g) sink sink' status) (sym (take-map entry_of stored es.items))
           (subst (λ (b : Bool). EndsWriting (if b then 0 else 7) (lines_of session.names (take stored es.items)) sink sink' status) (ne_eqb stored (length es.items) ne) ends) in

@@ -102,7 +102,7 @@ module _ {D : Type 0} (seen : D → Seen) (faults : D → ℕ) (source source' s
       written = written;
     };
     stored_all = refl;
-    kept = all_survive names (seen disk) (seen disk') h ack;
+    kept = all_survive names [] (seen disk) (seen disk') h ack;
     during = ack.during;
   }
   kept_done gave z (IsKeptAs.Part none history ack few rose) written = absurd (omega (arith, z))

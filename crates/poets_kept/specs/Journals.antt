@@ -43,14 +43,16 @@ pub record FoundDamage (disk disk' : Seen) (faults faults' number : ℕ) : Type 
   pub bytes : disk'.bytes ≡ disk.bytes
   pub faultless : faults' ≡ faults
 
--- the first so many calls of the history are acknowledged
-pub record AreAcknowledged (names : Table) (disk disk' : Seen) (stored : ℕ) (h : List Entry) : Type 0 where
+-- behind the earlier texts, the first so many calls of the history are acknowledged
+pub record AreAcknowledged (names : Table) (earlier : Texts) (disk disk' : Seen) (stored : ℕ) (h : List Entry) :
+    Type 0 where
   pub within : stored ≤ length h
-  -- a crash now leaves these calls, or these and the next one
+  -- a crash now leaves the earlier texts and those of these calls, or of these and the next one
   pub survive : (image : List ℕ) → MayLeave disk' image →
-      HoldsFirst (texts_of names h) stored image ⊎ HoldsFirst (texts_of names h) (stored + 1) image
-  -- and where the disk held no call before, a crash at any moment leaves the first calls of the history, however many
-  pub during : AllHold disk [] → During disk disk' (HoldsFront (texts_of names h))
+      HoldsFirst earlier (texts_of names h) stored image ⊎ HoldsFirst earlier (texts_of names h) (stored + 1) image
+  -- and where the disk held the earlier texts before, a crash at any moment leaves these, and then those of the first
+  -- calls of the history, however many
+  pub during : AllHold disk earlier → During disk disk' (HoldsFront earlier (texts_of names h))
 
 -- `refused: journal holds 4 calls`, and LF (10)
 abbrev pub holds_line : (calls : ℕ) → List ℕ

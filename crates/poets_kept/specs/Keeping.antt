@@ -38,12 +38,12 @@ pub data IsKeptAs (names : Table) (statements : List Statement) (disk disk' : Se
   -- all calls are acknowledged
   Whole :
       {h : List Entry} → FileHolds disk [] → IsHistoryOf statements h →
-      AreAcknowledged names disk disk' (length h) h →
+      AreAcknowledged names [] disk disk' (length h) h →
       IsKeptAs names statements disk disk' faults faults' (length h) DONE h (history_text names h)
   -- the disk failed while calls were made: just the acknowledged ones have their lines
   Part :
       {h : List Entry} {stored : ℕ} → FileHolds disk [] → IsHistoryOf statements h →
-      AreAcknowledged names disk disk' stored h → stored < length h → Rose faults faults' →
+      AreAcknowledged names [] disk disk' stored h → stored < length h → Rose faults faults' →
       IsKeptAs names statements disk disk' faults faults' stored DISK_FAULT h (history_text names (take stored h))
   -- the disk failed ahead of all calls
   NotStarted : OnlyStarted disk disk' → Rose faults faults' →
@@ -74,7 +74,7 @@ module _ {D : Type 0} (seen : D → Seen) (faults : D → ℕ) where
     PartMade :
         {stored : ℕ} {made : List Entry} →
         FileHolds (seen disk) [] → IsPartOf statements made →
-        AreAcknowledged names (seen disk) (seen disk') stored made →
+        AreAcknowledged names [] (seen disk) (seen disk') stored made →
         (stored < length made → Rose (faults disk) (faults disk')) → sink' ≡ sink →
         KeepsSession names statements sink sink' disk disk' NO_MEMORY [] stored
 
@@ -100,4 +100,4 @@ pub record HasKept (left left' held held' : Option (List ℕ)) (disk disk' : See
   -- whatever a crash leaves now holds the texts of all calls
   pub kept : (image : List ℕ) → MayLeave disk' image → HoldsTexts image (texts_of run.names h)
   -- and where the disk held no call before, a crash at any moment of the run left the first calls, however many
-  pub during : AllHold disk [] → During disk disk' (HoldsFront (texts_of run.names h))
+  pub during : AllHold disk [] → During disk disk' (HoldsFront [] (texts_of run.names h))

@@ -6,7 +6,6 @@ ghost use Rattle.poets_value.specs.Limits.{most_clerks};
 ghost use Rattle.poets_call.specs.Rules.{book_of_rules};
 ghost use Rattle.poets_syntax.specs.Whole.{IsWholeBook};
 ghost use Rattle.poets_session.specs.Sessions.{commands_in};
-ghost use Rattle.poets_journal.specs.Journals.{AllHold};
 ghost use Rattle.poets_journal.specs.Keeping.{IsStorable};
 ghost use Rattle.poets_making.specs.Noted.{AreScriptsTaken};
 ghost use Rattle.poets_stored.specs.Laws.{AreStorableScripts};
@@ -49,7 +48,6 @@ pub(crate) fn keep_calls<D: Disk + Drop + Send, G: Gate + Sync, R: Threads + Wai
     requires taken { AreScriptsTaken rules scripts.now.items }
     requires few { length scripts.now.items ≤ most_clerks }
     requires storable { AreStorableScripts names.now scripts.now.items }
-    requires empty { AllHold (D.seen journal.disk) [] }
     requires works { journal.failed ≡ false }
     ensures made { AreMade rules names.now (commands_in scripts.now.items) (D.seen journal.disk) (D.seen result.disk)
         (D.faults journal.disk) (D.faults result.disk) result.stored result.history }

@@ -1,7 +1,7 @@
 //! An adder whose amounts are stored.
 ghost use Rattle.std.specs.Prelude.{◌≡◌, IfOk};
 
-use crate::making::disk;
+use crate::making::{bytes, disk};
 use poets_disk::{Disk, FileDisk};
 use poets_journal::{Journal, Journaled, Put};
 use poets_machine::{Adder, Machine};
@@ -32,16 +32,13 @@ impl Put<u64> for OneByte {
     }
 }
 
-// An adder of amounts up to 9, with an empty journal on the disk.
+// An adder of amounts up to 9, with the journal on the disk.
 fn adder<D: Disk + Drop>(alloc: Global, disk: D) -> Result<Journaled<Adder, D, OneByte>, Memory>
     ensures { IfOk result (λ j. ⟦<Adder as Machine>⟧.frame j.machine ≡ 9) }
 {
     let Ok(started) = Journal::start(alloc, disk) else {
         return Err(Memory);
     };
-    if !started.texts.is_empty() {
-        return Err(Memory);
-    }
     Ok(Journaled::new(Adder::new(alloc, 9), started.journal, OneByte))
 }
 
@@ -59,6 +56,24 @@ fn amounts_are_stored_until_the_disk_fails(rt: HostRuntime) -> Result<(), Fail> 
     assert_eq!(rt;
         disk.left(alloc, 0)?.as_slice(),
         [1, 0, 0, 0, 1, 5, 1, 0, 0, 0, 1, 5, 0].as_slice()
+    );
+    Ok(())
+}
+
+// A journal holds the text of the byte 7 already.
+#[test]
+fn amounts_are_stored_behind_earlier_texts(rt: HostRuntime) -> Result<(), Fail> {
+    let alloc = rt.alloc();
+    let file = bytes(alloc, &[1, 0, 0, 0, 1, 7, 0])?;
+    let mut machine = adder(alloc, disk(alloc, file, &[])?)?;
+    let five = Arc::new(alloc, 5)?;
+    let _ = machine.turn(&rt, alloc, 1, &five)?;
+    assert_eq!(rt; machine.stored(), 1);
+    let (adder, disk) = machine.end();
+    assert_eq!(rt; adder.sum(), 5);
+    assert_eq!(rt;
+        disk.left(alloc, 1)?.as_slice(),
+        [1, 0, 0, 0, 1, 7, 1, 0, 0, 0, 1, 5, 0].as_slice()
     );
     Ok(())
 }

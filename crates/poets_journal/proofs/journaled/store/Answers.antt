@@ -25,7 +25,9 @@ returns-in-Ok-clause-kept g c = λ made stored texts text framed kept.
     let k : IsKept first old before now false stored texts = subst (λ b. IsKept first old before now b stored texts) works kept in
     let all = all_held first old before now stored texts k in
     subst (λ b. IsKept first new before next b (stored + 1) (texts ++ text ∷ [])) (sym c.in-Ok.ensures.works)
-    (kept_stored first old new before now next stored texts text k c.append.ensures.time (c.append.ensures.during texts text all framed) (c.in-Ok.ensures.ok texts text all framed) c.in-Ok.ensures.cause.kept)
+    (kept_stored first old new before now next stored texts text k c.append.ensures.time
+    (λ earlier held. c.append.ensures.during (earlier ++ texts) text (all earlier held) framed)
+    (λ earlier held. c.in-Ok.ensures.ok (earlier ++ texts) text (all earlier held) framed) c.in-Ok.ensures.cause.kept)
 
 pub returns-in-Err-clause-kept : goal.returns-in-Err-clause-kept
 returns-in-Err-clause-kept g c = λ made stored texts text framed kept.
@@ -39,4 +41,5 @@ returns-in-Err-clause-kept g c = λ made stored texts text framed kept.
     let k : IsKept first old before now false stored texts = subst (λ b. IsKept first old before now b stored texts) works kept in
     let all = all_held first old before now stored texts k in
     subst (λ b. IsKept first new before next b stored (texts ++ text ∷ [])) (sym c.in-Err.ensures.failed)
-    (kept_failed first old new before now next stored texts text k c.append.ensures.time (c.append.ensures.during texts text all framed) c.append.ensures.cause.later c.in-Err.ensures.cause.failed)
+    (kept_failed first old new before now next stored texts text k c.append.ensures.time
+    (λ earlier held. c.append.ensures.during (earlier ++ texts) text (all earlier held) framed) c.append.ensures.cause.later c.in-Err.ensures.cause.failed)

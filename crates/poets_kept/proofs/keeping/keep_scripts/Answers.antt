@@ -1,6 +1,9 @@
-use Rattle.std.proofs.Common.{◌≤◌, refl, sym, ap, subst}
+use Rattle.std.proofs.Common.{◌≤◌, [], refl, sym, ap, subst}
 use Rattle.poets_call.specs.Calls.{history_of}
-use Rattle.poets_disk.specs.Disks.{GoesOn}
+use Rattle.poets_disk.specs.Disks.{During, GoesOn}
+use Rattle.poets_journal.specs.Journals.{AllHold}
+use Rattle.poets_journal.specs.Texts.{HoldsTexts}
+use Rattle.poets_journal.proofs.Starting.{started_held}
 use Rattle.poets_session.specs.Sessions.{commands_in}
 use Rattle.poets_session.specs.declared.form.Form.TheVariants as F
 use Rattle.poets_making.proofs.Fewness.{scripts_few-held}
@@ -47,13 +50,15 @@ returns-in-Some-clause-keeps g c = λ disk started none faultless statements rea
     let held = g.K.Sink.held in
     let count = g.K.Sink.faults in
     let old = c.args.sink.now in
+    let begun : AllHold (seen disk) [] → During (seen disk) (seen made) (λ image. HoldsTexts image []) =
+    λ before. started_held [] (seen disk) (seen made) (g.met.D.Disk.reads_image made) (g.met.D.Disk.silent made) before c.requires.empty started.during in
     let new = c.write_kept.new.sink in
     let history = c.in-Some.history in
     let result = c.write_kept.result in
     let given = subst (AreMade session.rules session.names (commands_in session.scripts.items) (seen made) (seen calls.disk) (faults made) (faults calls.disk) calls.stored) c.in-Some.is c.keep_calls-history.ensures.made in
     keeps_as seen faults held count old new session.names statements disk calls.disk result.disk result.status (history_of history.items) (history_of result.history.items) calls.stored result.stored
     c.write_kept.ensures.disk (ap (λ l. history_of l.items) c.write_kept.ensures.history) c.write_kept.ensures.stored
-    (keeps_whole seen faults statements session read.holds disk made calls.disk started none faultless (stream (held old) (count old)) (stream (held new) (count new)) calls.stored result.status history given c.write_kept.ensures.written)
+    (keeps_whole seen faults statements session read.holds disk made calls.disk begun c.requires.empty none faultless (stream (held old) (count old)) (stream (held new) (count new)) calls.stored result.status history given c.write_kept.ensures.written)
 
 pub returns-in-Some-clause-disk_later : goal.returns-in-Some-clause-disk_later
 returns-in-Some-clause-disk_later g c =
@@ -73,11 +78,13 @@ returns-clause-keeps g c = λ disk started none faultless statements read.
     let held = g.K.Sink.held in
     let count = g.K.Sink.faults in
     let old = c.args.sink.now in
+    let begun : AllHold (seen disk) [] → During (seen disk) (seen made) (λ image. HoldsTexts image []) =
+    λ before. started_held [] (seen disk) (seen made) (g.met.D.Disk.reads_image made) (g.met.D.Disk.silent made) before c.requires.empty started.during in
     let result = c.stopped.result in
     let given = subst (AreMade session.rules session.names (commands_in session.scripts.items) (seen made) (seen calls.disk) (faults made) (faults calls.disk) calls.stored) c.in-None.is c.keep_calls-history.ensures.made in
     keeps_as seen faults held count old old session.names statements disk calls.disk result.disk result.status (history_of result.history.items) (history_of result.history.items) calls.stored result.stored
     c.stopped.ensures.disk refl c.stopped.ensures.stored
-    (keeps_part seen faults statements session read.holds disk made calls.disk started none faultless (stream (held old) (count old)) (stream (held old) (count old)) calls.stored result.status (history_of result.history.items) given refl c.stopped.ensures.status (ap history_of c.stopped.ensures.history))
+    (keeps_part seen faults statements session read.holds disk made calls.disk begun c.requires.empty none faultless (stream (held old) (count old)) (stream (held old) (count old)) calls.stored result.status (history_of result.history.items) given refl c.stopped.ensures.status (ap history_of c.stopped.ensures.history))
 
 pub returns-clause-disk_later : goal.returns-clause-disk_later
 returns-clause-disk_later g c =
