@@ -86,7 +86,7 @@ module _ (form : Form) (text : Text) (source source' : Stream) (is : source.byte
 writes_status : {answer s : ℕ} {text : List ℕ} {sink sink' : Stream} (wanted : ℕ) → (Rose sink.faults sink'.faults → ⊥) → answer ≡ wanted → EndsWriting answer text sink sink' s → IsStatusOrMemory wanted s
 writes_status wanted n is (EndsWriting.Whole a k) = inl is
 writes_status wanted n is (EndsWriting.Failed a k) = absurd (n k.rose)
-writes_status wanted n is (EndsWriting.Memory names h text_is a k) = inr refl
+writes_status wanted n is (EndsWriting.Memory names number h text_is a k) = inr refl
 
 module _ {D : Type 0} (seen : D → Seen) (faults : D → ℕ) (one : OneHeld) (none : NoneHeld) (text : Text) (file : List ℕ) (source source' sink sink' : Stream) (disk disk' : D)
     (is : source.bytes ≡ Some text) (holds : (seen disk).bytes ≡ Some file) (m : Rose source.faults source'.faults → ⊥) (n : Rose sink.faults sink'.faults → ⊥) (d : Rose (faults disk) (faults disk') → ⊥) where

@@ -85,7 +85,7 @@ module _ (form : Form) (source source' sink sink' : Stream) where
 ends_done : {answer s : ℕ} {text : List ℕ} {sink sink' : Stream} → EndsWriting answer text sink sink' s → s ≡ 0 → (answer ≡ 0) × Appends sink.bytes sink'.bytes text
 ends_done (EndsWriting.Whole a k) z = (z, a)
 ends_done (EndsWriting.Failed a k) z = absurd (omega (arith, z))
-ends_done (EndsWriting.Memory names h is a k) z = absurd (omega (arith, z))
+ends_done (EndsWriting.Memory names number h is a k) z = absurd (omega (arith, z))
 
 module _ {D : Type 0} (seen : D → Seen) (faults : D → ℕ) (source source' sink sink' : Stream) (disk disk' : D) where
   kept_done : {names : Table} {statements : List Statement} {stored answer : ℕ} {h : List Entry} {text : List ℕ} → GaveSession source source' F.Clerks names statements →
@@ -149,7 +149,7 @@ module _ {D : Type 0} (seen : D → Seen) (faults : D → ℕ) (source source' s
   writing_not_two : {answer s : ℕ} {text : List ℕ} → answer ≢ 2 → EndsWriting answer text sink sink' s → s ≢ 2
   writing_not_two ne (EndsWriting.Whole a k) = ne
   writing_not_two ne (EndsWriting.Failed a k) = λ e. omega (arith, e)
-  writing_not_two ne (EndsWriting.Memory names h is a k) = λ e. omega (arith, e)
+  writing_not_two ne (EndsWriting.Memory names number h is a k) = λ e. omega (arith, e)
 
   kept_not_two : {names : Table} {statements : List Statement} {stored answer : ℕ} {h : List Entry} {text : List ℕ} →
       IsKeptAs names statements (seen disk) (seen disk') (faults disk) (faults disk') stored answer h text → answer ≢ 2

@@ -2,7 +2,7 @@
 use Rattle.std.specs.Prelude.{◌≡◌, ℕ, List}
 use Rattle.poets_lex.specs.Table.{Table}
 use Rattle.poets_call.specs.Plain.{Entry}
-use Rattle.poets_print.specs.Lines.{history_text}
+use Rattle.poets_print.specs.Lines.{lines_from}
 use Rattle.std.specs.Io.KnownBytes.{Appends}
 use Rattle.poets_io.specs.Streams.{AppendsPart}
 use Rattle.poets_writing.specs.Writing.{Stream, HasFailed}
@@ -16,7 +16,7 @@ pub data EndsWriting (status : ℕ) (text : List ℕ) (sink sink' : Stream) : (e
   -- the sink failed: a prefix of it was written
   Failed : AppendsPart sink.bytes sink'.bytes text → HasFailed sink sink' →
       EndsWriting status text sink sink' WRITE_FAULT
-  -- out of memory between the lines of a history: a prefix of them was written, without a fault
-  Memory : (names : Table) (h : List Entry) → text ≡ history_text names h →
+  -- out of memory between the lines of entries: a prefix of them was written, without a fault
+  Memory : (names : Table) (number : ℕ) (h : List Entry) → text ≡ lines_from names number h →
       AppendsPart sink.bytes sink'.bytes text → sink'.faults ≡ sink.faults →
       EndsWriting status text sink sink' NO_MEMORY

@@ -136,7 +136,7 @@ fn write_kept<K: Sink, D>(
 {
     let answer = kept_status(stored, &history);
     let entries = &history.as_slice()[..stored as usize];
-    let status = write_entries(alloc, sink, names, entries, answer);
+    let status = write_entries(alloc, sink, names, 0, entries, answer);
     KeptOutcome {
         status,
         history,

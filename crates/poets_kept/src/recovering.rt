@@ -86,7 +86,7 @@ fn recover_texts<K: Sink, D, R: Threads + Sync>(
     let stored = texts.len() as u64;
     match recover(rt, alloc, session, texts) {
         Ok(Recovered { names, history, .. }) => {
-            let status = write_entries(alloc, sink, &names, history.as_slice(), DONE);
+            let status = write_entries(alloc, sink, &names, 0, history.as_slice(), DONE);
             KeptOutcome {
                 status,
                 history,

@@ -1,6 +1,6 @@
 //! What a run with a disk writes.
-ghost use Rattle.std.specs.Prelude.{◌≡◌, ◌≤◌, [], IfOk, OnErr, string_bytes};
-ghost use Rattle.poets_writing.specs.Outcomes.{lines_of};
+ghost use Rattle.std.specs.Prelude.{◌≡◌, ◌+◌, ◌^◌, ◌≤◌, ◌<◌, [], length, IfOk, OnErr, string_bytes};
+ghost use Rattle.poets_writing.specs.Outcomes.{lines_after};
 ghost use Rattle.poets_writing.specs.Writing.{change};
 ghost use Rattle.poets_kept.specs.code.Ended.{WritesAs};
 
@@ -9,22 +9,25 @@ use poets_call::Entry;
 use poets_io::Sink;
 use poets_lex::Names;
 use poets_value::Memory;
-use poets_writing::{NO_MEMORY, WRITE_FAULT, WriteFault, write_history, write_line};
+use poets_writing::{NO_MEMORY, WRITE_FAULT, WriteFault, write_line, write_lines};
 use std::alloc::Global;
 
-/// Writes the lines of the entries, numbered from 1, and answers the status, or that of what stopped it.
+/// Writes the lines of entries that stand behind so many earlier ones, and answers the status, or that of what stopped
+/// it.
 pub(crate) fn write_entries<K: Sink>(
     alloc: Global,
     sink: &mut K,
     names: &Names,
+    earlier: u64,
     entries: &[Entry],
     status: u8,
 ) -> u8
-    ensures written { WritesAs status (lines_of names.now entries.now) (change K.held K.faults sink.old sink.new)
-        result }
+    requires numbered { earlier + length entries.now < 2 ^ 64 }
+    ensures written { WritesAs status (lines_after names.now earlier entries.now)
+        (change K.held K.faults sink.old sink.new) result }
     ensures later { K.faults sink.old ≤ K.faults sink.new }
 {
-    match write_history(alloc, sink, names, entries) {
+    match write_lines(alloc, sink, names, earlier, entries) {
         Ok(()) => status,
         Err(WriteFault::Failed) => WRITE_FAULT,
         Err(WriteFault::Memory) => NO_MEMORY,

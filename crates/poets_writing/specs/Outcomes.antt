@@ -1,12 +1,12 @@
 -- What was written to a sink, by its change and the outcome.
-use Rattle.std.specs.Prelude.{◌≡◌, ◌≢◌, ◌⊎◌, ℕ, List, []}
+use Rattle.std.specs.Prelude.{◌≡◌, ◌≢◌, ◌⊎◌, ℕ, ◌+◌, List, []}
 use Rattle.std.specs.Io.KnownBytes.{Appends}
 use Rattle.poets_io.specs.Streams.{AppendsPart}
 use Rattle.poets_lex.specs.Table.{Table}
 use Rattle.poets_call.specs.declared.call.Entry as code
 use Rattle.poets_call.specs.Calls.{history_of}
 use Rattle.poets_call.specs.Plain.{Entry}
-use Rattle.poets_print.specs.Lines.{history_text}
+use Rattle.poets_print.specs.Lines.{history_text, lines_from}
 use Rattle.poets_writing.specs.Writing.{Change, HasFailed, IsWritten}
 use Rattle.poets_writing.specs.declared.outcome.Outcome.{Outcome}
 use Rattle.poets_writing.specs.declared.outcome.TheConstants.{DONE, NO_MEMORY, WRITE_FAULT}
@@ -18,6 +18,10 @@ Writes Is sink outcome = IsWritten Is sink.before sink.after outcome.status (his
 -- the lines of the entries, numbered from 1
 abbrev pub lines_of : Table → List code.Entry → List ℕ
 lines_of names entries = history_text names (history_of entries)
+
+-- the lines of entries that stand behind so many earlier ones, numbered on from those
+abbrev pub lines_after : Table → (earlier : ℕ) → List code.Entry → List ℕ
+lines_after names earlier entries = lines_from names (earlier + 1) (history_of entries)
 
 -- the text was written whole, without a fault, and the outcome has the wanted status
 abbrev pub WritesWhole : (text : List ℕ) → (sink : Change) → (wanted : ℕ) → Outcome → Type 0

@@ -1,10 +1,10 @@
 //! What is written: the history's lines, each by one call where the sink takes whole pieces, and the lines of refusals.
-ghost use Rattle.std.specs.Prelude.{◌≡◌, ◌≤◌, [], OnOk, OnErr, IsErrOf};
+ghost use Rattle.std.specs.Prelude.{◌≡◌, ◌+◌, ◌^◌, ◌≤◌, ◌<◌, [], length, OnOk, OnErr, IsErrOf};
 ghost use Rattle.std.specs.Io.KnownBytes.{Appends};
 ghost use Rattle.poets_io.specs.Causes.{Rose};
 ghost use Rattle.poets_io.specs.Streams.{AppendsPart};
 ghost use Rattle.poets_call.specs.Calls.{history_of};
-ghost use Rattle.poets_writing.specs.Outcomes.{WritesHistory, WritesLine, lines_of};
+ghost use Rattle.poets_writing.specs.Outcomes.{WritesHistory, WritesLine, lines_of, lines_after};
 ghost use Rattle.poets_writing.specs.Writing.{change};
 ghost use Rattle.poets_writing.specs.declared.writing.WriteFault.TheVariants as F;
 
@@ -64,8 +64,27 @@ pub fn write_history<K: Sink>(
     ensures kept { ¬ (IsErrOf result F.Failed) → K.faults sink.new ≡ K.faults sink.old }
     ensures failed { IsErrOf result F.Failed → Rose (K.faults sink.old) (K.faults sink.new) }
 {
+    write_lines(alloc, sink, names, 0, entries)
+}
+
+/// Writes the lines of entries that stand behind so many earlier ones, whose numbers they go on from.
+pub fn write_lines<K: Sink>(
+    alloc: Global,
+    sink: &mut K,
+    names: &Names,
+    earlier: u64,
+    entries: &[Entry],
+) -> Result<(), WriteFault>
+    requires numbered { earlier + length entries.now < 2 ^ 64 }
+    ensures ok { OnOk result (Appends (K.held sink.old) (K.held sink.new) (lines_after names.now earlier entries.now)) }
+    ensures stopped { OnErr result
+        (AppendsPart (K.held sink.old) (K.held sink.new) (lines_after names.now earlier entries.now)) }
+    ensures later { K.faults sink.old ≤ K.faults sink.new }
+    ensures kept { ¬ (IsErrOf result F.Failed) → K.faults sink.new ≡ K.faults sink.old }
+    ensures failed { IsErrOf result F.Failed → Rose (K.faults sink.old) (K.faults sink.new) }
+{
     for (place, entry) in entries.iter().enumerate() {
-        let line = line_text(alloc, names, place as u64 + 1, entry)?;
+        let line = line_text(alloc, names, earlier + place as u64 + 1, entry)?;
         write_all(sink, line.as_bytes())?;
     }
     Ok(())

@@ -1,4 +1,4 @@
-use Rattle.std.proofs.Common.{Err, refl, ap}
+use Rattle.std.proofs.Common.{◌+◌, Err, refl, ap}
 use Rattle.poets_call.specs.Calls.{history_of}
 use Rattle.poets_kept.specs.Writing.{EndsWriting}
 use Rattle.poets_kept.proofs.writing.write_entries.Goals as goal
@@ -13,5 +13,5 @@ returns-in-Err-Failed-clause-written g c =
 
 pub returns-in-Err-Memory-clause-written : goal.returns-in-Err-Memory-clause-written
 returns-in-Err-Memory-clause-written g c =
-    EndsWriting.Memory c.args.names.now (history_of c.args.entries.now) refl c.in-Err-Memory.ensures.stopped
+    EndsWriting.Memory c.args.names.now (c.args.earlier + 1) (history_of c.args.entries.now) refl c.in-Err-Memory.ensures.stopped
     (c.in-Err-Memory.ensures.kept (λ e. absurd (let z = c.in-Err-Memory.field-0-is in cc)))
