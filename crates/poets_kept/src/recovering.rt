@@ -84,7 +84,8 @@ fn recover_texts<K: Sink, D, R: Threads + Sync>(
     ensures later { K.faults sink.old ≤ K.faults sink.new }
 {
     let stored = texts.len() as u64;
-    match recover(rt, alloc, session, texts) {
+    let Session { names, rules, .. } = session;
+    match recover(rt, alloc, names, rules, texts) {
         Ok(Recovered { names, history, .. }) => {
             let status = write_entries(alloc, sink, &names, 0, history.as_slice(), DONE);
             KeptOutcome {

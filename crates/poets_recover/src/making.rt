@@ -9,11 +9,10 @@ ghost use Rattle.poets_recover.specs.Stored.{AreStoredCalls, bytes_in, length_of
 
 use crate::RecoverFault;
 use crate::stored::stored_calls;
-use poets_call::Entry;
+use poets_call::{Entry, Rules};
 use poets_engine::Engine;
 use poets_lex::Names;
 use poets_making::make_calls;
-use poets_session::Session;
 use poets_value::List;
 use std::alloc::Global;
 use std::thread::Threads;
@@ -26,33 +25,29 @@ pub struct Recovered {
     pub history: List<Entry>,
 }
 
-/// Makes the calls that the texts of a journal are, in their order, on a new engine with the session's book.
+/// Makes the calls that the texts of a journal are, in their order, on a new engine with the rules. Their new names get
+/// the next numbers of the table.
 ///
-/// The session's own calls are not made. The time to read the texts is linear in their bytes.
+/// The time to read the texts is linear in their bytes.
 pub fn recover<R: Threads + Sync>(
     rt: &R,
     alloc: Global,
-    session: Session,
+    mut names: Names,
+    rules: Rules,
     texts: &List<List<u8>>,
 ) -> Result<Recovered, RecoverFault>
-    requires few { length session.names ≤ longest_text }
-    requires whole { IsWholeBook (book_of_rules session.rules) }
+    requires few { length names ≤ longest_text }
+    requires whole { IsWholeBook (book_of_rules rules) }
     ensures calls { IfOk result (λ r.
-        AreStoredCalls (book_of_rules session.rules) (reports_of_rules session.rules) session.names
-        (bytes_in texts.now.items) (calls_of (history_of r.history.items)) r.names) }
+        AreStoredCalls (book_of_rules rules) (reports_of_rules rules) names (bytes_in texts.now.items)
+        (calls_of (history_of r.history.items)) r.names) }
     ensures within { IfOk result (λ _. length_of_all (bytes_in texts.now.items) ≤ most_stored) }
-    ensures right { IfOk result (λ r. AreRight session.rules r.history) }
+    ensures right { IfOk result (λ r. AreRight rules r.history) }
     ensures noted { IfOk result (λ r. AreNoted r.engine (history_of r.history.items)) }
-    ensures rules { IfOk result (λ r. r.engine.rules ≡ session.rules) }
+    ensures rules { IfOk result (λ r. r.engine.rules ≡ rules) }
     ensures refused { IfErr result
-        (TellsRefused (book_of_rules session.rules) (reports_of_rules session.rules) session.names
-        (bytes_in texts.now.items)) }
+        (TellsRefused (book_of_rules rules) (reports_of_rules rules) names (bytes_in texts.now.items)) }
 {
-    let Session {
-        mut names,
-        rules,
-        ..
-    } = session;
     let calls = stored_calls(alloc, &mut names, &rules, texts.as_slice())?;
     let (engine, history) = make_calls(rt, alloc, rules, calls.as_slice())?;
     Ok(Recovered {
