@@ -22,10 +22,10 @@ use Rattle.poets_recover.specs.Stored.{IsRefusedText}
 use Rattle.poets_recover.proofs.Excluding.{calls_unrefused}
 use Rattle.poets_top.specs.Runs.{IsStatusOrMemory}
 use Rattle.poets_writing.specs.Writing.{IsWritten, Stream}
-use Rattle.poets_kept.specs.Keeping.{EndsKeeping, IsKeptAs, KeepsSession}
+use Rattle.poets_keeping.specs.Keeping.{EndsKeeping, IsKeptAs, KeepsSession}
+use Rattle.poets_keeping.specs.Recovering.{EndsRecovering, IsRecoveredAs, RecoversBook}
+use Rattle.poets_keeping.specs.Writing.{EndsWriting}
 use Rattle.poets_kept.specs.Promises.{DeservesKeeping, DeservesRecovering, DeservesUnread, HoldsCalls, HoldsRefused, OfSession}
-use Rattle.poets_kept.specs.Recovering.{EndsRecovering, IsRecoveredAs, RecoversBook}
-use Rattle.poets_kept.specs.Writing.{EndsWriting}
 
 -- what a file holds
 abbrev OneHeld : Type 0

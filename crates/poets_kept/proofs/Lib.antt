@@ -1,11 +1,4 @@
-mod Made
-mod Acknowledged
-mod Parted
-mod Told
-mod Kept
-mod Ended
 mod Statuses
 mod Deserved
-mod Recovered
 mod Unkept
 mod Fewness

@@ -27,12 +27,12 @@ use Rattle.poets_words.specs.declared.mode.Mode.{Mode}
 use Rattle.poets_words.specs.declared.mode.Mode.TheVariants as M
 use Rattle.poets_words.specs.declared.mode.Task.TheVariants as T
 use Rattle.poets_writing.specs.Writing.{HasFailed, IsWritten, Stream}
-use Rattle.poets_kept.specs.Journals.{AreAcknowledged, FileHolds, FileIsDamaged}
-use Rattle.poets_kept.specs.Keeping.{EndsKeeping, HasKept, IsKeptAs, KeepsSession}
+use Rattle.poets_keeping.specs.Journals.{AreAcknowledged, FileHolds, FileIsDamaged}
+use Rattle.poets_keeping.specs.Keeping.{EndsKeeping, HasKept, IsKeptAs, KeepsSession}
+use Rattle.poets_keeping.specs.Recovering.{EndsRecovering, HasRecovered, IsHistoryOfTexts, IsRecoveredAs, RecoversBook}
+use Rattle.poets_keeping.specs.Writing.{EndsWriting}
+use Rattle.poets_keeping.proofs.Acknowledged.{all_survive}
 use Rattle.poets_kept.specs.Promises.{DeservesKeeping, DeservesRecovering, DeservesUnread, OfSession}
-use Rattle.poets_kept.specs.Recovering.{EndsRecovering, HasRecovered, IsHistoryOfTexts, IsRecoveredAs, RecoversBook}
-use Rattle.poets_kept.specs.Writing.{EndsWriting}
-use Rattle.poets_kept.proofs.Acknowledged.{all_survive}
 
 -- ---- words
 

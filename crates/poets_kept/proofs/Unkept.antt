@@ -1,8 +1,6 @@
 -- A run without a disk, as one with a disk tells it.
 use Rattle.std.proofs.Common.{◌≡◌, ℕ, List, sym, subst}
 use Rattle.poets_call.specs.Plain.{Entry}
-use Rattle.poets_disk.specs.Disks.{GoesOn, Seen}
-use Rattle.poets_disk.proofs.Moments.{stands}
 use Rattle.poets_top.specs.Runs.{Ends}
 use Rattle.poets_words.specs.declared.mode.Mode.{Mode}
 use Rattle.poets_writing.specs.Writing.{Stream}
@@ -11,7 +9,3 @@ use Rattle.poets_writing.specs.Writing.{Stream}
 pub ends_told : {source source' sink sink' : Stream} {mode : Mode} (status asked : ℕ) (h g : List Entry) → status ≡ asked → h ≡ g → Ends source source' sink sink' asked g mode → Ends source source' sink sink' status h mode
 ends_told {source} {source'} {sink} {sink'} {mode} status asked h g same_status same_history ends =
     subst (λ s. Ends source source' sink sink' s h mode) (sym same_status) (subst (λ e. Ends source source' sink sink' asked e mode) (sym same_history) ends)
-
--- a disk that was not touched
-pub time_stands : {D : Type 0} (seen : D → Seen) (disk disk' : D) → disk' ≡ disk → GoesOn (seen disk) (seen disk')
-time_stands seen disk disk' same = subst (λ d. GoesOn (seen disk) (seen d)) (sym same) (stands (seen disk))

@@ -15,9 +15,9 @@ use Rattle.poets_syntax.specs.Spread.{largest}
 use Rattle.poets_syntax.specs.Width.{widest}
 use Rattle.poets_writing.specs.declared.outcome.TheConstants.{DONE, NO_MEMORY, NO_SESSION, READ_FAULT, TOO_LONG, USAGE}
 use Rattle.poets_writing.specs.declared.outcome.TheConstants.{WRITE_FAULT}
-use Rattle.poets_kept.specs.Journals.{texts_of}
-use Rattle.poets_kept.specs.Keeping.{IsPartOf}
-use Rattle.poets_kept.specs.declared.outcome.TheConstants.{DAMAGED, DISK_FAULT, HOLDS_CALLS}
+use Rattle.poets_keeping.specs.Journals.{texts_of}
+use Rattle.poets_keeping.specs.Keeping.{IsPartOf}
+use Rattle.poets_keeping.specs.declared.outcome.TheConstants.{DAMAGED, DISK_FAULT, HOLDS_CALLS}
 
 -- the statuses of a run
 abbrev pub StatusesAre : Type 0

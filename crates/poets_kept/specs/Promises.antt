@@ -19,10 +19,8 @@ use Rattle.poets_top.specs.Runs.{IsStatusOrMemory, NoFaultRose}
 use Rattle.poets_writing.specs.Writing.{Change}
 use Rattle.poets_writing.specs.declared.outcome.Outcome.{Outcome}
 use Rattle.poets_writing.specs.declared.outcome.TheConstants.{DONE, NO_SESSION, TOO_LONG}
-use Rattle.poets_kept.specs.declared.outcome.KeptOutcome.{KeptOutcome}
-use Rattle.poets_kept.specs.declared.outcome.TheConstants.{DAMAGED, HOLDS_CALLS}
-use Rattle.poets_kept.specs.Keeping.{EndsKeeping}
-use Rattle.poets_kept.specs.Recovering.{EndsRecovering}
+use Rattle.poets_keeping.specs.declared.outcome.KeptOutcome.{KeptOutcome}
+use Rattle.poets_keeping.specs.declared.outcome.TheConstants.{DAMAGED, HOLDS_CALLS}
 use Rattle.poets_kept.specs.Words.{AskForJournal}
 
 -- the status and the history
@@ -36,19 +34,6 @@ AreNoKeptForm words = AreNoForm words × ¬ (AskForJournal words)
 -- the run ends with the status 0, and then this holds of how many calls are stored, and of its history
 abbrev pub IfKept : {D : Type 0} → KeptOutcome D → (ℕ → List Entry → Type 0) → Type 0
 IfKept result P = result.status ≡ DONE → P result.stored (history_of result.history.items)
-
-module _ {D : Type 0} (seen : D → Seen) (faults : D → ℕ) where
-  -- the run ends as one that was asked to keep
-  abbrev pub EndsAsKept : (source sink : Change) → (disk : D) → KeptOutcome D → Type 0
-  EndsAsKept source sink disk result =
-      EndsKeeping seen faults source.before source.after sink.before sink.after disk result.disk
-      result.status (history_of result.history.items) result.stored
-
-  -- the run ends as one that was asked to recover
-  abbrev pub EndsAsRecovered : (source sink : Change) → (disk : D) → KeptOutcome D → Type 0
-  EndsAsRecovered source sink disk result =
-      EndsRecovering seen faults source.before source.after sink.before sink.after disk result.disk
-      result.status (history_of result.history.items) result.stored
 
 -- the status that a text deserves that is no session of the form
 pub data DeservesUnread (form : Form) (text : Text) : (status : ℕ) → Type 0 where

@@ -16,8 +16,8 @@ pub fn kept_texts_are_few()
     ensures { KeptTextsAreFew }
 {}
 
-/// The texts of the first calls of a session's history are calls of the session's book again, under the book's own table
-/// of names, and have these texts again.
+/// The texts of the first calls of a session's history are calls of the session's book again, under the book's own
+/// table of names, and have these texts again.
 pub fn kept_calls_are_recovered()
     ensures { KeptCallsAreRecovered }
 {}

@@ -9,10 +9,11 @@ use Rattle.poets_top.specs.Running.{HasRun}
 use Rattle.poets_top.specs.Runs.{IsStatusOrMemory}
 use Rattle.poets_words.specs.declared.mode.Mode.TheVariants as M
 use Rattle.poets_words.specs.declared.mode.Task.TheVariants as T
+use Rattle.poets_keeping.proofs.Untouched.{time_stands}
 use Rattle.poets_kept.specs.Words.{AsksFor}
 use Rattle.poets_kept.proofs.Deserved.{keeping_deserved, recovering_deserved}
 use Rattle.poets_kept.proofs.Statuses.{has_kept, has_recovered, keeping_not_two, no_journal_form, recovering_not_two, two_words}
-use Rattle.poets_kept.proofs.Unkept.{ends_told, time_stands}
+use Rattle.poets_kept.proofs.Unkept.{ends_told}
 use Rattle.poets_kept.proofs.program.run_kept.Goals as goal
 
 pub returns-in-Some-Keep-clause-usage : goal.returns-in-Some-Keep-clause-usage

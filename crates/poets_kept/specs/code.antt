@@ -1,3 +1,0 @@
--- What ties the code to the definitions: what its private functions promise.
-pub mod Made
-pub mod Ended
