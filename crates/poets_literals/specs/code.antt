@@ -1,0 +1,2 @@
+-- What ties the code to the definitions: what private functions promise.
+pub mod Parts
