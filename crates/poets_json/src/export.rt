@@ -1,17 +1,20 @@
 //! The text of a document.
-ghost use Rattle.std.specs.Prelude.{◌≡◌, IfOk, OnOk, false, string_bytes};
+ghost use Rattle.std.specs.Prelude.{◌≡◌, IfOk, OnOk, false, map, string_bytes};
 ghost use Rattle.serde_json.specs.Data.{string};
 ghost use Rattle.serde_json.specs.View.{view};
 ghost use Rattle.serde_json.specs.Written.{compact_text, has_float};
 ghost use Rattle.poets_value.specs.code.Texts.{Puts};
 ghost use Rattle.poets_lex.specs.Table.{texts_of};
 ghost use Rattle.poets_call.specs.Calls.{entry_of, history_of};
+ghost use Rattle.poets_syntax.specs.Book.{template_of};
+ghost use Rattle.poets_report.specs.Reports.{report_of};
+ghost use Rattle.poets_books.specs.Books as books;
 ghost use Rattle.poets_json.specs.Document.{document, entry_data, list_data};
 ghost use Rattle.poets_json.specs.Plain.{exported_of, exported_with};
 ghost use Rattle.poets_json.specs.code.Values.{Is, behind_commas, list_text};
 
 use crate::exported::Exported;
-use crate::replies::entry_json;
+use crate::replies::entry_value;
 use poets_books::book_texts;
 use poets_call::Entry;
 use poets_lex::Names;
@@ -50,6 +53,22 @@ fn texts_json(alloc: Global, texts: &[String]) -> Result<Json, Memory>
     Ok(Json::from(made))
 }
 
+/// The value of a book with its reports, as it stands in a document: the texts of its statements.
+///
+/// A name that the table does not have is written as an empty text.
+pub fn book_value(
+    alloc: Global,
+    names: &Names,
+    book: &Book,
+    reports: &List<Report>,
+) -> Result<Json, Memory>
+    ensures { IfOk result (λ v. view v ≡ list_data string (books.book_texts names.now book.now.decls.names.entries
+        (map template_of book.now.templates.items) (map report_of reports.now.items))) }
+{
+    let texts = book_texts(alloc, names, book, reports)?;
+    texts_json(alloc, texts.as_slice())
+}
+
 // Puts texts, as a list.
 #[tactic(auto, using(crate::proofs::NoFloats::no_float_texts))]
 fn put_texts(alloc: Global, out: &mut String, texts: &[String]) -> Result<(), Memory>
@@ -63,7 +82,7 @@ fn put_texts(alloc: Global, out: &mut String, texts: &[String]) -> Result<(), Me
 fn put_entry(alloc: Global, out: &mut String, names: &Names, entry: &Entry) -> Result<(), Memory>
     ensures { OnOk result (Puts out.old out.new (compact_text (entry_data names.now (entry_of entry.now)))) }
 {
-    let value = entry_json(alloc, names, entry)?;
+    let value = entry_value(alloc, names, entry)?;
     put_json(alloc, out, &value)
 }
 

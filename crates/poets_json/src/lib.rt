@@ -6,8 +6,9 @@ mod export;
 mod exported;
 mod replies;
 
-pub use export::{document_text, export_text};
+pub use export::{book_value, document_text, export_text};
 pub use exported::Exported;
+pub use replies::entry_value;
 
 #[cfg(test)]
 mod tests;

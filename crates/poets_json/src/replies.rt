@@ -1,5 +1,5 @@
 //! Values of JSON for replies, and for the entries of a history.
-ghost use Rattle.std.specs.Prelude.{IfOk};
+ghost use Rattle.std.specs.Prelude.{◌≡◌, IfOk};
 ghost use Rattle.serde_json.specs.View.{view};
 ghost use Rattle.poets_value.specs.Civil as civil;
 ghost use Rattle.poets_syntax.specs.Contract.{contract_of};
@@ -123,9 +123,11 @@ fn reply_json(alloc: Global, names: &Names, reply: &Reply) -> Result<Json, Memor
     }
 }
 
-/// An entry of a history.
-pub(crate) fn entry_json(alloc: Global, names: &Names, entry: &Entry) -> Result<Json, Memory>
-    ensures { IfOk result (Is (entry_data names.now (entry_of entry.now))) }
+/// The value of an entry of a history, as it stands in a document.
+///
+/// A name that the table does not have is written as an empty text.
+pub fn entry_value(alloc: Global, names: &Names, entry: &Entry) -> Result<Json, Memory>
+    ensures { IfOk result (λ v. view v ≡ entry_data names.now (entry_of entry.now)) }
 {
     let command = command_text(alloc, names, &*entry.command)?;
     let reply = reply_json(alloc, names, &entry.reply)?;

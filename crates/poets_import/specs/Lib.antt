@@ -1,0 +1,4 @@
+pub mod Phrases
+pub mod Reading
+pub mod Laws
+pub mod code
