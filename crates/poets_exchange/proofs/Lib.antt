@@ -1,0 +1,11 @@
+pub mod Lists
+pub mod Declaring
+pub mod Spoken
+pub mod Documents
+pub mod SessionBooks
+pub mod Journals
+pub mod Json
+pub mod Utf8Texts
+pub mod Counts
+pub mod SoundDocuments
+pub mod ReadBack

@@ -1,0 +1,2 @@
+pub mod Exportable
+pub mod Laws
