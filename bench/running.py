@@ -19,7 +19,7 @@ UNKEPT = b"poets: poets.journal cannot be read or written\n"
 # The toolchain's logic, by which alone a proof holds: kits that differ in name alone have one.
 LOGIC = subprocess.run(["rt", "version"], stdout=subprocess.PIPE, check=True).stdout.split()[-1]
 USAGE = b"""\
-usage: poets check | run | replay | demo N | explain NAME | keep | recover | export
+usage: poets check | run | replay | demo N | explain NAME | keep | recover | resume | export
 
 A text is read from standard input, as in: poets run < session.poets
   check         counts the templates and reports of a book, or names the first fault of the text
@@ -29,6 +29,7 @@ A text is read from standard input, as in: poets run < session.poets
   demo N        prints one line about N sales by each of eight clerks, N from 1 to 1000, and reads nothing
   keep          does what run does, and puts each command into the file poets.journal before its line is printed
   recover       reads a book, makes the commands that poets.journal holds, and prints their history
+  resume        does what keep does, after the commands that poets.journal holds, and prints the new lines
   export        makes the commands of a journal, and prints its book and their history as one JSON document
 
 docs/LANGUAGE.md has the language, docs/REPLIES.md the replies, docs/COOKBOOK.md whole contracts.

@@ -1,7 +1,7 @@
 //! `poets check` reads a book, `poets run` a session, and `poets replay`, `poets explain NAME` and `poets export` a
-//! journal from standard input; `poets demo N` reads nothing. `poets keep` reads a session too, and keeps its calls in the
-//! file `poets.journal` of the current folder; `poets recover` reads a book, and makes the calls of that file. All write
-//! to standard output.
+//! journal from standard input; `poets demo N` reads nothing. `poets keep` reads a session too, and keeps its calls in
+//! the file `poets.journal` of the current folder; `poets recover` reads a book, and makes the calls of that file;
+//! `poets resume` reads a session, and goes on after these. All write to standard output.
 #![tactic(auto)]
 
 mod help;

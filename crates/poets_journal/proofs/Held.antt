@@ -63,11 +63,6 @@ short_none : (bytes : List ℕ) (texts : List (List ℕ)) → length bytes ≤ 1
 short_none bytes [] short h = refl
 short_none bytes (t ∷ ts) short h = absurd (omega (arith, short, ap length h.records.1.is))
 
--- a file of at most one byte holds no text
-pub short_held : (file : List ℕ) (texts : List (List ℕ)) → length file ≤ 1 → HoldsTexts file texts → texts ≡ []
-short_held file texts short (inl h) = h.1
-short_held file texts short (inr h) = short_none file texts short h
-
 pub same_held : (bytes : List ℕ) (texts others : List (List ℕ)) → HoldsTexts bytes texts → HoldsTexts bytes others → texts ≡ others
 same_held bytes texts others (inl h) (inl k) = h.1 ∙ sym k.1
 same_held bytes texts others (inl h) (inr k) = h.1 ∙ sym (short_none bytes others h.0 k)

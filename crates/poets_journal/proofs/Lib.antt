@@ -1,6 +1,6 @@
 mod Held
 mod Crash
-pub mod Starting
+mod Starting
 mod Keeps
 mod Parts
 mod Opening

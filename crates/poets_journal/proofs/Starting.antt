@@ -1,13 +1,13 @@
 -- How a start goes.
 use Rattle.std.proofs.Common.{◌≡◌, inl, inr, ℕ, ◌<◌, ◌≤◌, List, [], ◌∷◌, ◌++◌, length, Option, Some, None, IfSome, option_map, refl, sym, ◌∙◌, ap, subst, arith, zero-le}
 use Rattle.std.proofs.lemmas.List.{drop_all}
-use Rattle.poets_disk.specs.Disks.{Seen, MayLeave, Since, GoesOn, During, Rests, Writes, IsTorn, IsSure, over, longest_file}
+use Rattle.poets_disk.specs.Disks.{Seen, MayLeave, GoesOn, During, Rests, Writes, IsTorn, IsSure, over, longest_file}
 use Rattle.poets_journal.specs.Texts.{BeginsWith, AreRecords, IsClosed, HoldsTexts, IsCutShort, IsDamaged}
 use Rattle.poets_journal.specs.Journals.{AllHold}
 use Rattle.poets_journal.specs.Starts.{StaysOrIsShort, with_gate}
 use Rattle.poets_journal.specs.code.Gates.{HasGateAt, IsReady}
 use Rattle.poets_journal.specs.code.Opens.{IsOpened}
-use Rattle.poets_journal.proofs.Held.{not_open, gate_of, same_text, short_held}
+use Rattle.poets_journal.proofs.Held.{not_open, gate_of, same_text}
 use Rattle.poets_disk.proofs.Moments.{left_now, during_both}
 use Rattle.poets_journal.proofs.Crash.{told}
 
@@ -138,13 +138,3 @@ short_gate (Some file) list short same = ap Some (gate_short file (omega (arith,
 pub long_gate : (bytes : Option (List ℕ)) (list : List ℕ) → 1 < length list → IfSome bytes (λ file. list ≡ file) → bytes ≡ option_map with_gate bytes
 long_gate None list long same = refl
 long_gate (Some file) list long same = ap Some (gate_long file (omega (arith, long, ap length same)))
-
--- where each image held the texts ahead of a start and holds them after it, one of any moment of the start holds them
-pub started_held : (texts : List (List ℕ)) (disk made : Seen) → ((file : List ℕ) → made.bytes ≡ Some file → MayLeave made file) → ((start : ℕ) (image : List ℕ) → made.bytes ≡ None → Since made start image → ⊥)
-    → AllHold disk texts → AllHold made texts → During disk made (StaysOrIsShort disk made) → During disk made (λ image. HoldsTexts image texts)
-started_held texts disk made reads silent before after during image since = of made.bytes refl (during image since)
-  where
-    of : (bytes : Option (List ℕ)) → made.bytes ≡ bytes → StaysOrIsShort disk made image → HoldsTexts image texts
-    of bytes is (inl left) = before image left
-    of None is (inr short) = absurd (silent disk.clock image is since)
-    of (Some file) is (inr short) = inl (short.0, short_held file texts (told (λ f. length f ≤ 1) made.bytes file short.1 is) (after file (reads file is)))

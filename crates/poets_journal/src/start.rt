@@ -1,7 +1,7 @@
 //! A journal is started: the texts that a disk holds are read, whatever a crash left of its file.
-ghost use Rattle.std.specs.Prelude.{◌≡◌, ◌<◌, ◌≤◌, ◌+◌, false, [], ◌∷◌, true, drop, length, option_map, IfOk, IfSome, OnOk, IsErrOf};
+ghost use Rattle.std.specs.Prelude.{◌≡◌, ◌≢◌, ◌<◌, ◌≤◌, ◌+◌, false, [], ◌∷◌, true, drop, length, option_map, IfOk, IfSome, OnOk, IsErrOf};
 ghost use Rattle.poets_io.specs.Causes.{HasCause, Rose};
-ghost use Rattle.poets_disk.specs.Disks.{Rests, GoesOn, During, IsSure, longest_file};
+ghost use Rattle.poets_disk.specs.Disks.{Rests, GoesOn, During, IsSure, MayLeave, longest_file};
 ghost use Rattle.poets_journal.specs.Texts.{HoldsTexts, IsClosed, IsDamaged, Texts};
 ghost use Rattle.poets_journal.specs.Journals.{AllHold, texts_of};
 ghost use Rattle.poets_journal.specs.code.Gates.{IsReady};
@@ -88,6 +88,9 @@ impl<D: Disk> Journal<D> {
         ensures started { IfOk result (λ s. AllHold (D.seen s.journal.disk) (texts_of s.texts)) }
         ensures texts { IfOk result (λ s. IfSome (D.seen disk).bytes (λ file. HoldsTexts file (texts_of s.texts))) }
         ensures file { IfOk result (λ s. (D.seen s.journal.disk).bytes ≡ option_map with_gate (D.seen disk).bytes) }
+        // Where it held a text, no image came to those from its start.
+        ensures still { IfOk result (λ s. texts_of s.texts ≢ []
+            → During (D.seen disk) (D.seen s.journal.disk) (MayLeave (D.seen disk))) }
         ensures damaged { OnDamaged result (λ number. IfSome (D.seen disk).bytes (λ file. IsDamaged file number)) }
         ensures nothing { OnDamaged result (λ number. IfSome (D.seen disk).bytes
             (λ file. (texts : Texts) → ¬ (HoldsTexts file texts))) }
@@ -117,6 +120,8 @@ fn open<D: Disk>(alloc: Global, disk: &mut D) -> Result<Opened, OpenFault>
     ensures all { IfOk result (λ o. AllHold (D.seen disk.new) (texts_of o.texts)) }
     ensures texts { IfOk result (λ o. IfSome (D.seen disk.old).bytes (λ file. HoldsTexts file (texts_of o.texts))) }
     ensures file { IfOk result (λ o. (D.seen disk.new).bytes ≡ option_map with_gate (D.seen disk.old).bytes) }
+    ensures still { IfOk result (λ o. texts_of o.texts ≢ []
+        → During (D.seen disk.old) (D.seen disk.new) (MayLeave (D.seen disk.old))) }
     ensures damaged { OnNumber result (λ number. IfSome (D.seen disk.old).bytes (λ file. IsDamaged file number)) }
     ensures kept { OnNumber result (λ number. (D.seen disk.new).bytes ≡ (D.seen disk.old).bytes) }
     ensures later { D.faults disk.old ≤ D.faults disk.new }

@@ -8,44 +8,26 @@ use Rattle.std.proofs.lemmas.List.{length-map}
 use Rattle.poets_io.specs.Causes.{Rose}
 use Rattle.poets_value.specs.Listed.{Listed}
 use Rattle.poets_lex.specs.Table.{Table}
-use Rattle.poets_call.specs.declared.call.Entry as code
-use Rattle.poets_call.specs.declared.rules.Rules.{Rules}
-use Rattle.poets_call.specs.Calls.{entry_of}
-use Rattle.poets_call.specs.Plain.{Command, Entry}
+use Rattle.poets_call.specs.Plain.{Entry}
 use Rattle.poets_call.specs.Said.{Statement}
 use Rattle.poets_disk.specs.Disks.{During, GoesOn, Seen}
-use Rattle.poets_journal.specs.Journals.{AllHold, texts_of}
+use Rattle.poets_journal.specs.Journals.{texts_of}
 use Rattle.poets_journal.specs.Starts.{StaysOrIsShort, disk_of}
 use Rattle.poets_journal.specs.declared.start.StartFault.{StartFault}
 use Rattle.poets_journal.specs.declared.start.Started.{Started}
 use Rattle.poets_opening.specs.Unread.{EndsUnread}
 use Rattle.poets_session.specs.declared.form.Form.TheVariants as F
 use Rattle.poets_writing.specs.Writing.{Stream, stream}
-use Rattle.poets_keeping.specs.Journals.{FileHolds, OnlyStarted, holds_line}
+use Rattle.poets_keeping.specs.Journals.{HeldTexts, OnlyStarted, holds_line}
 use Rattle.poets_keeping.specs.Keeping.{EndsKeeping, IsKeptAs, KeepsSession}
 use Rattle.poets_keeping.specs.Writing.{EndsWriting}
-use Rattle.poets_keeping.specs.Made.{AreMade}
-use Rattle.poets_keeping.proofs.Acknowledged.{texts_long}
-
--- no more calls are stored than there are entries
-pub stored_within : (rules : Rules) (names : Table) (scripts : List (List Command)) (disk disk' : Seen) (faults faults' stored : ℕ) (es : Listed code.Entry) →
-    AreMade rules names scripts disk disk' faults faults' stored (Some es) → stored ≤ length es.items
-stored_within rules names scripts disk disk' faults faults' stored es m =
-    let first = m.kept.first in
-    let long = texts_long names m.made in
-    let same = ap (λ (h : List Entry). length h) m.all.0 in
-    let many = length-map es.items entry_of in
-    omega (arith, first, long, same, many)
 
 -- a journal that holds no text, by the list of texts that was read
 no_texts : (texts : Listed (Listed ℕ)) → texts.items ≡ [] → texts_of texts ≡ []
 no_texts texts none = ap (map (λ (t : Listed ℕ). t.items)) none
 
-pub none_held : (disk : Seen) (texts : Listed (Listed ℕ)) → texts.items ≡ [] → AllHold disk (texts_of texts) → AllHold disk []
-none_held disk texts none held = subst (AllHold disk) (no_texts texts none) held
-
-pub holds_none : (disk : Seen) (texts : Listed (Listed ℕ)) → texts.items ≡ [] → FileHolds disk (texts_of texts) → FileHolds disk []
-holds_none disk texts none held = subst (FileHolds disk) (no_texts texts none) held
+pub held_none : (disk made : Seen) (faults begun : ℕ) (texts : Listed (Listed ℕ)) → texts.items ≡ [] → HeldTexts disk made faults begun (texts_of texts) → HeldTexts disk made faults begun []
+held_none disk made faults begun texts none held = subst (HeldTexts disk made faults begun) (no_texts texts none) held
 
 -- and one that holds some
 pub some_held : (empty : Bool) (texts : Listed (Listed ℕ)) → (texts.items ≡ [] → empty ≡ true) → empty ≡ false → 0 < length (texts_of texts)

@@ -1,4 +1,5 @@
 pub mod Made
+pub mod Carried
 pub mod Acknowledged
 pub mod Parted
 pub mod Told

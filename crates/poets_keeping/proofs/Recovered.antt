@@ -26,7 +26,7 @@ use Rattle.poets_session.specs.declared.session.Session.{Session}
 use Rattle.poets_top.proofs.Owning.{right_for}
 use Rattle.poets_writing.specs.Writing.{Stream, stream}
 use Rattle.poets_keeping.specs.Journals.{FileIsDamaged, FoundDamage, HeldTexts, OnlyStarted, damaged_line}
-use Rattle.poets_keeping.specs.Recovering.{EndsRecovering, IsRecoveredAs, RecoversBook}
+use Rattle.poets_keeping.specs.Recovering.{EndsRecovering, IsHistoryOfTexts, IsRecoveredAs, RecoversBook}
 use Rattle.poets_keeping.specs.Writing.{EndsWriting}
 use Rattle.poets_keeping.specs.code.Ended.{IsReadFrom, RecoversTexts}
 
@@ -56,19 +56,32 @@ module _ {D : Type 0} (seen : D → Seen) (faults : D → ℕ) (disk : D) where
 
 -- ---- texts
 
+-- they are calls of the book, and this is their history
+pub history_of_texts : (statements : List Statement) (session : Session) (texts : Texts) (after : Table) (h : List Entry) → Represents statements session →
+    AreStoredCalls (R.book_of_rules session.rules) (R.reports_of_rules session.rules) session.names texts (calls_of h) after → length_of_all texts ≤ most_stored →
+    IsRightHistory (R.book_of_rules session.rules) (R.reports_of_rules session.rules) h → IsHistoryOfTexts session.names statements texts after h
+history_of_texts statements session texts after h holds stored within right = record {
+  stored =
+      subst (λ r. AreStoredCalls (book_from statements) r session.names texts (calls_of h) after) holds.reports
+      (subst (λ b. AreStoredCalls b (R.reports_of_rules session.rules) session.names texts (calls_of h) after) holds.book stored);
+  within = within;
+  right = right_for session.rules statements h holds.book holds.reports right;
+}
+
+-- one of them is refused
+pub refused_for : (statements : List Statement) (session : Session) (texts : Texts) (number : ℕ) → Represents statements session →
+    IsRefusedText (R.book_of_rules session.rules) (R.reports_of_rules session.rules) session.names texts number →
+    IsRefusedText (book_from statements) (reports_of statements) session.names texts number
+refused_for statements session texts number holds refused =
+    subst (λ r. IsRefusedText (book_from statements) r session.names texts number) holds.reports
+    (subst (λ b. IsRefusedText b (R.reports_of_rules session.rules) session.names texts number) holds.book refused)
+
 module _ (session : Session) (statements : List Statement) (texts : Texts) (sink sink' : Stream) (holds : Represents statements session) where
-  -- they are calls of the book
+  -- they were made
   pub texts_made : (after : Table) (h : List Entry) (status : ℕ) → AreStoredCalls (R.book_of_rules session.rules) (R.reports_of_rules session.rules) session.names texts (calls_of h) after →
       length_of_all texts ≤ most_stored → IsRightHistory (R.book_of_rules session.rules) (R.reports_of_rules session.rules) h → EndsWriting 0 (history_text after h) sink sink' status →
       RecoversTexts session.names statements texts sink sink' status h
-  texts_made after h status stored within right ends =
-      RecoversTexts.Whole (record {
-        stored =
-            subst (λ r. AreStoredCalls (book_from statements) r session.names texts (calls_of h) after) holds.reports
-            (subst (λ b. AreStoredCalls b (R.reports_of_rules session.rules) session.names texts (calls_of h) after) holds.book stored);
-        within = within;
-        right = right_for session.rules statements h holds.book holds.reports right;
-      }) ends
+  texts_made after h status stored within right ends = RecoversTexts.Whole (history_of_texts statements session texts after h holds stored within right) ends
 
   -- memory was not enough
   pub texts_unmade : (status : ℕ) (h : List Entry) → sink' ≡ sink → status ≡ 3 → h ≡ [] → RecoversTexts session.names statements texts sink sink' status h
@@ -81,9 +94,7 @@ module _ (session : Session) (statements : List Statement) (texts : Texts) (sink
       EndsWriting 9 (damaged_line number) sink sink' status ⊎ ((status ≡ 3) × (sink' ≡ sink)) → RecoversTexts session.names statements texts sink sink' status h
   texts_refused number status h refused empty (inl ends) =
       subst (RecoversTexts session.names statements texts sink sink' status) (sym empty)
-      (RecoversTexts.NoCall
-      (subst (λ r. IsRefusedText (book_from statements) r session.names texts number) holds.reports
-      (subst (λ b. IsRefusedText b (R.reports_of_rules session.rules) session.names texts number) holds.book refused)) ends)
+      (RecoversTexts.NoCall (refused_for statements session texts number holds refused) ends)
   texts_refused number status h refused empty (inr untold) = texts_unmade status h untold.1 untold.0 empty
 
 -- ---- the journal

@@ -1,5 +1,5 @@
 -- Histories on a disk.
-use Rattle.std.specs.Prelude.{◌≡◌, ℕ, ◌+◌, ◌≤◌, ◌⊎◌, List, [], ◌∷◌, ◌++◌, codes, length, option_map, IfSome}
+use Rattle.std.specs.Prelude.{◌≡◌, ◌≢◌, ℕ, ◌+◌, ◌≤◌, ◌⊎◌, List, [], ◌∷◌, ◌++◌, codes, length, option_map, IfSome}
 use Rattle.std.specs.Fmt.{decimal}
 use Rattle.poets_lex.specs.Table.{Table}
 use Rattle.poets_call.specs.Calls.{calls_of}
@@ -30,12 +30,14 @@ pub record OnlyStarted (disk disk' : Seen) : Type 0 where
   pub during : During disk disk' (StaysOrIsShort disk disk')
 
 -- a journal was started without a fault on a disk that held these texts: whatever a crash leaves now holds them too,
--- and a read gives what it gave, but for a closed gate in place of at most one byte
+-- and a read gives what it gave, but for a closed gate in place of at most one byte; where there are texts, a crash on
+-- the way left what it may have left before
 pub record HeldTexts (disk disk' : Seen) (faults faults' : ℕ) (texts : Texts) : Type 0 where
   pub held : FileHolds disk texts
   pub all : AllHold disk' texts
   pub bytes : disk'.bytes ≡ option_map with_gate disk.bytes
   pub faultless : faults' ≡ faults
+  pub still : texts ≢ [] → During disk disk' (MayLeave disk)
 
 -- no journal was started, since the record with this number is damaged: nothing failed, and a read gives what it gave
 pub record FoundDamage (disk disk' : Seen) (faults faults' number : ℕ) : Type 0 where

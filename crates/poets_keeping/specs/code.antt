@@ -1,2 +1,3 @@
 -- What ties the code to the definitions: what its private functions promise.
+pub mod Entries
 pub mod Ended

@@ -1,22 +1,28 @@
 //! The word `keep`: the clerks' scripts are made, and their calls kept in a journal.
-ghost use Rattle.std.specs.Prelude.{◌≡◌, ◌≤◌, [], false, length, take};
+ghost use Rattle.std.specs.Prelude.{◌≡◌, ◌+◌, ◌^◌, ◌≤◌, ◌<◌, [], false, length, take};
+ghost use Rattle.poets_value.specs.Limits.{most_clerks};
+ghost use Rattle.poets_call.specs.Calls.{history_of};
 ghost use Rattle.poets_disk.specs.Disks.{GoesOn};
-ghost use Rattle.poets_journal.specs.Journals.{AllHold};
+ghost use Rattle.poets_making.specs.Noted.{AreScriptsTaken};
+ghost use Rattle.poets_session.specs.Sessions.{commands_in};
 ghost use Rattle.poets_session.specs.declared.form.Form.TheVariants as F;
-ghost use Rattle.poets_writing.specs.Outcomes.{lines_of};
+ghost use Rattle.poets_stored.specs.Laws.{AreStorableScripts};
+ghost use Rattle.poets_writing.specs.Outcomes.{lines_after};
 ghost use Rattle.poets_writing.specs.Writing.{change};
 ghost use Rattle.poets_keeping.specs.Promises.{EndsAsKept};
-ghost use Rattle.poets_keeping.specs.code.Ended.{Keeps, WasRead, kept_status};
+ghost use Rattle.poets_keeping.specs.code.Ended.{Keeps, WasRead};
+ghost use Rattle.poets_keeping.specs.Journals.{HeldTexts, OnlyStarted};
+ghost use Rattle.poets_keeping.specs.Made.{KeepsScripts, OfTaken, kept_status};
 ghost use Rattle.poets_keeping.specs.Writing.{WritesAs};
-ghost use Rattle.poets_keeping.specs.Journals.{FileHolds, OnlyStarted};
 
 use crate::journal::{damaged_line, holds_line};
 use crate::outcome::{DAMAGED, DISK_FAULT, HOLDS_CALLS, KeptOutcome, stopped, unstored};
 use crate::work::{KeptCalls, keep_calls};
 use crate::writing::{tell, write_entries};
-use poets_call::Entry;
+use poets_call::{Command, Entry};
 use poets_clerks::Gate;
 use poets_disk::Disk;
+use poets_engine::Engine;
 use poets_io::{Sink, Source};
 use poets_journal::{Journal, StartFault, Started};
 use poets_lex::Names;
@@ -25,7 +31,7 @@ use poets_session::{Form, Session};
 use poets_value::List;
 use poets_writing::{DONE, NO_MEMORY};
 use std::alloc::Global;
-use std::sync::Wait;
+use std::sync::{Arc, Wait};
 use std::thread::Threads;
 
 /// Reads a session of clerks, makes its calls, keeps them in the disk's journal, and writes their history.
@@ -69,7 +75,7 @@ fn keep_session<K: Sink, G: Gate + Sync, D: Disk + Drop + Send, R: Threads + Wai
     match Journal::start(alloc, disk) {
         Ok(Started { journal, texts }) => {
             if texts.is_empty() {
-                keep_scripts(rt, alloc, sink, session, gate, journal)
+                keep_first(rt, alloc, sink, session, gate, journal)
             } else {
                 let line = holds_line(alloc, texts.len());
                 tell(alloc, sink, HOLDS_CALLS, line, 0, journal.end())
@@ -85,7 +91,7 @@ fn keep_session<K: Sink, G: Gate + Sync, D: Disk + Drop + Send, R: Threads + Wai
 }
 
 // Makes the calls of a session, keeps them in a journal that holds none, and writes their history.
-fn keep_scripts<K: Sink, G: Gate + Sync, D: Disk + Drop + Send, R: Threads + Wait + Sync>(
+fn keep_first<K: Sink, G: Gate + Sync, D: Disk + Drop + Send, R: Threads + Wait + Sync>(
     rt: &R,
     alloc: Global,
     sink: &mut K,
@@ -94,11 +100,10 @@ fn keep_scripts<K: Sink, G: Gate + Sync, D: Disk + Drop + Send, R: Threads + Wai
     journal: Journal<D>,
 ) -> KeptOutcome<D>
     requires read { WasRead F.Clerks session }
-    requires empty { AllHold (D.seen journal.disk) [] }
     requires works { journal.failed ≡ false }
     // Whatever disk the journal was started on, which held no call.
-    ensures keeps { (disk : D) → OnlyStarted (D.seen disk) (D.seen journal.disk) → FileHolds (D.seen disk) []
-        → D.faults journal.disk ≡ D.faults disk
+    ensures keeps { (disk : D) → OnlyStarted (D.seen disk) (D.seen journal.disk)
+        → HeldTexts (D.seen disk) (D.seen journal.disk) (D.faults disk) (D.faults journal.disk) []
         → Keeps D.seen D.faults session (change K.held K.faults sink.old sink.new) disk result }
     ensures later { K.faults sink.old ≤ K.faults sink.new }
     ensures disk_later { D.faults journal.disk ≤ D.faults result.disk }
@@ -110,29 +115,65 @@ fn keep_scripts<K: Sink, G: Gate + Sync, D: Disk + Drop + Send, R: Threads + Wai
         scripts,
         journal: _,
     } = session;
+    // The book is checked and guarded, and the marks are right.
+    let _book = rules.studied.book();
+    let engine = Engine::new(alloc, rules);
+    keep_scripts(rt, alloc, sink, &names, engine, &scripts, gate, journal)
+}
+
+/// Makes the calls of scripts on an engine, after those that it took, keeps them in the journal, behind the texts that
+/// it holds, and writes the lines of those that are stored, numbered on.
+///
+/// Each script has a thread of its own, and the disk comes back once all of them ended.
+pub fn keep_scripts<K: Sink, G: Gate + Sync, D: Disk + Drop + Send, R: Threads + Wait + Sync>(
+    rt: &R,
+    alloc: Global,
+    sink: &mut K,
+    names: &Names,
+    engine: Engine,
+    scripts: &List<List<Arc<Command>>>,
+    gate: &G,
+    journal: Journal<D>,
+) -> KeptOutcome<D>
+    requires taken { AreScriptsTaken engine.rules scripts.now.items }
+    requires few { length scripts.now.items ≤ most_clerks }
+    requires storable { AreStorableScripts names.now scripts.now.items }
+    requires works { journal.failed ≡ false }
+    // Whatever history the engine took before.
+    ensures keeps { OfTaken engine (λ p. KeepsScripts D.seen D.faults engine.rules names.now p
+        (commands_in scripts.now.items) journal.disk result.disk (change K.held K.faults sink.old sink.new)
+        result.status (history_of result.history.items) result.stored) }
+    ensures later { K.faults sink.old ≤ K.faults sink.new }
+    ensures disk_later { D.faults journal.disk ≤ D.faults result.disk }
+    ensures time { GoesOn (D.seen journal.disk) (D.seen result.disk) }
+{
+    let earlier = engine.history().len() as u64;
     let KeptCalls {
         history,
         stored,
         disk,
-    } = keep_calls(rt, alloc, rules, &names, &scripts, gate, journal);
+    } = keep_calls(rt, alloc, engine, earlier, names, scripts, gate, journal);
     match history {
-        Some(history) => write_kept(alloc, sink, &names, history, stored, disk),
+        Some(history) => write_kept(alloc, sink, names, earlier, history, stored, disk),
         None => stopped(alloc, NO_MEMORY, stored, disk),
     }
 }
 
-// Writes the lines of the calls that are stored.
+// Writes the lines of the calls that are stored, numbered on from earlier ones.
 fn write_kept<K: Sink, D>(
     alloc: Global,
     sink: &mut K,
     names: &Names,
+    earlier: u64,
     history: List<Entry>,
     stored: u64,
     disk: D,
 ) -> KeptOutcome<D>
     requires within { stored ≤ length history.items }
-    ensures written { WritesAs (kept_status stored history) (lines_of names.now (take stored history.items))
-        (change K.held K.faults sink.old sink.new) result.status }
+    requires numbered { earlier + length history.items < 2 ^ 64 }
+    ensures written { WritesAs (kept_status stored history)
+        (lines_after names.now earlier (take stored history.items)) (change K.held K.faults sink.old sink.new)
+        result.status }
     ensures history { result.history ≡ history }
     ensures stored { result.stored ≡ stored }
     ensures disk { result.disk ≡ disk }
@@ -140,7 +181,7 @@ fn write_kept<K: Sink, D>(
 {
     let answer = kept_status(stored, &history);
     let entries = &history.as_slice()[..stored as usize];
-    let status = write_entries(alloc, sink, names, 0, entries, answer);
+    let status = write_entries(alloc, sink, names, earlier, entries, answer);
     KeptOutcome {
         status,
         history,

@@ -9,8 +9,7 @@ mod work;
 mod writing;
 
 pub use journal::{damaged_line, holds_line};
-pub use keeping::keep;
+pub use keeping::{keep, keep_scripts};
 pub use outcome::{DAMAGED, DISK_FAULT, HOLDS_CALLS, KeptOutcome, stopped, unstored};
 pub use recovering::recover_journal;
-pub use work::{KeptCalls, attempt, attempt_kept, entries_with, keep_calls};
 pub use writing::{tell, write_entries};

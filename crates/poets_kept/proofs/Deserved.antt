@@ -1,31 +1,33 @@
 -- A run with a disk ends with the status that it deserves, where nothing failed.
-use Rattle.std.proofs.Common.{◌≡◌, ◌≢◌, ℕ, ◌+◌, ◌<◌, ◌≤◌, List, [], length, Option, Some, None, refl, sym, ◌∙◌, ap, subst, inl, inr, arith}
+use Rattle.std.proofs.Common.{◌≡◌, ℕ, ◌+◌, ◌<◌, ◌≤◌, List, [], length, Option, Some, refl, sym, ap, subst, inl, inr, arith}
 use Rattle.std.specs.Prelude.{IfSome}
 use Rattle.poets_io.specs.Causes.{Rose}
 use Rattle.poets_io.specs.Streams.{GivesAll, LosesFront}
 use Rattle.poets_io.proofs.Transfers.{IfSome-loses_more}
 use Rattle.poets_lex.specs.Table.{Table}
 use Rattle.poets_call.specs.Declarations.{book_from, reports_of}
-use Rattle.poets_call.specs.Calls.{calls_of}
+use Rattle.poets_call.specs.Calls.{Call, calls_of}
 use Rattle.poets_call.specs.Plain.{Entry}
 use Rattle.poets_call.specs.Said.{Statement}
 use Rattle.poets_disk.specs.Disks.{Seen}
 use Rattle.poets_journal.specs.Texts.{HoldsTexts, IsDamaged, Texts}
 use Rattle.poets_session.specs.declared.form.Form.{Form}
 use Rattle.poets_session.specs.declared.form.Form.TheVariants as F
-use Rattle.poets_session.specs.Sessions.{IsNoSession, IsSession, Text}
+use Rattle.poets_session.specs.Sessions.{IsSession, Text}
 use Rattle.poets_session.proofs.LawsRefused.{session_unrefused}
 use Rattle.poets_session.proofs.LawsSaid.{read_once}
 use Rattle.poets_opening.specs.Limits.{block, longest}
 use Rattle.poets_opening.specs.Unread.{EndsUnread, Gave, GaveSession, RefusesSource}
-use Rattle.poets_recover.specs.Stored.{IsRefusedText}
+use Rattle.poets_recover.specs.Stored.{AreStoredCalls, IsRefusedText, length_of_all, most_stored}
 use Rattle.poets_recover.proofs.Excluding.{calls_unrefused}
 use Rattle.poets_top.specs.Runs.{IsStatusOrMemory}
 use Rattle.poets_writing.specs.Writing.{IsWritten, Stream}
+use Rattle.poets_keeping.specs.Journals.{FileHolds}
 use Rattle.poets_keeping.specs.Keeping.{EndsKeeping, IsKeptAs, KeepsSession}
 use Rattle.poets_keeping.specs.Recovering.{EndsRecovering, IsRecoveredAs, RecoversBook}
 use Rattle.poets_keeping.specs.Writing.{EndsWriting}
-use Rattle.poets_kept.specs.Promises.{DeservesKeeping, DeservesRecovering, DeservesUnread, HoldsCalls, HoldsRefused, OfSession}
+use Rattle.poets_resuming.specs.Resuming.{EndsResuming, IsResumedAs, ResumesSession}
+use Rattle.poets_kept.specs.Promises.{DeservesKeeping, DeservesRecovering, DeservesResuming, DeservesUnread, HoldsCalls, HoldsRefused, OfSession}
 
 -- what a file holds
 abbrev OneHeld : Type 0
@@ -128,31 +130,39 @@ module _ {D : Type 0} (seen : D → Seen) (faults : D → ℕ) (one : OneHeld) (
   keeping_deserved wanted w (EndsKeeping.Read gave (KeepsSession.NoneMade started same)) = inr refl
   keeping_deserved wanted w (EndsKeeping.Read gave (KeepsSession.PartMade none part ack rose same)) = inr refl
 
-  -- the names and statements of a book
-  abbrev Same : Table → List Statement → Table → List Statement → Type 0
-  Same names statements others more = (names ≡ others) × (statements ≡ more)
+  -- texts that are calls of the session's book are not refused
+  not_refused : (form : Form) {names : Table} {statements : List Statement} → GaveSession source source' form names statements → (s : OfSession form text (HoldsCalls file)) (texts : Texts) (number : ℕ) →
+      FileHolds (seen disk) texts → IsRefusedText (book_from statements) (reports_of statements) names texts number → ⊥
+  not_refused form {names} {statements} gave s texts number held refused =
+      let same = read_once text s.names names s.statements statements s.session.read (gave_session form text source source' is gave).read in
+      let texts_same = one file texts s.holds.texts (told (λ f. HoldsTexts f texts) (seen disk).bytes file holds held) s.holds.held in
+      calls_unrefused (book_from s.statements) (reports_of s.statements) s.names s.holds.after s.holds.texts s.holds.calls number s.holds.stored s.holds.within
+      (subst (λ t. IsRefusedText (book_from s.statements) (reports_of s.statements) t s.holds.texts number) (sym same.0)
+      (subst (λ g. IsRefusedText (book_from g) (reports_of g) names s.holds.texts number) (sym same.1)
+      (subst (λ ts. IsRefusedText (book_from statements) (reports_of statements) names ts number) texts_same refused)))
+
+  -- where one of them is refused, they are no calls of it
+  not_made : (form : Form) {names : Table} {statements : List Statement} → GaveSession source source' form names statements → (s : OfSession form text (HoldsRefused file)) (texts : Texts) (after : Table)
+      (calls : List Call) → FileHolds (seen disk) texts → AreStoredCalls (book_from statements) (reports_of statements) names texts calls after → length_of_all texts ≤ most_stored → ⊥
+  not_made form {names} {statements} gave s texts after calls held stored within =
+      let same = read_once text s.names names s.statements statements s.session.read (gave_session form text source source' is gave).read in
+      let texts_same = one file texts s.holds.texts (told (λ f. HoldsTexts f texts) (seen disk).bytes file holds held) s.holds.held in
+      calls_unrefused (book_from statements) (reports_of statements) names after texts calls s.holds.number stored within
+      (subst (λ t. IsRefusedText (book_from statements) (reports_of statements) t texts s.holds.number) same.0
+      (subst (λ g. IsRefusedText (book_from g) (reports_of g) s.names texts s.holds.number) same.1
+      (subst (λ ts. IsRefusedText (book_from s.statements) (reports_of s.statements) s.names ts s.holds.number) (sym texts_same) s.holds.refused)))
 
   recovered_as : {names : Table} {statements : List Statement} {stored answer wanted : ℕ} {h : List Entry} {line : List ℕ} → GaveSession source source' F.Book names statements →
       DeservesRecovering text file wanted → IsRecoveredAs names statements (seen disk) (seen disk') (faults disk) (faults disk') stored answer h line → answer ≡ wanted
   recovered_as gave (DeservesRecovering.Unread u) made = absurd (session_read F.Book text source source' is gave u)
   recovered_as gave w (IsRecoveredAs.NotStarted rose) = absurd (d rose)
   recovered_as gave (DeservesRecovering.Recovered s) (IsRecoveredAs.Whole texts held history) = refl
-  recovered_as {names} {statements} gave (DeservesRecovering.Recovered s) (IsRecoveredAs.NoCall texts {number = number} held refused) =
-      let same = read_once text s.names names s.statements statements s.session.read (gave_session F.Book text source source' is gave).read in
-      let texts_same = one file texts s.holds.texts (told (λ f. HoldsTexts f texts) (seen disk).bytes file holds held.held) s.holds.held in
-      absurd (calls_unrefused (book_from s.statements) (reports_of s.statements) s.names s.holds.after s.holds.texts s.holds.calls number s.holds.stored s.holds.within
-      (subst (λ t. IsRefusedText (book_from s.statements) (reports_of s.statements) t s.holds.texts number) (sym same.0)
-      (subst (λ g. IsRefusedText (book_from g) (reports_of g) names s.holds.texts number) (sym same.1)
-      (subst (λ ts. IsRefusedText (book_from statements) (reports_of statements) names ts number) texts_same refused))))
+  recovered_as gave (DeservesRecovering.Recovered s) (IsRecoveredAs.NoCall texts {number = number} held refused) =
+      absurd (not_refused F.Book gave s texts number held.held refused)
   recovered_as gave (DeservesRecovering.Recovered s) (IsRecoveredAs.Damaged number damaged) =
       absurd (none file number s.holds.texts (told (λ f. IsDamaged f number) (seen disk).bytes file holds damaged.damaged) s.holds.held)
-  recovered_as {names} {statements} gave (DeservesRecovering.Refused s) (IsRecoveredAs.Whole texts {after = after} {h = h} held history) =
-      let same = read_once text s.names names s.statements statements s.session.read (gave_session F.Book text source source' is gave).read in
-      let texts_same = one file texts s.holds.texts (told (λ f. HoldsTexts f texts) (seen disk).bytes file holds held.held) s.holds.held in
-      absurd (calls_unrefused (book_from statements) (reports_of statements) names after texts (calls_of h) s.holds.number history.stored history.within
-      (subst (λ t. IsRefusedText (book_from statements) (reports_of statements) t texts s.holds.number) same.0
-      (subst (λ g. IsRefusedText (book_from g) (reports_of g) s.names texts s.holds.number) same.1
-      (subst (λ ts. IsRefusedText (book_from s.statements) (reports_of s.statements) s.names ts s.holds.number) (sym texts_same) s.holds.refused))))
+  recovered_as gave (DeservesRecovering.Refused s) (IsRecoveredAs.Whole texts {after = after} {h = h} held history) =
+      absurd (not_made F.Book gave s texts after (calls_of h) held.held history.stored history.within)
   recovered_as gave (DeservesRecovering.Refused s) (IsRecoveredAs.NoCall texts held refused) = refl
   recovered_as gave (DeservesRecovering.Refused s) (IsRecoveredAs.Damaged number damaged) = refl
   recovered_as gave (DeservesRecovering.Damaged s) (IsRecoveredAs.Whole texts held history) =
@@ -171,3 +181,34 @@ module _ {D : Type 0} (seen : D → Seen) (faults : D → ℕ) (one : OneHeld) (
   recovering_deserved wanted w (EndsRecovering.Read gave started (RecoversBook.Answered made ends)) = writes_status wanted n (recovered_as gave w made) ends
   recovering_deserved wanted w (EndsRecovering.Read gave started (RecoversBook.NotRead same)) = inr refl
   recovering_deserved wanted w (EndsRecovering.Read gave started (RecoversBook.NotMade texts held same)) = inr refl
+
+  resumed_as : {names : Table} {statements : List Statement} {stored answer wanted : ℕ} {h : List Entry} {line : List ℕ} → GaveSession source source' F.Clerks names statements →
+      DeservesResuming text file wanted → IsResumedAs names statements (seen disk) (seen disk') (faults disk) (faults disk') stored answer h line → answer ≡ wanted
+  resumed_as gave (DeservesResuming.Unread u) made = absurd (session_read F.Clerks text source source' is gave u)
+  resumed_as gave w (IsResumedAs.NotStarted started rose) = absurd (d rose)
+  resumed_as gave w (IsResumedAs.Part texts was on ack few rose) = absurd (d rose)
+  resumed_as gave (DeservesResuming.Resumed s) (IsResumedAs.Whole texts was on ack) = refl
+  resumed_as gave (DeservesResuming.Resumed s) (IsResumedAs.NoCall texts {number = number} started held refused) =
+      absurd (not_refused F.Clerks gave s texts number held.held refused)
+  resumed_as gave (DeservesResuming.Resumed s) (IsResumedAs.Damaged number started damaged) =
+      absurd (none file number s.holds.texts (told (λ f. IsDamaged f number) (seen disk).bytes file holds damaged.damaged) s.holds.held)
+  resumed_as gave (DeservesResuming.Refused s) (IsResumedAs.Whole texts {after = after} {p = p} was on ack) =
+      absurd (not_made F.Clerks gave s texts after (calls_of p) was.held was.history.stored was.history.within)
+  resumed_as gave (DeservesResuming.Refused s) (IsResumedAs.NoCall texts started held refused) = refl
+  resumed_as gave (DeservesResuming.Refused s) (IsResumedAs.Damaged number started damaged) = refl
+  resumed_as gave (DeservesResuming.Damaged s) (IsResumedAs.Whole texts was on ack) =
+      absurd (none file s.holds.0 texts s.holds.1 (told (λ f. HoldsTexts f texts) (seen disk).bytes file holds was.held))
+  resumed_as gave (DeservesResuming.Damaged s) (IsResumedAs.NoCall texts started held refused) = refl
+  resumed_as gave (DeservesResuming.Damaged s) (IsResumedAs.Damaged number started damaged) = refl
+
+  unread_resumed : {wanted s : ℕ} {h : List Entry} {line : List ℕ} → DeservesResuming text file wanted → RefusesSource F.Clerks source source' s h line → s ≡ wanted
+  unread_resumed (DeservesResuming.Unread u) r = unread_told F.Clerks text source source' is u r
+  unread_resumed (DeservesResuming.Resumed s) r = absurd (session_told F.Clerks text source source' is s.short s.session r)
+  unread_resumed (DeservesResuming.Refused s) r = absurd (session_told F.Clerks text source source' is s.short s.session r)
+  unread_resumed (DeservesResuming.Damaged s) r = absurd (session_told F.Clerks text source source' is s.short s.session r)
+
+  pub resuming_deserved : (wanted : ℕ) → DeservesResuming text file wanted → {s stored : ℕ} {h : List Entry} → EndsResuming seen faults source source' sink sink' disk disk' s h stored → IsStatusOrMemory wanted s
+  resuming_deserved wanted w (EndsResuming.Unread u same) = unread_ends F.Clerks text source source' is sink sink' wanted (λ s h line r. unread_resumed w r) m n u
+  resuming_deserved wanted w (EndsResuming.Read gave (ResumesSession.Answered made ends)) = writes_status wanted n (resumed_as gave w made) ends
+  resuming_deserved wanted w (EndsResuming.Read gave (ResumesSession.NoneMade started same)) = inr refl
+  resuming_deserved wanted w (EndsResuming.Read gave (ResumesSession.PartMade texts was part ack rose same)) = inr refl

@@ -1,65 +1,71 @@
 -- The statuses with which a run with a disk ends.
-use Rattle.std.proofs.Common.{◌≡◌, ◌≢◌, ℕ, ◌+◌, ◌<◌, ◌≤◌, List, [], ◌∷◌, length, Option, Some, None, refl, sym, ◌∙◌, ap, subst, ◌⊎◌, inl, inr, arith}
-use Rattle.std.specs.Prelude.{codes, IfSome}
+use Rattle.std.proofs.Common.{◌≡◌, ◌≢◌, ℕ, List, [], ◌∷◌, get_or, refl, sym, ◌∙◌, ap, ◌⊎◌, inl, inr, arith}
+use Rattle.std.specs.Prelude.{codes}
 use Rattle.std.specs.Io.KnownBytes.{Appends}
-use Rattle.poets_io.specs.Causes.{Rose}
-use Rattle.poets_io.specs.Streams.{GivesAll, LosesFront}
-use Rattle.poets_io.proofs.Transfers.{IfSome-loses_more}
 use Rattle.poets_lex.specs.Table.{Table}
-use Rattle.poets_call.specs.Declarations.{book_from, reports_of}
 use Rattle.poets_call.specs.Plain.{Entry}
 use Rattle.poets_call.specs.Said.{Statement}
 use Rattle.poets_disk.specs.Disks.{Seen}
-use Rattle.poets_journal.specs.Texts.{HoldsTexts, IsDamaged, Texts}
 use Rattle.poets_session.specs.declared.form.Form.{Form}
 use Rattle.poets_session.specs.declared.form.Form.TheVariants as F
-use Rattle.poets_session.specs.Sessions.{IsNoSession, IsSession, Text}
-use Rattle.poets_session.proofs.LawsRefused.{session_unrefused}
-use Rattle.poets_print.specs.Lines.{history_text}
-use Rattle.poets_opening.specs.Limits.{block, longest}
-use Rattle.poets_opening.specs.Unread.{EndsUnread, Gave, GaveSession, RefusesSource}
-use Rattle.poets_recover.specs.Stored.{length_of_all, most_stored}
-use Rattle.poets_recover.proofs.Excluding.{calls_unrefused}
-use Rattle.poets_top.specs.Running.{HasRun, IsHistoryOf}
-use Rattle.poets_top.specs.Runs.{IsStatusOrMemory}
+use Rattle.poets_opening.specs.Unread.{EndsUnread, GaveSession, RefusesSource}
 use Rattle.poets_words.specs.Words.{AskFor, words_of}
 use Rattle.poets_words.specs.declared.mode.Mode.{Mode}
 use Rattle.poets_words.specs.declared.mode.Mode.TheVariants as M
 use Rattle.poets_words.specs.declared.mode.Task.TheVariants as T
-use Rattle.poets_writing.specs.Writing.{HasFailed, IsWritten, Stream}
-use Rattle.poets_keeping.specs.Journals.{AreAcknowledged, FileHolds, FileIsDamaged}
+use Rattle.poets_writing.specs.Writing.{IsWritten, Stream}
 use Rattle.poets_keeping.specs.Keeping.{EndsKeeping, HasKept, IsKeptAs, KeepsSession}
-use Rattle.poets_keeping.specs.Recovering.{EndsRecovering, HasRecovered, IsHistoryOfTexts, IsRecoveredAs, RecoversBook}
+use Rattle.poets_keeping.specs.Recovering.{EndsRecovering, HasRecovered, IsRecoveredAs, RecoversBook}
 use Rattle.poets_keeping.specs.Writing.{EndsWriting}
+use Rattle.poets_resuming.specs.Resuming.{EndsResuming, HasResumed, IsResumedAs, ResumesSession}
 use Rattle.poets_keeping.proofs.Acknowledged.{all_survive}
-use Rattle.poets_kept.specs.Promises.{DeservesKeeping, DeservesRecovering, DeservesUnread, OfSession}
 
 -- ---- words
 
--- the words for what the program may be asked to do without a disk are not one of these
-pub no_journal_form : (words : List (List ℕ)) (mode : Mode) → AskFor words mode → (words ≡ codes "keep" ∷ []) ⊎ (words ≡ codes "recover" ∷ []) → ⊥
-no_journal_form words mode asks (inl keep) = neither mode (sym asks.0 ∙ keep)
-  where
-    neither : (m : Mode) → words_of m ≡ codes "keep" ∷ [] → ⊥
-    neither (M.Read T.Check) e = absurd cc
-    neither (M.Read T.Run) e = absurd cc
-    neither (M.Read T.Replay) e = absurd cc
-    neither (M.Read (T.Explain name)) e = absurd cc
-    neither (M.Read T.Export) e = absurd cc
-    neither (M.Demo n) e = absurd cc
-no_journal_form words mode asks (inr recover) = neither mode (sym asks.0 ∙ recover)
-  where
-    neither : (m : Mode) → words_of m ≡ codes "recover" ∷ [] → ⊥
-    neither (M.Read T.Check) e = absurd cc
-    neither (M.Read T.Run) e = absurd cc
-    neither (M.Read T.Replay) e = absurd cc
-    neither (M.Read (T.Explain name)) e = absurd cc
-    neither (M.Read T.Export) e = absurd cc
-    neither (M.Demo n) e = absurd cc
+-- one byte of the first word
+abbrev letter : ℕ → List (List ℕ) → ℕ
+letter place words = get_or (get_or words 0 []) place 0
 
--- no words are both
-pub two_words : (words : List (List ℕ)) → words ≡ codes "keep" ∷ [] → words ≡ codes "recover" ∷ [] → ⊥
-two_words words keep recover = let same : codes "keep" ∷ [] ≡ codes "recover" ∷ [] = sym keep ∙ recover in absurd cc
+neither_keep : (m : Mode) → words_of m ≡ codes "keep" ∷ [] → ⊥
+neither_keep (M.Read T.Check) e = absurd cc
+neither_keep (M.Read T.Run) e = absurd cc
+neither_keep (M.Read T.Replay) e = absurd cc
+neither_keep (M.Read (T.Explain name)) e = absurd cc
+neither_keep (M.Read T.Export) e = absurd cc
+neither_keep (M.Demo n) e = absurd cc
+
+neither_recover : (m : Mode) → words_of m ≡ codes "recover" ∷ [] → ⊥
+neither_recover (M.Read T.Check) e = absurd cc
+neither_recover (M.Read T.Run) e = absurd cc
+neither_recover (M.Read T.Replay) e = absurd cc
+neither_recover (M.Read (T.Explain name)) e = absurd cc
+neither_recover (M.Read T.Export) e = absurd cc
+neither_recover (M.Demo n) e = absurd cc
+
+neither_resume : (m : Mode) → words_of m ≡ codes "resume" ∷ [] → ⊥
+neither_resume (M.Read T.Check) e = absurd cc
+neither_resume (M.Read T.Run) e = absurd cc
+neither_resume (M.Read T.Replay) e = let other : 112 ≡ 115 = ap (letter 2) e in absurd (omega (arith, other))
+neither_resume (M.Read (T.Explain name)) e = absurd cc
+neither_resume (M.Read T.Export) e = let other : 101 ≡ 114 = ap (letter 0) e in absurd (omega (arith, other))
+neither_resume (M.Demo n) e = absurd cc
+
+-- the words for what the program may be asked to do without a disk are not one of these
+pub no_journal_form : (words : List (List ℕ)) (mode : Mode) → AskFor words mode →
+    (words ≡ codes "keep" ∷ []) ⊎ (words ≡ codes "recover" ∷ []) ⊎ (words ≡ codes "resume" ∷ []) → ⊥
+no_journal_form words mode asks (inl keep) = neither_keep mode (sym asks.0 ∙ keep)
+no_journal_form words mode asks (inr (inl recover)) = neither_recover mode (sym asks.0 ∙ recover)
+no_journal_form words mode asks (inr (inr resume)) = neither_resume mode (sym asks.0 ∙ resume)
+
+-- no words are two of them
+pub keep_or_recover : (words : List (List ℕ)) → words ≡ codes "keep" ∷ [] → words ≡ codes "recover" ∷ [] → ⊥
+keep_or_recover words keep recover = let same : codes "keep" ∷ [] ≡ codes "recover" ∷ [] = sym keep ∙ recover in absurd cc
+
+pub keep_or_resume : (words : List (List ℕ)) → words ≡ codes "keep" ∷ [] → words ≡ codes "resume" ∷ [] → ⊥
+keep_or_resume words keep resume = let same : codes "keep" ∷ [] ≡ codes "resume" ∷ [] = sym keep ∙ resume in absurd cc
+
+pub recover_or_resume : (words : List (List ℕ)) → words ≡ codes "recover" ∷ [] → words ≡ codes "resume" ∷ [] → ⊥
+recover_or_resume words recover resume = let same : codes "recover" ∷ [] ≡ codes "resume" ∷ [] = sym recover ∙ resume in absurd cc
 
 -- ---- a source without a session
 
@@ -144,6 +150,37 @@ module _ {D : Type 0} (seen : D → Seen) (faults : D → ℕ) (source source' s
   has_recovered z (EndsRecovering.Read gave started (RecoversBook.NotRead same)) = absurd (omega (arith, z))
   has_recovered z (EndsRecovering.Read gave started (RecoversBook.NotMade texts held same)) = absurd (omega (arith, z))
 
+  resumed_done : {names : Table} {statements : List Statement} {stored answer : ℕ} {h : List Entry} {text : List ℕ} → GaveSession source source' F.Clerks names statements →
+      answer ≡ 0 → IsResumedAs names statements (seen disk) (seen disk') (faults disk) (faults disk') stored answer h text → Appends sink.bytes sink'.bytes text →
+      HasResumed source.bytes source'.bytes sink.bytes sink'.bytes (seen disk) (seen disk') stored h
+  resumed_done {names} {statements} gave z (IsResumedAs.Whole texts {after = after} {p = p} {h = h} was on ack) written = record {
+    text = gave.text;
+    given = gave.gave.all;
+    names = names;
+    statements = statements;
+    session = gave.session;
+    texts = texts;
+    after = after;
+    p = p;
+    recovered = was;
+    history = on;
+    stored_all = refl;
+    written = written;
+    kept = all_survive after texts (seen disk) (seen disk') h ack;
+    during = ack.during;
+  }
+  resumed_done gave z (IsResumedAs.Part texts was on ack few rose) written = absurd (omega (arith, z))
+  resumed_done gave z (IsResumedAs.NoCall texts started held refused) written = absurd (omega (arith, z))
+  resumed_done gave z (IsResumedAs.Damaged number started damaged) written = absurd (omega (arith, z))
+  resumed_done gave z (IsResumedAs.NotStarted started rose) written = absurd (omega (arith, z))
+
+  pub has_resumed : {s stored : ℕ} {h : List Entry} → s ≡ 0 → EndsResuming seen faults source source' sink sink' disk disk' s h stored →
+      HasResumed source.bytes source'.bytes sink.bytes sink'.bytes (seen disk) (seen disk') stored h
+  has_resumed z (EndsResuming.Unread u same) = absurd ((unread_status F.Clerks source source' sink sink' u).0 z)
+  has_resumed z (EndsResuming.Read gave (ResumesSession.Answered made ends)) = let done = ends_done ends z in resumed_done gave done.0 made done.1
+  has_resumed z (EndsResuming.Read gave (ResumesSession.NoneMade started same)) = absurd (omega (arith, z))
+  has_resumed z (EndsResuming.Read gave (ResumesSession.PartMade texts was part ack rose same)) = absurd (omega (arith, z))
+
   -- ---- no run with these words has the status of words that ask for nothing
 
   writing_not_two : {answer s : ℕ} {text : List ℕ} → answer ≢ 2 → EndsWriting answer text sink sink' s → s ≢ 2
@@ -177,3 +214,17 @@ module _ {D : Type 0} (seen : D → Seen) (faults : D → ℕ) (source source' s
   recovering_not_two (EndsRecovering.Read gave started (RecoversBook.Answered made ends)) = writing_not_two (recovered_not_two made) ends
   recovering_not_two (EndsRecovering.Read gave started (RecoversBook.NotRead same)) = λ e. omega (arith, e)
   recovering_not_two (EndsRecovering.Read gave started (RecoversBook.NotMade texts held same)) = λ e. omega (arith, e)
+
+  resumed_not_two : {names : Table} {statements : List Statement} {stored answer : ℕ} {h : List Entry} {text : List ℕ} →
+      IsResumedAs names statements (seen disk) (seen disk') (faults disk) (faults disk') stored answer h text → answer ≢ 2
+  resumed_not_two (IsResumedAs.Whole texts was on ack) = λ e. omega (arith, e)
+  resumed_not_two (IsResumedAs.Part texts was on ack few rose) = λ e. omega (arith, e)
+  resumed_not_two (IsResumedAs.NoCall texts started held refused) = λ e. omega (arith, e)
+  resumed_not_two (IsResumedAs.Damaged number started damaged) = λ e. omega (arith, e)
+  resumed_not_two (IsResumedAs.NotStarted started rose) = λ e. omega (arith, e)
+
+  pub resuming_not_two : {s stored : ℕ} {h : List Entry} → EndsResuming seen faults source source' sink sink' disk disk' s h stored → s ≢ 2
+  resuming_not_two (EndsResuming.Unread u same) = (unread_status F.Clerks source source' sink sink' u).1
+  resuming_not_two (EndsResuming.Read gave (ResumesSession.Answered made ends)) = writing_not_two (resumed_not_two made) ends
+  resuming_not_two (EndsResuming.Read gave (ResumesSession.NoneMade started same)) = λ e. omega (arith, e)
+  resuming_not_two (EndsResuming.Read gave (ResumesSession.PartMade texts was part ack rose same)) = λ e. omega (arith, e)

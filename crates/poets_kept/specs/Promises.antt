@@ -1,5 +1,5 @@
 -- What a run with a disk promises.
-use Rattle.std.specs.Prelude.{◌≡◌, ℕ, ◌<◌, ◌≤◌, List, [], Option, Some, length, String}
+use Rattle.std.specs.Prelude.{◌≡◌, ℕ, ◌<◌, ◌≤◌, List, [], Some, length, String}
 use Rattle.std.specs.declared.alloc.Global.{Global}
 use Rattle.poets_io.specs.Causes.{Rose}
 use Rattle.poets_lex.specs.Table.{Table}
@@ -83,6 +83,15 @@ pub data DeservesRecovering (text : Text) (file : List ℕ) : (status : ℕ) →
   Damaged :
       OfSession F.Book text (λ names statements. (number : ℕ) × IsDamaged file number) →
       DeservesRecovering text file DAMAGED
+
+-- the status that resuming deserves, by the text and the disk's file
+pub data DeservesResuming (text : Text) (file : List ℕ) : (status : ℕ) → Type 0 where
+  Unread : {status : ℕ} → DeservesUnread F.Clerks text status → DeservesResuming text file status
+  Resumed : OfSession F.Clerks text (HoldsCalls file) → DeservesResuming text file DONE
+  Refused : OfSession F.Clerks text (HoldsRefused file) → DeservesResuming text file DAMAGED
+  Damaged :
+      OfSession F.Clerks text (λ names statements. (number : ℕ) × IsDamaged file number) →
+      DeservesResuming text file DAMAGED
 
 -- where source and disk tell their bytes, and no count of faults rose, the run ends with the status that it deserves,
 -- or it runs out of memory

@@ -14,16 +14,22 @@ AskToKeep words = map string_bytes words ≡ codes "keep" ∷ []
 abbrev pub AskToRecover : List (String Global) → Type 0
 AskToRecover words = map string_bytes words ≡ codes "recover" ∷ []
 
+-- the one word `resume`: go on with the disk's journal by the calls of a session of clerks
+abbrev pub AskToResume : List (String Global) → Type 0
+AskToResume words = map string_bytes words ≡ codes "resume" ∷ []
+
 -- the words ask for a journal
 abbrev pub AskForJournal : List (String Global) → Type 0
-AskForJournal words = AskToKeep words ⊎ AskToRecover words
+AskForJournal words = AskToKeep words ⊎ AskToRecover words ⊎ AskToResume words
 
 -- the words ask for the task
 abbrev pub AsksFor : List (String Global) → JournalTask → Type 0
 AsksFor words T.Keep = AskToKeep words
 AsksFor words T.Recover = AskToRecover words
+AsksFor words T.Resume = AskToResume words
 
 -- the form of the sessions that a task takes
 abbrev pub form_of : JournalTask → Form
 form_of T.Keep = F.Clerks
 form_of T.Recover = F.Book
+form_of T.Resume = F.Clerks

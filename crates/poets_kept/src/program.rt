@@ -12,9 +12,11 @@ ghost use Rattle.poets_disk.specs.Disks.{GoesOn};
 ghost use Rattle.poets_keeping.specs.Keeping.{HasKept};
 ghost use Rattle.poets_keeping.specs.Promises.{EndsAsKept, EndsAsRecovered};
 ghost use Rattle.poets_keeping.specs.Recovering.{HasRecovered};
-ghost use Rattle.poets_kept.specs.Promises.{AreNoKeptForm, DeservesKeeping, DeservesRecovering};
+ghost use Rattle.poets_resuming.specs.Promises.{EndsAsResumed};
+ghost use Rattle.poets_resuming.specs.Resuming.{HasResumed};
+ghost use Rattle.poets_kept.specs.Promises.{AreNoKeptForm, DeservesKeeping, DeservesRecovering, DeservesResuming};
 ghost use Rattle.poets_kept.specs.Promises.{EndsDeserved, IfKept, outcome_of};
-ghost use Rattle.poets_kept.specs.Words.{AskForJournal, AskToKeep, AskToRecover};
+ghost use Rattle.poets_kept.specs.Words.{AskForJournal, AskToKeep, AskToRecover, AskToResume};
 
 use crate::words::{JournalTask, journal_task};
 use poets_clerks::Gate;
@@ -22,21 +24,24 @@ use poets_disk::Disk;
 use poets_io::{Sink, Source};
 use poets_journal::laws::texts_of_a_file;
 use poets_keeping::{KeptOutcome, keep, recover_journal, unstored};
+use poets_resuming::resume;
 use poets_top::run;
 use poets_writing::{DONE, USAGE};
 use std::alloc::Global;
 use std::sync::Wait;
 use std::thread::Threads;
 
-/// Does all that `run` does, and with the words `keep` and `recover` what needs a disk. `keep` runs a session of clerks
-/// and puts each call into the journal on the disk. Over a disk that held no call, an image at any moment of the run
-/// holds the first calls of a right history; at its end it holds the stored ones, whose lines alone are written, and at
-/// most one more. `recover` makes the calls of such a journal under a book, and writes their history.
+/// Does all that `run` does, and with the words `keep`, `recover` and `resume` what needs a disk. `keep` runs a session
+/// of clerks and puts each call into the journal on the disk. Over a disk that held no call, an image at any moment of
+/// the run holds the first calls of a right history; at its end it holds the stored ones, whose lines alone are
+/// written, and at most one more. `recover` makes the calls of such a journal under a book, and writes their history.
+/// `resume` goes on after them with a session of clerks, as `keep` would after none; its history, its lines and its
+/// stored calls are those of the session alone.
 ///
 /// Other words do not touch the disk. The words and the statuses are those of `docs/LANGUAGE.md`, "Words and statuses";
 /// what is asked of a disk is that of `docs/DEFINITIONS.md`, "Disks and journals". Of a disk that does not tell its
 /// bytes, as a file of the operating system does not, the clauses say nothing but what its count of faults tells, and,
-/// with the statuses 8 and 9 and with `recover`, that there are some texts for which the run is right.
+/// with the statuses 8 and 9 and with `recover` and `resume`, that there are some texts for which the run is right.
 pub fn run_kept<
     S: Source,
     K: Sink,
@@ -84,10 +89,19 @@ pub fn run_kept<
         (change K.held K.faults sink.old sink.new) disk result }
     ensures has_recovered { AskToRecover words.now → IfKept result
         (HasRecovered (S.left source.old) (S.left source.new) (K.held sink.old) (K.held sink.new) (D.seen disk)) }
+    ensures resumes { AskToResume words.now →
+        EndsAsResumed D.seen D.faults (change S.left S.faults source.old source.new)
+        (change K.held K.faults sink.old sink.new) disk result }
+    ensures has_resumed { AskToResume words.now → IfKept result
+        (HasResumed (S.left source.old) (S.left source.new) (K.held sink.old) (K.held sink.new)
+        (D.seen disk) (D.seen result.disk)) }
     ensures keep_status { AskToKeep words.now → EndsDeserved DeservesKeeping
         (change S.left S.faults source.old source.new) (change K.held K.faults sink.old sink.new)
         (D.seen disk) (D.faults disk) (D.faults result.disk) result.status }
     ensures recover_status { AskToRecover words.now → EndsDeserved DeservesRecovering
+        (change S.left S.faults source.old source.new) (change K.held K.faults sink.old sink.new)
+        (D.seen disk) (D.faults disk) (D.faults result.disk) result.status }
+    ensures resume_status { AskToResume words.now → EndsDeserved DeservesResuming
         (change S.left S.faults source.old source.new) (change K.held K.faults sink.old sink.new)
         (D.seen disk) (D.faults disk) (D.faults result.disk) result.status }
 {
@@ -96,6 +110,7 @@ pub fn run_kept<
     match journal_task(words) {
         Some(JournalTask::Keep) => keep(rt, alloc, source, sink, gate, disk),
         Some(JournalTask::Recover) => recover_journal(rt, alloc, source, sink, disk),
+        Some(JournalTask::Resume) => resume(rt, alloc, source, sink, gate, disk),
         None => unstored(run(rt, alloc, words, source, sink, gate), disk),
     }
 }

@@ -12,6 +12,8 @@ pub enum JournalTask {
     Keep,
     /// Make the calls that are kept.
     Recover,
+    /// Go on with the calls that are kept: run a session of clerks after them, and keep its calls too.
+    Resume,
 }
 
 /// What the words ask for with a journal, if they do.
@@ -25,6 +27,7 @@ pub fn journal_task(words: &[String]) -> Option<JournalTask>
     match word.as_str() {
         "keep" => Some(JournalTask::Keep),
         "recover" => Some(JournalTask::Recover),
+        "resume" => Some(JournalTask::Resume),
         _ => None,
     }
 }
@@ -37,6 +40,7 @@ impl JournalTask {
         match self {
             JournalTask::Keep => Form::Clerks,
             JournalTask::Recover => Form::Book,
+            JournalTask::Resume => Form::Clerks,
         }
     }
 }

@@ -1,12 +1,12 @@
 -- Calls with their replies, as the entries of a right history.
-use Rattle.std.proofs.Common.{◌≡◌, ℕ, zero, suc, ◌+◌, ◌<◌, ◌≤◌, List, [], ◌∷◌, ◌++◌, length, map, take, get_or, Some, refl, sym, ◌∙◌, ap, ap₂, subst, arith, append_assoc, append-nil}
+use Rattle.std.proofs.Common.{◌≡◌, ℕ, zero, suc, ◌+◌, ◌<◌, ◌≤◌, List, [], ◌∷◌, ◌++◌, length, map, take, drop, get_or, Some, refl, sym, ◌∙◌, ap, ap₂, subst, arith, append_assoc, append-nil}
 use Rattle.std.specs.Prelude.{slice_get}
 use Rattle.std.specs.List.{All, zip}
 use Rattle.std.specs.Borrow.{Bor}
 use Rattle.std.specs.Arc.{arc_value}
 use Rattle.std.specs.declared.alloc.Global.{Global}
 use Rattle.std.specs.declared.sync.Arc.{Arc}
-use Rattle.std.proofs.lemmas.List.{map-append, map_push}
+use Rattle.std.proofs.lemmas.List.{drop-map, drop_at, length-map, map-append, map_push, take-append-drop, take-map, take_at}
 use Rattle.std.proofs.lemmas.List.Elements.{All-map, All-nil}
 use Rattle.std.proofs.lemmas.Simd.{map-map}
 use Rattle.poets_value.specs.Listed.{Listed}
@@ -23,7 +23,9 @@ use Rattle.poets_call.specs.Taken.{IsTaken}
 use Rattle.poets_call.specs.Typing.{IsTypedCommand}
 use Rattle.poets_call.specs.declared.rules.Rules.{Rules}
 use Rattle.poets_call.specs.Plain as plain
-use Rattle.poets_call.proofs.Histories.{calls_append, calls_last}
+use Rattle.poets_call.specs.Replies.{Legal}
+use Rattle.poets_call.proofs.Histories.{calls_last, legal_prefix, one_history}
+use Rattle.poets_call.proofs.OneFrames.{one_frame}
 use Rattle.poets_clerks.specs.Histories.{AreReplies, HasScripts}
 use Rattle.poets_clerks.specs.Scripts.{calls_of as calls_of_script}
 use Rattle.poets_clerks.proofs.Scripted.{scripts_hold, scripts_mapped}
@@ -66,7 +68,7 @@ calls_of_entries (c ∷ calls) (r ∷ replies) e = ap (λ cs. (c.0, command_of c
 
 module _ (book : Book) (reports : List Report) where
   -- a legal history of calls, with further calls and their replies
-  legal_after : (before calls : List (ℕ × CodeCommand)) (h : List plain.Entry) (replies : List Reply) → IsLegal book reports h → calls_of h ≡ plain_calls before →
+  pub legal_after : (before calls : List (ℕ × CodeCommand)) (h : List plain.Entry) (replies : List Reply) → IsLegal book reports h → calls_of h ≡ plain_calls before →
       ((place clerk : ℕ) (command : CodeCommand) (reply : Reply) → slice_get calls place ≡ Some (clerk, command) → slice_get replies place ≡ Some reply → Answered book reports (before ++ take place calls) clerk command reply) →
       IsLegal book reports (h ++ entries_of calls replies)
   legal_after before [] h replies legal same right = subst (IsLegal book reports) (sym (append-nil h)) legal
@@ -84,6 +86,21 @@ module _ (book : Book) (reports : List Report) where
   -- calls with right replies are a legal history
   pub legal_entries : (calls : List (ℕ × CodeCommand)) (replies : List Reply) → IsLegal book reports [] → AreReplies (Answered book reports) calls replies → IsLegal book reports (entries_of calls replies)
   legal_entries calls replies legal right = legal_after [] calls [] replies legal refl right.right
+
+  -- a legal history whose calls go on from those of another is that one and more
+  pub legal_split : (p h : List plain.Entry) (more : List Call) → IsLegal book reports p → IsLegal book reports h → calls_of h ≡ calls_of p ++ more →
+      (made : List plain.Entry) × (h ≡ p ++ made) × (calls_of made ≡ more)
+  legal_split p h more legal whole same =
+      let call : plain.Entry → Call = λ e. (e.clerk, e.command) in
+      let n = length p in
+      let long : n ≡ length (calls_of p) = sym (length-map p call) in
+      let cut : h ≡ take n h ++ drop n h = sym (take-append-drop n h) in
+      let front : calls_of (take n h) ≡ calls_of p = sym (take-map call n h) ∙ ap (take n) same ∙ take_at (calls_of p) more n (sym long) in
+      let rest : calls_of (drop n h) ≡ more = sym (drop-map call n h) ∙ ap (drop n) same ∙ drop_at (calls_of p) more n (sym long) in
+      let begun : Legal whole.frame (take n h) = legal_prefix whole.frame (take n h) (drop n h) (subst (Legal whole.frame) cut whole.holds) in
+      let mine : Legal whole.frame p = one_frame legal.frame whole.frame p (legal.book ∙ sym whole.book) (legal.reports ∙ sym whole.reports) legal.holds in
+      let one : take n h ≡ p = one_history whole.frame (take n h) p begun mine front in
+      (drop n h, cut ∙ ap (λ l. l ++ drop n h) one, rest)
 
 -- the scripts of the code, as plain data
 pub plain_scripts : (scripts : List (Listed (Arc CodeCommand Global))) (calls : List (ℕ × CodeCommand)) → HasScripts (map calls_of_script scripts) calls → HasScripts (commands_in scripts) (plain_calls calls)

@@ -7,3 +7,4 @@ pub mod Rereading
 pub mod BookNames
 pub mod Sessions
 pub mod Fronts
+pub mod Widened

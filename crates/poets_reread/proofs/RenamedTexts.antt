@@ -1,5 +1,5 @@
 -- The text of a tree stays where each name is replaced by one with the same text in another table.
-use Rattle.std.proofs.Common.{◌≡◌, ◌≢◌, ℕ, Bool, List, [], ◌∷◌, ◌++◌, All, map, refl, sym, ap, ap₂, ◌∙◌, nat_lt, nat_le}
+use Rattle.std.proofs.Common.{◌≡◌, ◌≢◌, ℕ, Bool, List, [], ◌∷◌, ◌++◌, All, map, refl, sym, ap, ap₂, ◌∙◌, nat_lt, nat_le, subst}
 use Rattle.std.specs.Prelude.{codes}
 use Rattle.std.specs.Fmt.{decimal, signed_decimal}
 use Rattle.std.proofs.lemmas.List.Elements.{All-nil, All-cons, All-head, All-tail}
@@ -335,3 +335,8 @@ command_same (plain.Read n) = refl
 pub command_again : (t u : Table) → ((x : Name) → IsListed t x → name_text u x ≡ name_text t x) →
     (c : Command) → CanWriteCommand t c → command_text u c ≡ command_text t c
 command_again t u text c can = ap (command_text u) (sym (command_same c)) ∙ command_kept t u (λ x. x) text c can
+
+-- a command whose names are in one table can be written with another that has them
+pub written_again : (t u : Table) → ((x : Name) → IsListed t x → IsListed u x) →
+    (c : Command) → CanWriteCommand t c → CanWriteCommand u c
+written_again t u has c can = subst (CanWriteCommand u) (command_same c) (command_written t u (λ x. x) has c can)

@@ -52,10 +52,6 @@ module _ {D : Type 0} (seen : D → Seen) (faults : D → ℕ) where
       RecoversBook seen faults session.names statements sink.before sink.after disk result.disk
       result.status (history_of result.history.items) result.stored
 
--- the status of a run that stored so many calls of its history
-abbrev pub kept_status : (stored : ℕ) → Listed code.Entry → ℕ
-kept_status stored history = if nat_eq stored (length history.items) then DONE else DISK_FAULT
-
 -- the texts were recovered under the session's book, by the change of the sink
 pub data RecoversTexts (names : Table) (statements : List Statement) (texts : Texts) (sink sink' : Stream) :
     (status : ℕ) → List Entry → Type 0 where

@@ -1,4 +1,5 @@
-use Rattle.std.proofs.Common.{◌≡◌, ◌∙◌, ℕ, List, [], ◌∷◌, IfSome, option_map, ap, subst, sym, arith}
+use Rattle.std.proofs.Common.{◌≡◌, ◌∙◌, ℕ, List, [], ◌∷◌, IfSome, map, option_map, ap, subst, sym, arith}
+use Rattle.poets_value.specs.Listed.{Listed}
 use Rattle.poets_journal.specs.Journals.{texts_of}
 use Rattle.poets_journal.specs.code.Opens.{IsOpened}
 use Rattle.poets_journal.proofs.Starting.{ready_of, short_during, short_bytes, short_gate, long_gate}
@@ -37,3 +38,9 @@ returns-clause-file g c =
     c.in_ok-close_gate.ensures.file
     ∙ ap (option_map (λ (file : List ℕ). 0 ∷ [])) c.read_sure.ensures.rests.same
     ∙ short_gate (g.D.Disk.seen c.args.disk.now).bytes c.in_ok-bytes.bytes.items (omega (arith, c.if-len-gt1.false, c.len.ensures)) c.in_ok-bytes.ensures.bytes
+
+pub returns-then-len-gt1-clause-still : goal.returns-then-len-gt1-clause-still
+returns-then-len-gt1-clause-still g c = λ some. c.read_sure.ensures.rests.during
+
+pub returns-clause-still : goal.returns-clause-still
+returns-clause-still g c = λ some. absurd (some (ap (map (λ (t : Listed ℕ). t.items)) c.new.ensures))

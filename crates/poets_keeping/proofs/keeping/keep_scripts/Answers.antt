@@ -1,94 +1,70 @@
-use Rattle.std.proofs.Common.{◌≤◌, [], refl, sym, ap, subst}
+use Rattle.std.proofs.Common.{◌≡◌, ◌+◌, ◌^◌, ◌<◌, ◌≤◌, [], Some, None, length, take, refl, sym, ◌∙◌, ap, subst}
+use Rattle.std.specs.Prelude.{IfSome}
 use Rattle.poets_call.specs.Calls.{history_of}
-use Rattle.poets_disk.specs.Disks.{During, GoesOn}
-use Rattle.poets_journal.specs.Journals.{AllHold}
-use Rattle.poets_journal.specs.Texts.{HoldsTexts}
+use Rattle.poets_disk.specs.Disks.{GoesOn}
 use Rattle.poets_session.specs.Sessions.{commands_in}
-use Rattle.poets_session.specs.declared.form.Form.TheVariants as F
-use Rattle.poets_making.proofs.Fewness.{scripts_few-held}
-use Rattle.poets_making.proofs.Taking.{session_taken, session_whole}
-use Rattle.poets_stored.proofs.Storing.{sessions_storable}
-use Rattle.poets_writing.specs.Writing.{stream}
-use Rattle.poets_keeping.specs.Made.{AreMade}
-use Rattle.poets_keeping.proofs.Ended.{keeps_part, keeps_whole, started_empty}
-use Rattle.poets_keeping.proofs.Kept.{keeps_as, stored_within}
+use Rattle.poets_writing.specs.Outcomes.{lines_after}
+use Rattle.poets_writing.specs.Writing.{change}
+use Rattle.poets_keeping.specs.Made.{AreMade, KeepsScripts, kept_status}
+use Rattle.poets_keeping.specs.Writing.{WritesAs}
+use Rattle.poets_keeping.proofs.Carried.{carried}
+use Rattle.poets_keeping.proofs.Made.{calls_counted, taken_long}
 use Rattle.poets_keeping.proofs.keeping.keep_scripts.Goals as goal
 
-pub keep_calls-history-requires-clause-whole : goal.keep_calls-history-requires-clause-whole
-keep_calls-history-requires-clause-whole g c = λ _ _. let read = c.requires.read in session_whole read.text read.holds.0 c.args.session read.holds.1 read.holds.2
-
-pub keep_calls-history-requires-clause-taken : goal.keep_calls-history-requires-clause-taken
-keep_calls-history-requires-clause-taken g c = λ _ _. let read = c.requires.read in session_taken read.text read.holds.0 c.args.session read.holds.1 read.holds.2
-
-pub keep_calls-history-requires-clause-few : goal.keep_calls-history-requires-clause-few
-keep_calls-history-requires-clause-few g c = λ _ _.
-    let read = c.requires.read in scripts_few-held F.Clerks read.holds.0 c.args.session.scripts.items read.holds.1.valid.placed read.holds.2.scripts
-
-pub keep_calls-history-requires-clause-storable : goal.keep_calls-history-requires-clause-storable
-keep_calls-history-requires-clause-storable g c = λ _ _. let read = c.requires.read in sessions_storable read.text F.Clerks c.args.session read.short read.holds
+pub keep_calls-history-requires-clause-earlier : goal.keep_calls-history-requires-clause-earlier
+keep_calls-history-requires-clause-earlier g c = λ _ _. calls_counted c.args.engine c.history.result.now.items c.len-earlier.result c.history.ensures.calls c.len-earlier.ensures
 
 pub write_kept-requires : goal.write_kept-requires
-write_kept-requires g c =
-    let session = c.args.session in
-    let calls = c.keep_calls-history.result in
-    let made = c.args.journal.disk in
-    let seen = g.D.Disk.seen in
-    let faults = g.D.Disk.faults in
-    record {
-      within = stored_within session.rules session.names (commands_in session.scripts.items) (seen made) (seen calls.disk) (faults made) (faults calls.disk) calls.stored c.in-Some.history
-          (subst (AreMade session.rules session.names (commands_in session.scripts.items) (seen made) (seen calls.disk) (faults made) (faults calls.disk) calls.stored) c.in-Some.is c.keep_calls-history.ensures.made);
-    }
+write_kept-requires g c = record {
+  within = subst (λ w. IfSome w (λ h. c.keep_calls-history.result.stored ≤ length h.items)) c.in-Some.is c.keep_calls-history.ensures.within;
+  numbered = subst (λ w. IfSome w (λ h. c.len-earlier.result + length h.items < 2 ^ 64)) c.in-Some.is c.keep_calls-history.ensures.numbered;
+}
 
 pub returns-in-Some-clause-keeps : goal.returns-in-Some-clause-keeps
-returns-in-Some-clause-keeps g c = λ disk started none faultless statements read.
-    let session = c.args.session in
-    let calls = c.keep_calls-history.result in
-    let made = c.args.journal.disk in
+returns-in-Some-clause-keeps g c = λ p taken.
     let seen = g.D.Disk.seen in
     let faults = g.D.Disk.faults in
-    let held = g.K.Sink.held in
-    let count = g.K.Sink.faults in
-    let old = c.args.sink.now in
-    let begun : AllHold (seen disk) [] → During (seen disk) (seen made) (λ image. HoldsTexts image []) =
-    started_empty (seen disk) (seen made) started.during in
-    let new = c.write_kept.new.sink in
+    let engine = c.args.engine in
+    let names = c.args.names.now in
+    let scripts = commands_in c.args.scripts.now.items in
+    let disk = c.args.journal.disk in
+    let calls = c.keep_calls-history.result in
     let history = c.in-Some.history in
     let result = c.write_kept.result in
-    let given = subst (AreMade session.rules session.names (commands_in session.scripts.items) (seen made) (seen calls.disk) (faults made) (faults calls.disk) calls.stored) c.in-Some.is c.keep_calls-history.ensures.made in
-    keeps_as seen faults held count old new session.names statements disk calls.disk result.disk result.status (history_of history.items) (history_of result.history.items) calls.stored result.stored
-    c.write_kept.ensures.disk (ap (λ l. history_of l.items) c.write_kept.ensures.history) c.write_kept.ensures.stored
-    (keeps_whole seen faults statements session read.holds disk made calls.disk begun c.requires.empty none faultless (stream (held old) (count old)) (stream (held new) (count new)) calls.stored result.status history given c.write_kept.ensures.written)
+    let sink = change g.K.Sink.held g.K.Sink.faults c.args.sink.now c.write_kept.new.sink in
+    let made : AreMade engine.rules names p scripts (seen disk) (seen calls.disk) (faults disk) (faults calls.disk) calls.stored (Some history) =
+    subst (AreMade engine.rules names p scripts (seen disk) (seen calls.disk) (faults disk) (faults calls.disk) calls.stored) c.in-Some.is (c.keep_calls-history.ensures.made p taken) in
+    let counted : c.len-earlier.result ≡ length p = sym (calls_counted engine c.history.result.now.items c.len-earlier.result c.history.ensures.calls c.len-earlier.ensures) ∙ taken_long engine p taken in
+    let written : WritesAs (kept_status calls.stored history) (lines_after names (length p) (take calls.stored history.items)) sink result.status =
+    subst (λ n. WritesAs (kept_status calls.stored history) (lines_after names n (take calls.stored history.items)) sink result.status) counted c.write_kept.ensures.written in
+    carried (λ d h n. KeepsScripts seen faults engine.rules names p scripts disk d sink result.status h n) calls.disk result.disk (history_of history.items) (history_of result.history.items) calls.stored result.stored
+    c.write_kept.ensures.disk (ap (λ l. history_of l.items) c.write_kept.ensures.history) c.write_kept.ensures.stored (KeepsScripts.Made history made written)
 
 pub returns-in-Some-clause-disk_later : goal.returns-in-Some-clause-disk_later
-returns-in-Some-clause-disk_later g c =
-    subst (λ d. g.D.Disk.faults c.args.journal.disk ≤ g.D.Disk.faults d) (sym c.write_kept.ensures.disk) c.keep_calls-history.ensures.made.kept.later
+returns-in-Some-clause-disk_later g c = subst (λ d. g.D.Disk.faults c.args.journal.disk ≤ g.D.Disk.faults d) (sym c.write_kept.ensures.disk) c.keep_calls-history.ensures.later
 
 pub returns-in-Some-clause-time : goal.returns-in-Some-clause-time
-returns-in-Some-clause-time g c =
-    subst (λ d. GoesOn (g.D.Disk.seen c.args.journal.disk) (g.D.Disk.seen d)) (sym c.write_kept.ensures.disk) c.keep_calls-history.ensures.made.kept.time
+returns-in-Some-clause-time g c = subst (λ d. GoesOn (g.D.Disk.seen c.args.journal.disk) (g.D.Disk.seen d)) (sym c.write_kept.ensures.disk) c.keep_calls-history.ensures.time
 
-pub returns-clause-keeps : goal.returns-clause-keeps
-returns-clause-keeps g c = λ disk started none faultless statements read.
-    let session = c.args.session in
-    let calls = c.keep_calls-history.result in
-    let made = c.args.journal.disk in
+pub returns-in-None-clause-keeps : goal.returns-in-None-clause-keeps
+returns-in-None-clause-keeps g c = λ p taken.
     let seen = g.D.Disk.seen in
     let faults = g.D.Disk.faults in
-    let held = g.K.Sink.held in
-    let count = g.K.Sink.faults in
-    let old = c.args.sink.now in
-    let begun : AllHold (seen disk) [] → During (seen disk) (seen made) (λ image. HoldsTexts image []) =
-    started_empty (seen disk) (seen made) started.during in
+    let engine = c.args.engine in
+    let names = c.args.names.now in
+    let scripts = commands_in c.args.scripts.now.items in
+    let disk = c.args.journal.disk in
+    let calls = c.keep_calls-history.result in
     let result = c.stopped.result in
-    let given = subst (AreMade session.rules session.names (commands_in session.scripts.items) (seen made) (seen calls.disk) (faults made) (faults calls.disk) calls.stored) c.in-None.is c.keep_calls-history.ensures.made in
-    keeps_as seen faults held count old old session.names statements disk calls.disk result.disk result.status (history_of result.history.items) (history_of result.history.items) calls.stored result.stored
-    c.stopped.ensures.disk refl c.stopped.ensures.stored
-    (keeps_part seen faults statements session read.holds disk made calls.disk begun c.requires.empty none faultless (stream (held old) (count old)) (stream (held old) (count old)) calls.stored result.status (history_of result.history.items) given refl c.stopped.ensures.status (ap history_of c.stopped.ensures.history))
+    let sink = change g.K.Sink.held g.K.Sink.faults c.args.sink.now c.args.sink.now in
+    let made : AreMade engine.rules names p scripts (seen disk) (seen calls.disk) (faults disk) (faults calls.disk) calls.stored None =
+    subst (AreMade engine.rules names p scripts (seen disk) (seen calls.disk) (faults disk) (faults calls.disk) calls.stored) c.in-None.is (c.keep_calls-history.ensures.made p taken) in
+    carried (λ d h n. KeepsScripts seen faults engine.rules names p scripts disk d sink result.status h n) calls.disk result.disk [] (history_of result.history.items) calls.stored result.stored
+    c.stopped.ensures.disk (ap history_of c.stopped.ensures.history) c.stopped.ensures.stored
+    (subst (λ s. KeepsScripts seen faults engine.rules names p scripts disk calls.disk sink s [] calls.stored) (sym c.stopped.ensures.status) (KeepsScripts.PartMade made refl))
 
-pub returns-clause-disk_later : goal.returns-clause-disk_later
-returns-clause-disk_later g c =
-    subst (λ d. g.D.Disk.faults c.args.journal.disk ≤ g.D.Disk.faults d) (sym c.stopped.ensures.disk) c.keep_calls-history.ensures.made.kept.later
+pub returns-in-None-clause-disk_later : goal.returns-in-None-clause-disk_later
+returns-in-None-clause-disk_later g c = subst (λ d. g.D.Disk.faults c.args.journal.disk ≤ g.D.Disk.faults d) (sym c.stopped.ensures.disk) c.keep_calls-history.ensures.later
 
-pub returns-clause-time : goal.returns-clause-time
-returns-clause-time g c =
-    subst (λ d. GoesOn (g.D.Disk.seen c.args.journal.disk) (g.D.Disk.seen d)) (sym c.stopped.ensures.disk) c.keep_calls-history.ensures.made.kept.time
+pub returns-in-None-clause-time : goal.returns-in-None-clause-time
+returns-in-None-clause-time g c = subst (λ d. GoesOn (g.D.Disk.seen c.args.journal.disk) (g.D.Disk.seen d)) (sym c.stopped.ensures.disk) c.keep_calls-history.ensures.time

@@ -7,23 +7,31 @@ use Rattle.poets_journal.specs.Starts.{HasStartCause, OnDamaged, disk_of}
 use Rattle.poets_writing.specs.Writing.{stream}
 use Rattle.poets_keeping.specs.Journals.{FileIsDamaged, FoundDamage, HeldTexts, OnlyStarted, damaged_line}
 use Rattle.poets_keeping.specs.Keeping.{IsKeptAs}
-use Rattle.poets_keeping.proofs.Kept.{holds_line_of, holds_none, keeps_as, keeps_none, keeps_told, keeps_unstarted, none_held, only_started, some_held}
+use Rattle.poets_keeping.proofs.Kept.{held_none, holds_line_of, keeps_as, keeps_none, keeps_told, keeps_unstarted, only_started, some_held}
 use Rattle.poets_keeping.proofs.keeping.keep_session.Goals as goal
-
-pub keep_scripts-requires-clause-empty : goal.keep_scripts-requires-clause-empty
-keep_scripts-requires-clause-empty g c = λ _ _.
-    none_held (g.D.Disk.seen c.in-Ok.field-0.journal.disk) c.in-Ok.field-0.texts (c.is_empty.ensures.0 c.if-is_empty.true) c.in-Ok.ensures.started
 
 pub returns-then-is_empty-clause-keeps : goal.returns-then-is_empty-clause-keeps
 returns-then-is_empty-clause-keeps g c = λ statements read.
-    c.keep_scripts.ensures.keeps c.args.disk (record { time = c.in-Ok.ensures.time; during = c.in-Ok.ensures.during })
-    (holds_none (g.D.Disk.seen c.args.disk) c.in-Ok.field-0.texts (c.is_empty.ensures.0 c.if-is_empty.true) c.in-Ok.ensures.texts) c.in-Ok.ensures.cause statements read
+    let seen = g.D.Disk.seen in
+    let faults = g.D.Disk.faults in
+    let disk = c.args.disk in
+    let made = c.in-Ok.field-0.journal.disk in
+    let texts = c.in-Ok.field-0.texts in
+    let held : HeldTexts (seen disk) (seen made) (faults disk) (faults made) (texts_of texts) = record {
+      held = c.in-Ok.ensures.texts;
+      all = c.in-Ok.ensures.started;
+      bytes = c.in-Ok.ensures.file;
+      faultless = c.in-Ok.ensures.cause;
+      still = c.in-Ok.ensures.still;
+    } in
+    c.keep_first.ensures.keeps disk (record { time = c.in-Ok.ensures.time; during = c.in-Ok.ensures.during })
+    (held_none (seen disk) (seen made) (faults disk) (faults made) texts (c.is_empty.ensures.0 c.if-is_empty.true) held) statements read
 
 pub returns-then-is_empty-clause-disk_later : goal.returns-then-is_empty-clause-disk_later
-returns-then-is_empty-clause-disk_later g c = omega (arith, c.in-Ok.ensures.later, c.keep_scripts.ensures.disk_later)
+returns-then-is_empty-clause-disk_later g c = omega (arith, c.in-Ok.ensures.later, c.keep_first.ensures.disk_later)
 
 pub returns-then-is_empty-clause-time : goal.returns-then-is_empty-clause-time
-returns-then-is_empty-clause-time g c = let seen = g.D.Disk.seen in goes_on (seen c.args.disk) (seen c.in-Ok.field-0.journal.disk) (seen c.keep_scripts.result.disk) c.in-Ok.ensures.time c.keep_scripts.ensures.time
+returns-then-is_empty-clause-time g c = let seen = g.D.Disk.seen in goes_on (seen c.args.disk) (seen c.in-Ok.field-0.journal.disk) (seen c.keep_first.result.disk) c.in-Ok.ensures.time c.keep_first.ensures.time
 
 pub returns-in-Ok-clause-keeps : goal.returns-in-Ok-clause-keeps
 returns-in-Ok-clause-keeps g c = λ statements read.
@@ -41,7 +49,7 @@ returns-in-Ok-clause-keeps g c = λ statements read.
     let result = c.tell.result in
     let started : OnlyStarted (seen disk) (seen made) = record { time = c.in-Ok.ensures.time; during = c.in-Ok.ensures.during } in
     let texts_held : HeldTexts (seen disk) (seen made) (faults disk) (faults made) (texts_of texts) =
-    record { held = c.in-Ok.ensures.texts; all = c.in-Ok.ensures.started; bytes = c.in-Ok.ensures.file; faultless = c.in-Ok.ensures.cause } in
+    record { held = c.in-Ok.ensures.texts; all = c.in-Ok.ensures.started; bytes = c.in-Ok.ensures.file; faultless = c.in-Ok.ensures.cause; still = c.in-Ok.ensures.still } in
     keeps_as seen faults held count old new names statements disk made result.disk result.status [] (history_of result.history.items) 0 result.stored
     (c.tell.ensures.disk ∙ c.end.ensures) (ap history_of c.tell.ensures.history) c.tell.ensures.stored
     (keeps_told seen faults held count old new names statements disk made line 8 result.status _ started

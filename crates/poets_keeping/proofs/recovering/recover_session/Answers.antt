@@ -18,7 +18,7 @@ returns-in-Ok-clause-recovers g c = λ statements read.
     let told = c.recover_texts.ensures.recovers in
     let same = sym (c.recover_texts.ensures.disk ∙ c.end.ensures) in
     let held : HeldTexts (seen disk) (seen s.journal.disk) (faults disk) (faults s.journal.disk) (texts_of s.texts) =
-    record { held = c.in-Ok.ensures.texts; all = c.in-Ok.ensures.started; bytes = c.in-Ok.ensures.file; faultless = c.in-Ok.ensures.cause } in
+    record { held = c.in-Ok.ensures.texts; all = c.in-Ok.ensures.started; bytes = c.in-Ok.ensures.file; faultless = c.in-Ok.ensures.cause; still = c.in-Ok.ensures.still } in
     let sink = stream (g.K.Sink.held c.args.sink.now) (g.K.Sink.faults c.args.sink.now) in
     let after = stream (g.K.Sink.held c.recover_texts.new.sink) (g.K.Sink.faults c.recover_texts.new.sink) in
     book_recovered seen faults c.args.session.names statements sink after disk c.recover_texts.result.disk (texts_of s.texts) c.recover_texts.result.stored

@@ -1,22 +1,28 @@
 use denote.Param.Send.{sendable}
-use Rattle.std.proofs.Common.{◌≡◌, ◌∙◌, ap, subst, sym}
+use Rattle.std.proofs.Common.{◌≡◌, ℕ, ◌≤◌, List, ◌++◌, length, drop, refl, ◌∙◌, ap, subst, sym}
 use Rattle.std.specs.Prelude.{IfSome}
+use Rattle.std.proofs.lemmas.List.{drop_at}
+use Rattle.poets_call.specs.declared.call.Command.{Command}
+use Rattle.poets_call.specs.declared.rules.Rules.{Rules}
 use Rattle.poets_call.specs.Rules.{book_of_rules, reports_of_rules}
-use Rattle.poets_clerks.specs.Histories.{AreReplies, HasScriptParts, HasScripts}
-use Rattle.poets_clerks.specs.Scripts.{calls_of_all}
-use Rattle.poets_engine.specs.State.{HasLegalHistory}
+use Rattle.poets_clerks.specs.Histories.{AreReplies}
 use Rattle.poets_journal.specs.Keeping.{IsKept, texts_by}
-use Rattle.poets_session.specs.Sessions.{commands_in}
+use Rattle.poets_onward.specs.Frames.{OnwardFrameOf}
 use Rattle.poets_stored.specs.Stored.{stored_text}
 use Rattle.poets_call.proofs.Crossing.{command_send, command_sync, reply_send}
 use Rattle.poets_engine.proofs.Crossing.{engine_send, kept_send}
-use Rattle.poets_keeping.specs.Made.{AreEntriesWith, AreMade}
-use Rattle.poets_keeping.proofs.Made.{made_with, scripts_taken}
+use Rattle.poets_session.specs.Sessions.{commands_in}
+use Rattle.poets_onward.proofs.onward.Onward.TheSendSync as onward
+use Rattle.poets_onward.proofs.onward.OnwardKept.TheSendSync as onward_kept
 use Rattle.poets_stored.proofs.put.CommandPut.TheSendSync as put
+use Rattle.poets_making.proofs.Entries.{Answered}
+use Rattle.poets_keeping.specs.Made.{AreMade}
+use Rattle.poets_keeping.specs.code.Entries.{AreEntriesWith}
+use Rattle.poets_keeping.proofs.Made.{made_with, replies_many, scripts_taken, stored_within}
 use Rattle.poets_keeping.proofs.work.keep_calls.Goals as goal
 
 pub attempt_kept-machine-requires-send-M : goal.attempt_kept-machine-requires-send-M
-attempt_kept-machine-requires-send-M g c κs = search (engine_send, sendable)
+attempt_kept-machine-requires-send-M g c κs = search (onward.the_send, engine_send, sendable)
 
 pub attempt_kept-machine-requires-send-P : goal.attempt_kept-machine-requires-send-P
 attempt_kept-machine-requires-send-P g c κs = search (put.the_send, sendable)
@@ -28,7 +34,7 @@ pub attempt_kept-machine-requires-send-M-Reply : goal.attempt_kept-machine-requi
 attempt_kept-machine-requires-send-M-Reply g c κs = search (reply_send, sendable)
 
 pub attempt_kept-machine-requires-send-M-Kept : goal.attempt_kept-machine-requires-send-M-Kept
-attempt_kept-machine-requires-send-M-Kept g c κs = search (kept_send, sendable)
+attempt_kept-machine-requires-send-M-Kept g c κs = search (onward_kept.the_send, kept_send, sendable)
 
 pub attempt_kept-machine-requires-sync-M-Call : goal.attempt_kept-machine-requires-sync-M-Call
 attempt_kept-machine-requires-sync-M-Call g c κs = search (command_sync, sendable)
@@ -36,35 +42,58 @@ attempt_kept-machine-requires-sync-M-Call g c κs = search (command_sync, sendab
 pub attempt_kept-machine-requires-clause-takes : goal.attempt_kept-machine-requires-clause-takes
 attempt_kept-machine-requires-clause-takes g c = λ _ _.
     let made = c.new-machine.result in
-    scripts_taken c.args.rules made.machine.rules c.args.names.now made.put c.args.scripts.now.items
-    (ap (λ e. e.rules) c.new-machine.ensures.machine ∙ c.new-engine.ensures.rules) (c.new-machine.ensures.put ∙ c.new.ensures) c.requires.taken c.requires.storable
+    let begun = rw (sym c.new-machine.ensures.machine) at c.new-onward.ensures.frame in
+    scripts_taken c.args.engine.rules _ c.args.names.now made.put c.args.scripts.now.items
+    (ap (λ f. f.inner) begun) (c.new-machine.ensures.put ∙ c.new.ensures) c.requires.taken c.requires.storable
 
-pub returns : goal.returns
-returns g c =
-    let rules = c.args.rules in
+pub returns-clause-made : goal.returns-clause-made
+returns-clause-made g c = λ p taken.
+    let engine = c.args.engine in
     let names = c.args.names.now in
     let scripts = c.args.scripts.now.items in
-    let first = g.D.Disk.seen c.args.journal.disk in
-    let before = g.D.Disk.faults c.args.journal.disk in
-    let made = c.new-machine.result in
+    let seen = g.D.Disk.seen in
+    let faults = g.D.Disk.faults in
+    let disk = c.args.journal.disk in
     let machine = c.attempt_kept-machine.result.machine in
-    let failed = machine.journal.failed in
-    let same : machine.machine.rules ≡ made.machine.rules = c.attempt_kept-machine.ensures.frame in
-    let is : made.machine.rules ≡ rules = ap (λ e. e.rules) c.new-machine.ensures.machine ∙ c.new-engine.ensures.rules in
+    let replies = c.attempt_kept-machine.result.replies in
+    let after = c.end-engine.result in
+    let whole = c.entries_with-history.result in
+    let calls : List (ℕ × Command) = drop machine.machine.earlier machine.machine.machine.calls in
+    let begun = rw (sym c.new-machine.ensures.machine) at c.new-onward.ensures.frame in
+    let frame = c.attempt_kept-machine.ensures.frame ∙ begun in
+    let longer : after.calls ≡ engine.calls ++ calls =
+    (rw c.end-onward.ensures.machine at c.end-engine.ensures.history) ∙ ap (λ cs. cs ++ calls) (ap (λ (f : OnwardFrameOf Rules Command). f.earlier) frame) in
+    let same : after.rules ≡ engine.rules = (rw c.end-onward.ensures.machine at c.end-engine.ensures.frame) ∙ ap (λ (f : OnwardFrameOf Rules Command). f.inner) frame in
     let told : machine.put ≡ names = c.attempt_kept-machine.ensures.table ∙ (c.new-machine.ensures.put ∙ c.new.ensures) in
-    let at : machine.made ≡ c.args.journal.disk = c.attempt_kept-machine.ensures.made ∙ c.new-machine.ensures.made in
-    let disk = g.D.Disk.seen machine.journal.disk in
-    let now = g.D.Disk.faults machine.journal.disk in
-    let kept : IsKept first disk before now failed machine.stored (texts_by (stored_text names) machine.machine.calls) =
-    subst (λ d. IsKept (g.D.Disk.seen d) disk (g.D.Disk.faults d) now failed machine.stored (texts_by (stored_text names) machine.machine.calls)) at
-    (subst (λ t. IsKept (g.D.Disk.seen machine.made) disk (g.D.Disk.faults machine.made) now failed machine.stored (texts_by (stored_text t) machine.machine.calls)) told c.stored-stored.ensures.kept) in
-    let ended : AreMade rules names (commands_in scripts) first disk before now machine.stored c.entries_with-history.result =
-    made_with rules names scripts first disk before now machine.stored failed machine.machine (same ∙ is) c.book-book.ensures.studied c.requires.taken kept c.attempt_kept-machine.ensures.part
-    c.entries_with-history.result c.attempt_kept-machine.result.replies made.machine.rules same
-    (subst (λ e. IfSome c.entries_with-history.result (AreEntriesWith e.calls c.attempt_kept-machine.result.replies)) c.end-engine.ensures.machine c.entries_with-history.ensures.entries)
-    c.attempt_kept-machine.ensures.history c.attempt_kept-machine.ensures.replies
-    (subst HasLegalHistory c.end-engine.ensures.machine c.entries_with-history.ensures.legal) c.new-engine.ensures.legal in
-    record {
-      made = subst (λ d. AreMade rules names (commands_in scripts) first (g.D.Disk.seen d) before (g.D.Disk.faults d) c.stored-stored.result c.entries_with-history.result) (sym c.end-engine.ensures.disk)
-          (subst (λ n. AreMade rules names (commands_in scripts) first disk before now n c.entries_with-history.result) (sym c.stored-stored.ensures.stored) ended);
-    }
+    let at : machine.made ≡ disk = c.attempt_kept-machine.ensures.made ∙ c.new-machine.ensures.made in
+    let kept : IsKept (seen disk) (seen machine.journal.disk) (faults disk) (faults machine.journal.disk) machine.journal.failed machine.stored (texts_by (stored_text names) calls) =
+    subst (λ d. IsKept (seen d) (seen machine.journal.disk) (faults d) (faults machine.journal.disk) machine.journal.failed machine.stored (texts_by (stored_text names) calls)) at
+    (subst (λ t. IsKept (seen machine.made) (seen machine.journal.disk) (faults machine.made) (faults machine.journal.disk) machine.journal.failed machine.stored (texts_by (stored_text t) calls)) told c.stored-stored.ensures.kept) in
+    let later : drop c.args.earlier after.calls ≡ calls = ap (drop c.args.earlier) longer ∙ drop_at engine.calls calls c.args.earlier c.requires.earlier in
+    let right : IfSome replies (λ given. AreReplies (λ seen. Answered (book_of_rules engine.rules) (reports_of_rules engine.rules) (engine.calls ++ seen)) calls given.items) =
+    subst (λ (f : OnwardFrameOf Rules Command). IfSome replies (λ given. AreReplies (λ seen. Answered (book_of_rules f.inner) (reports_of_rules f.inner) (f.earlier ++ seen)) calls given.items)) begun
+    c.attempt_kept-machine.ensures.replies in
+    let ended : AreMade engine.rules names p (commands_in scripts) (seen disk) (seen machine.journal.disk) (faults disk) (faults machine.journal.disk) machine.stored whole =
+    made_with engine.rules names p scripts (seen disk) (seen machine.journal.disk) (faults disk) (faults machine.journal.disk) machine.stored machine.journal.failed
+    engine refl taken calls (rw c.studied.ensures at c.book-book.ensures.studied) c.requires.taken kept c.attempt_kept-machine.ensures.part
+    after same longer c.entries_with-history.ensures.legal whole replies
+    (subst (λ cs. IfSome whole (AreEntriesWith cs replies)) later c.entries_with-history.ensures.entries) c.attempt_kept-machine.ensures.history right in
+    subst (λ d. AreMade engine.rules names p (commands_in scripts) (seen disk) (seen d) (faults disk) (faults d) c.stored-stored.result whole) (sym c.end-onward.ensures.disk)
+    (subst (λ n. AreMade engine.rules names p (commands_in scripts) (seen disk) (seen machine.journal.disk) (faults disk) (faults machine.journal.disk) n whole) (sym c.stored-stored.ensures.stored) ended)
+
+pub returns-clause-within : goal.returns-clause-within
+returns-clause-within g c =
+    let engine = c.args.engine in
+    let machine = c.attempt_kept-machine.result.machine in
+    let replies = c.attempt_kept-machine.result.replies in
+    let after = c.end-engine.result in
+    let whole = c.entries_with-history.result in
+    let calls : List (ℕ × Command) = drop machine.machine.earlier machine.machine.machine.calls in
+    let begun = rw (sym c.new-machine.ensures.machine) at c.new-onward.ensures.frame in
+    let frame = c.attempt_kept-machine.ensures.frame ∙ begun in
+    let longer : after.calls ≡ engine.calls ++ calls =
+    (rw c.end-onward.ensures.machine at c.end-engine.ensures.history) ∙ ap (λ cs. cs ++ calls) (ap (λ (f : OnwardFrameOf Rules Command). f.earlier) frame) in
+    let later : drop c.args.earlier after.calls ≡ calls = ap (drop c.args.earlier) longer ∙ drop_at engine.calls calls c.args.earlier c.requires.earlier in
+    subst (λ n. IfSome whole (λ h. n ≤ length h.items)) (sym c.stored-stored.ensures.stored)
+    (stored_within machine.put calls machine.stored whole replies (subst (λ cs. IfSome whole (AreEntriesWith cs replies)) later c.entries_with-history.ensures.entries)
+    (replies_many _ calls replies c.attempt_kept-machine.ensures.replies) c.stored-stored.ensures.kept.first)

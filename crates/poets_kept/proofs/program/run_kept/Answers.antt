@@ -1,4 +1,4 @@
-use Rattle.std.proofs.Common.{◌≡◌, ◌+◌, ◌≤◌, sym, ◌∙◌, ap, subst, inl, inr, arith, map}
+use Rattle.std.proofs.Common.{sym, ◌∙◌, ap, subst, inl, inr, arith, map}
 use Rattle.std.specs.Prelude.{string_bytes}
 use Rattle.poets_call.specs.Calls.{history_of}
 use Rattle.poets_top.specs.Demonstrating.{HasDemonstrated}
@@ -10,9 +10,8 @@ use Rattle.poets_top.specs.Runs.{IsStatusOrMemory}
 use Rattle.poets_words.specs.declared.mode.Mode.TheVariants as M
 use Rattle.poets_words.specs.declared.mode.Task.TheVariants as T
 use Rattle.poets_keeping.proofs.Untouched.{time_stands}
-use Rattle.poets_kept.specs.Words.{AsksFor}
-use Rattle.poets_kept.proofs.Deserved.{keeping_deserved, recovering_deserved}
-use Rattle.poets_kept.proofs.Statuses.{has_kept, has_recovered, keeping_not_two, no_journal_form, recovering_not_two, two_words}
+use Rattle.poets_kept.proofs.Deserved.{keeping_deserved, recovering_deserved, resuming_deserved}
+use Rattle.poets_kept.proofs.Statuses.{has_kept, has_recovered, has_resumed, keep_or_recover, keep_or_resume, keeping_not_two, no_journal_form, recover_or_resume, recovering_not_two, resuming_not_two}
 use Rattle.poets_kept.proofs.Unkept.{ends_told}
 use Rattle.poets_kept.proofs.program.run_kept.Goals as goal
 
@@ -54,43 +53,52 @@ returns-in-Some-Keep-clause-keep_status g c = λ asks text file wanted told held
     keeping_deserved _ _ c.texts_of_a_file.ensures.one c.texts_of_a_file.ensures.none text file _ _ _ _ _ _ told held faultless.source faultless.sink whole wanted deserved c.keep.ensures.ends
 
 pub returns-in-Some-Keep-clause-recovers : goal.returns-in-Some-Keep-clause-recovers
-returns-in-Some-Keep-clause-recovers g c = λ asks. absurd (two_words _ (rw c.in-Some-Keep.field-0-is at c.in-Some-Keep.ensures.some) asks)
+returns-in-Some-Keep-clause-recovers g c = λ asks. absurd (keep_or_recover _ (rw c.in-Some-Keep.field-0-is at c.in-Some-Keep.ensures.some) asks)
 
 pub returns-in-Some-Keep-clause-has_recovered : goal.returns-in-Some-Keep-clause-has_recovered
-returns-in-Some-Keep-clause-has_recovered g c = λ asks. absurd (two_words _ (rw c.in-Some-Keep.field-0-is at c.in-Some-Keep.ensures.some) asks)
+returns-in-Some-Keep-clause-has_recovered g c = λ asks. absurd (keep_or_recover _ (rw c.in-Some-Keep.field-0-is at c.in-Some-Keep.ensures.some) asks)
 
 pub returns-in-Some-Keep-clause-recover_status : goal.returns-in-Some-Keep-clause-recover_status
-returns-in-Some-Keep-clause-recover_status g c = λ asks. absurd (two_words _ (rw c.in-Some-Keep.field-0-is at c.in-Some-Keep.ensures.some) asks)
+returns-in-Some-Keep-clause-recover_status g c = λ asks. absurd (keep_or_recover _ (rw c.in-Some-Keep.field-0-is at c.in-Some-Keep.ensures.some) asks)
+
+pub returns-in-Some-Keep-clause-resumes : goal.returns-in-Some-Keep-clause-resumes
+returns-in-Some-Keep-clause-resumes g c = λ asks. absurd (keep_or_resume _ (rw c.in-Some-Keep.field-0-is at c.in-Some-Keep.ensures.some) asks)
+
+pub returns-in-Some-Keep-clause-has_resumed : goal.returns-in-Some-Keep-clause-has_resumed
+returns-in-Some-Keep-clause-has_resumed g c = λ asks. absurd (keep_or_resume _ (rw c.in-Some-Keep.field-0-is at c.in-Some-Keep.ensures.some) asks)
+
+pub returns-in-Some-Keep-clause-resume_status : goal.returns-in-Some-Keep-clause-resume_status
+returns-in-Some-Keep-clause-resume_status g c = λ asks. absurd (keep_or_resume _ (rw c.in-Some-Keep.field-0-is at c.in-Some-Keep.ensures.some) asks)
 
 pub returns-in-Some-Recover-clause-usage : goal.returns-in-Some-Recover-clause-usage
 returns-in-Some-Recover-clause-usage g c = λ two. absurd (recovering_not_two _ _ _ _ _ _ _ _ c.recover_journal.ensures.ends two)
 
 pub returns-in-Some-Recover-clause-no_form : goal.returns-in-Some-Recover-clause-no_form
-returns-in-Some-Recover-clause-no_form g c = λ none. absurd (none.1 (inr (rw c.in-Some-Recover.field-0-is at c.in-Some-Recover.ensures.some)))
+returns-in-Some-Recover-clause-no_form g c = λ none. absurd (none.1 (inr (inl (rw c.in-Some-Recover.field-0-is at c.in-Some-Recover.ensures.some))))
 
 pub returns-in-Some-Recover-clause-ends : goal.returns-in-Some-Recover-clause-ends
-returns-in-Some-Recover-clause-ends g c = λ mode asks. absurd (no_journal_form (map string_bytes c.args.words.now) (mode) asks (inr (rw c.in-Some-Recover.field-0-is at c.in-Some-Recover.ensures.some)))
+returns-in-Some-Recover-clause-ends g c = λ mode asks. absurd (no_journal_form (map string_bytes c.args.words.now) (mode) asks (inr (inl (rw c.in-Some-Recover.field-0-is at c.in-Some-Recover.ensures.some))))
 
 pub returns-in-Some-Recover-clause-has_run : goal.returns-in-Some-Recover-clause-has_run
-returns-in-Some-Recover-clause-has_run g c = λ asks. absurd (no_journal_form (map string_bytes c.args.words.now) (M.Read T.Run) asks (inr (rw c.in-Some-Recover.field-0-is at c.in-Some-Recover.ensures.some)))
+returns-in-Some-Recover-clause-has_run g c = λ asks. absurd (no_journal_form (map string_bytes c.args.words.now) (M.Read T.Run) asks (inr (inl (rw c.in-Some-Recover.field-0-is at c.in-Some-Recover.ensures.some))))
 
 pub returns-in-Some-Recover-clause-has_replayed : goal.returns-in-Some-Recover-clause-has_replayed
-returns-in-Some-Recover-clause-has_replayed g c = λ asks. absurd (no_journal_form (map string_bytes c.args.words.now) (M.Read T.Replay) asks (inr (rw c.in-Some-Recover.field-0-is at c.in-Some-Recover.ensures.some)))
+returns-in-Some-Recover-clause-has_replayed g c = λ asks. absurd (no_journal_form (map string_bytes c.args.words.now) (M.Read T.Replay) asks (inr (inl (rw c.in-Some-Recover.field-0-is at c.in-Some-Recover.ensures.some))))
 
 pub returns-in-Some-Recover-clause-has_explained : goal.returns-in-Some-Recover-clause-has_explained
-returns-in-Some-Recover-clause-has_explained g c = λ name asks. absurd (no_journal_form (map string_bytes c.args.words.now) (M.Read (T.Explain name)) asks (inr (rw c.in-Some-Recover.field-0-is at c.in-Some-Recover.ensures.some)))
+returns-in-Some-Recover-clause-has_explained g c = λ name asks. absurd (no_journal_form (map string_bytes c.args.words.now) (M.Read (T.Explain name)) asks (inr (inl (rw c.in-Some-Recover.field-0-is at c.in-Some-Recover.ensures.some))))
 
 pub returns-in-Some-Recover-clause-has_exported : goal.returns-in-Some-Recover-clause-has_exported
-returns-in-Some-Recover-clause-has_exported g c = λ asks. absurd (no_journal_form (map string_bytes c.args.words.now) (M.Read T.Export) asks (inr (rw c.in-Some-Recover.field-0-is at c.in-Some-Recover.ensures.some)))
+returns-in-Some-Recover-clause-has_exported g c = λ asks. absurd (no_journal_form (map string_bytes c.args.words.now) (M.Read T.Export) asks (inr (inl (rw c.in-Some-Recover.field-0-is at c.in-Some-Recover.ensures.some))))
 
 pub returns-in-Some-Recover-clause-has_demonstrated : goal.returns-in-Some-Recover-clause-has_demonstrated
-returns-in-Some-Recover-clause-has_demonstrated g c = λ sales asks. absurd (no_journal_form (map string_bytes c.args.words.now) (M.Demo sales) asks (inr (rw c.in-Some-Recover.field-0-is at c.in-Some-Recover.ensures.some)))
+returns-in-Some-Recover-clause-has_demonstrated g c = λ sales asks. absurd (no_journal_form (map string_bytes c.args.words.now) (M.Demo sales) asks (inr (inl (rw c.in-Some-Recover.field-0-is at c.in-Some-Recover.ensures.some))))
 
 pub returns-in-Some-Recover-clause-status : goal.returns-in-Some-Recover-clause-status
-returns-in-Some-Recover-clause-status g c = λ mode wanted asks. absurd (no_journal_form (map string_bytes c.args.words.now) (mode) asks (inr (rw c.in-Some-Recover.field-0-is at c.in-Some-Recover.ensures.some)))
+returns-in-Some-Recover-clause-status g c = λ mode wanted asks. absurd (no_journal_form (map string_bytes c.args.words.now) (mode) asks (inr (inl (rw c.in-Some-Recover.field-0-is at c.in-Some-Recover.ensures.some))))
 
 pub returns-in-Some-Recover-clause-untouched : goal.returns-in-Some-Recover-clause-untouched
-returns-in-Some-Recover-clause-untouched g c = λ none. absurd (none (inr (rw c.in-Some-Recover.field-0-is at c.in-Some-Recover.ensures.some)))
+returns-in-Some-Recover-clause-untouched g c = λ none. absurd (none (inr (inl (rw c.in-Some-Recover.field-0-is at c.in-Some-Recover.ensures.some))))
 
 pub returns-in-Some-Recover-clause-has_recovered : goal.returns-in-Some-Recover-clause-has_recovered
 returns-in-Some-Recover-clause-has_recovered g c = λ asks done. has_recovered _ _ _ _ _ _ _ _ done c.recover_journal.ensures.ends
@@ -100,13 +108,77 @@ returns-in-Some-Recover-clause-recover_status g c = λ asks text file wanted tol
     recovering_deserved _ _ c.texts_of_a_file.ensures.one c.texts_of_a_file.ensures.none text file _ _ _ _ _ _ told held faultless.source faultless.sink whole wanted deserved c.recover_journal.ensures.ends
 
 pub returns-in-Some-Recover-clause-keeps : goal.returns-in-Some-Recover-clause-keeps
-returns-in-Some-Recover-clause-keeps g c = λ asks. absurd (two_words _ asks (rw c.in-Some-Recover.field-0-is at c.in-Some-Recover.ensures.some))
+returns-in-Some-Recover-clause-keeps g c = λ asks. absurd (keep_or_recover _ asks (rw c.in-Some-Recover.field-0-is at c.in-Some-Recover.ensures.some))
 
 pub returns-in-Some-Recover-clause-has_kept : goal.returns-in-Some-Recover-clause-has_kept
-returns-in-Some-Recover-clause-has_kept g c = λ asks. absurd (two_words _ asks (rw c.in-Some-Recover.field-0-is at c.in-Some-Recover.ensures.some))
+returns-in-Some-Recover-clause-has_kept g c = λ asks. absurd (keep_or_recover _ asks (rw c.in-Some-Recover.field-0-is at c.in-Some-Recover.ensures.some))
 
 pub returns-in-Some-Recover-clause-keep_status : goal.returns-in-Some-Recover-clause-keep_status
-returns-in-Some-Recover-clause-keep_status g c = λ asks. absurd (two_words _ asks (rw c.in-Some-Recover.field-0-is at c.in-Some-Recover.ensures.some))
+returns-in-Some-Recover-clause-keep_status g c = λ asks. absurd (keep_or_recover _ asks (rw c.in-Some-Recover.field-0-is at c.in-Some-Recover.ensures.some))
+
+pub returns-in-Some-Recover-clause-resumes : goal.returns-in-Some-Recover-clause-resumes
+returns-in-Some-Recover-clause-resumes g c = λ asks. absurd (recover_or_resume _ (rw c.in-Some-Recover.field-0-is at c.in-Some-Recover.ensures.some) asks)
+
+pub returns-in-Some-Recover-clause-has_resumed : goal.returns-in-Some-Recover-clause-has_resumed
+returns-in-Some-Recover-clause-has_resumed g c = λ asks. absurd (recover_or_resume _ (rw c.in-Some-Recover.field-0-is at c.in-Some-Recover.ensures.some) asks)
+
+pub returns-in-Some-Recover-clause-resume_status : goal.returns-in-Some-Recover-clause-resume_status
+returns-in-Some-Recover-clause-resume_status g c = λ asks. absurd (recover_or_resume _ (rw c.in-Some-Recover.field-0-is at c.in-Some-Recover.ensures.some) asks)
+
+pub returns-in-Some-Resume-clause-usage : goal.returns-in-Some-Resume-clause-usage
+returns-in-Some-Resume-clause-usage g c = λ two. absurd (resuming_not_two _ _ _ _ _ _ _ _ c.resume.ensures.ends two)
+
+pub returns-in-Some-Resume-clause-no_form : goal.returns-in-Some-Resume-clause-no_form
+returns-in-Some-Resume-clause-no_form g c = λ none. absurd (none.1 (inr (inr (rw c.in-Some-Resume.field-0-is at c.in-Some-Resume.ensures.some))))
+
+pub returns-in-Some-Resume-clause-ends : goal.returns-in-Some-Resume-clause-ends
+returns-in-Some-Resume-clause-ends g c = λ mode asks. absurd (no_journal_form (map string_bytes c.args.words.now) (mode) asks (inr (inr (rw c.in-Some-Resume.field-0-is at c.in-Some-Resume.ensures.some))))
+
+pub returns-in-Some-Resume-clause-has_run : goal.returns-in-Some-Resume-clause-has_run
+returns-in-Some-Resume-clause-has_run g c = λ asks. absurd (no_journal_form (map string_bytes c.args.words.now) (M.Read T.Run) asks (inr (inr (rw c.in-Some-Resume.field-0-is at c.in-Some-Resume.ensures.some))))
+
+pub returns-in-Some-Resume-clause-has_replayed : goal.returns-in-Some-Resume-clause-has_replayed
+returns-in-Some-Resume-clause-has_replayed g c = λ asks. absurd (no_journal_form (map string_bytes c.args.words.now) (M.Read T.Replay) asks (inr (inr (rw c.in-Some-Resume.field-0-is at c.in-Some-Resume.ensures.some))))
+
+pub returns-in-Some-Resume-clause-has_explained : goal.returns-in-Some-Resume-clause-has_explained
+returns-in-Some-Resume-clause-has_explained g c = λ name asks. absurd (no_journal_form (map string_bytes c.args.words.now) (M.Read (T.Explain name)) asks (inr (inr (rw c.in-Some-Resume.field-0-is at c.in-Some-Resume.ensures.some))))
+
+pub returns-in-Some-Resume-clause-has_exported : goal.returns-in-Some-Resume-clause-has_exported
+returns-in-Some-Resume-clause-has_exported g c = λ asks. absurd (no_journal_form (map string_bytes c.args.words.now) (M.Read T.Export) asks (inr (inr (rw c.in-Some-Resume.field-0-is at c.in-Some-Resume.ensures.some))))
+
+pub returns-in-Some-Resume-clause-has_demonstrated : goal.returns-in-Some-Resume-clause-has_demonstrated
+returns-in-Some-Resume-clause-has_demonstrated g c = λ sales asks. absurd (no_journal_form (map string_bytes c.args.words.now) (M.Demo sales) asks (inr (inr (rw c.in-Some-Resume.field-0-is at c.in-Some-Resume.ensures.some))))
+
+pub returns-in-Some-Resume-clause-status : goal.returns-in-Some-Resume-clause-status
+returns-in-Some-Resume-clause-status g c = λ mode wanted asks. absurd (no_journal_form (map string_bytes c.args.words.now) (mode) asks (inr (inr (rw c.in-Some-Resume.field-0-is at c.in-Some-Resume.ensures.some))))
+
+pub returns-in-Some-Resume-clause-untouched : goal.returns-in-Some-Resume-clause-untouched
+returns-in-Some-Resume-clause-untouched g c = λ none. absurd (none (inr (inr (rw c.in-Some-Resume.field-0-is at c.in-Some-Resume.ensures.some))))
+
+pub returns-in-Some-Resume-clause-keeps : goal.returns-in-Some-Resume-clause-keeps
+returns-in-Some-Resume-clause-keeps g c = λ asks. absurd (keep_or_resume _ asks (rw c.in-Some-Resume.field-0-is at c.in-Some-Resume.ensures.some))
+
+pub returns-in-Some-Resume-clause-has_kept : goal.returns-in-Some-Resume-clause-has_kept
+returns-in-Some-Resume-clause-has_kept g c = λ asks. absurd (keep_or_resume _ asks (rw c.in-Some-Resume.field-0-is at c.in-Some-Resume.ensures.some))
+
+pub returns-in-Some-Resume-clause-keep_status : goal.returns-in-Some-Resume-clause-keep_status
+returns-in-Some-Resume-clause-keep_status g c = λ asks. absurd (keep_or_resume _ asks (rw c.in-Some-Resume.field-0-is at c.in-Some-Resume.ensures.some))
+
+pub returns-in-Some-Resume-clause-recovers : goal.returns-in-Some-Resume-clause-recovers
+returns-in-Some-Resume-clause-recovers g c = λ asks. absurd (recover_or_resume _ asks (rw c.in-Some-Resume.field-0-is at c.in-Some-Resume.ensures.some))
+
+pub returns-in-Some-Resume-clause-has_recovered : goal.returns-in-Some-Resume-clause-has_recovered
+returns-in-Some-Resume-clause-has_recovered g c = λ asks. absurd (recover_or_resume _ asks (rw c.in-Some-Resume.field-0-is at c.in-Some-Resume.ensures.some))
+
+pub returns-in-Some-Resume-clause-recover_status : goal.returns-in-Some-Resume-clause-recover_status
+returns-in-Some-Resume-clause-recover_status g c = λ asks. absurd (recover_or_resume _ asks (rw c.in-Some-Resume.field-0-is at c.in-Some-Resume.ensures.some))
+
+pub returns-in-Some-Resume-clause-has_resumed : goal.returns-in-Some-Resume-clause-has_resumed
+returns-in-Some-Resume-clause-has_resumed g c = λ asks done. has_resumed _ _ _ _ _ _ _ _ done c.resume.ensures.ends
+
+pub returns-in-Some-Resume-clause-resume_status : goal.returns-in-Some-Resume-clause-resume_status
+returns-in-Some-Resume-clause-resume_status g c = λ asks text file wanted told held deserved faultless whole.
+    resuming_deserved _ _ c.texts_of_a_file.ensures.one c.texts_of_a_file.ensures.none text file _ _ _ _ _ _ told held faultless.source faultless.sink whole wanted deserved c.resume.ensures.ends
 
 pub returns-in-None-clause-usage : goal.returns-in-None-clause-usage
 returns-in-None-clause-usage g c = λ two. (c.run.ensures.usage (sym c.unstored.ensures.status ∙ two), c.in-None.ensures.none)
@@ -158,10 +230,19 @@ pub returns-in-None-clause-keep_status : goal.returns-in-None-clause-keep_status
 returns-in-None-clause-keep_status g c = λ asks. absurd (c.in-None.ensures.none (inl asks))
 
 pub returns-in-None-clause-recovers : goal.returns-in-None-clause-recovers
-returns-in-None-clause-recovers g c = λ asks. absurd (c.in-None.ensures.none (inr asks))
+returns-in-None-clause-recovers g c = λ asks. absurd (c.in-None.ensures.none (inr (inl asks)))
 
 pub returns-in-None-clause-has_recovered : goal.returns-in-None-clause-has_recovered
-returns-in-None-clause-has_recovered g c = λ asks. absurd (c.in-None.ensures.none (inr asks))
+returns-in-None-clause-has_recovered g c = λ asks. absurd (c.in-None.ensures.none (inr (inl asks)))
 
 pub returns-in-None-clause-recover_status : goal.returns-in-None-clause-recover_status
-returns-in-None-clause-recover_status g c = λ asks. absurd (c.in-None.ensures.none (inr asks))
+returns-in-None-clause-recover_status g c = λ asks. absurd (c.in-None.ensures.none (inr (inl asks)))
+
+pub returns-in-None-clause-resumes : goal.returns-in-None-clause-resumes
+returns-in-None-clause-resumes g c = λ asks. absurd (c.in-None.ensures.none (inr (inr asks)))
+
+pub returns-in-None-clause-has_resumed : goal.returns-in-None-clause-has_resumed
+returns-in-None-clause-has_resumed g c = λ asks. absurd (c.in-None.ensures.none (inr (inr asks)))
+
+pub returns-in-None-clause-resume_status : goal.returns-in-None-clause-resume_status
+returns-in-None-clause-resume_status g c = λ asks. absurd (c.in-None.ensures.none (inr (inr asks)))

@@ -1,0 +1,2 @@
+-- What ties the code to the definitions: what its private functions promise.
+pub mod Resumed
