@@ -1,8 +1,8 @@
 #!/usr/bin/env python3
 """Times calls at the turnstile: 65,536 calls of a machine that adds ones, shared by 1, 2, 8 and 64 clerks in threads.
 
-Usage: bench/turns.py [PROGRAM]      (PROGRAM: crates/poets_counting/out/poets_counting, made by `rt run -- 64 6400` in
-                                      crates/poets_counting)
+Usage: bench/turns.py [PROGRAM]      (PROGRAM: crates/poets_bench_turnstile/out/poets_bench_turnstile,
+                                      made by `rt run -- 64 6400` in crates/poets_bench_turnstile)
 
 Beside it the same calls go through locks in plain Rust, bench/turns.rs, which this script builds by rustc: a `Mutex` of
 the standard library, which need not be fair, and a ticket lock whose waiters yield. The three take turns, fifteen
@@ -63,7 +63,7 @@ def told(runs):
 
 
 def main():
-    program = sys.argv[1] if len(sys.argv) > 1 else TOP / "crates/poets_counting/out/poets_counting"
+    program = sys.argv[1] if len(sys.argv) > 1 else TOP / "crates/poets_bench_turnstile/out/poets_bench_turnstile"
     with tempfile.TemporaryDirectory() as folder:
         plain = pathlib.Path(folder, "turns")
         subprocess.run(["rustc", "-O", "-o", plain, TOP / "bench/turns.rs"], check=True)

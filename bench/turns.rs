@@ -1,4 +1,5 @@
-//! What `poets_counting` does, in plain Rust: `turns LOCK CLERKS CALLS`. The lock is a `Mutex` of the standard library,
+//! What `poets_bench_turnstile` does, in plain Rust: `turns LOCK CLERKS CALLS`. The lock is a `Mutex` of the standard
+//! library,
 //! which need not be fair, or a ticket lock whose waiters yield.
 use std::cell::UnsafeCell;
 use std::sync::atomic::{AtomicU64, Ordering::SeqCst};

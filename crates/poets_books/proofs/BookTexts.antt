@@ -11,7 +11,7 @@ use Rattle.poets_syntax.specs.declared.term.Template.{Template}
 use Rattle.poets_syntax.specs.Book.{template_of}
 use Rattle.poets_report.specs.declared.report.Report.{Report}
 use Rattle.poets_report.specs.Reports.{report_of}
-use Rattle.poets_call.specs.Said as said
+use Rattle.poets_command.specs.Said as said
 use Rattle.poets_lex.specs.Table.{Table, texts_of}
 use Rattle.poets_lex.proofs.Found.{map-push}
 use Rattle.poets_print.specs.code.Putting.{names_text}

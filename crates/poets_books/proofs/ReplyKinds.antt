@@ -3,7 +3,7 @@ use Rattle.std.proofs.Common.{◌≡◌, ℕ, List, [], ◌++◌, refl}
 use Rattle.std.specs.Prelude.{codes}
 use Rattle.std.specs.Fmt.{decimal}
 use Rattle.poets_value.specs.Civil.{day_text}
-use Rattle.poets_call.specs.Plain.{Reply}
+use Rattle.poets_command.specs.Plain.{Reply}
 use Rattle.poets_print.specs.Texts.{name_text}
 use Rattle.poets_print.specs.Lines.{yes_text, parts_text, total_text}
 use Rattle.poets_books.specs.Replies.{RepliesBeginWithKinds}

@@ -8,10 +8,10 @@ use Rattle.poets_value.specs.declared.value.Ty.TheVariants as T
 use Rattle.poets_expr.specs.Expression.{Expression}
 use Rattle.poets_expr.specs.Whole.{IsWholeExpression}
 use Rattle.poets_syntax.specs.declared.term.Param.{Param}
-use Rattle.poets_call.specs.Said as said
-use Rattle.poets_call.specs.Said.{Statement}
-use Rattle.poets_call.specs.Plain as plain
-use Rattle.poets_call.specs.Taken.{IsWholeCommand}
+use Rattle.poets_command.specs.Said as said
+use Rattle.poets_command.specs.Said.{Statement}
+use Rattle.poets_command.specs.Plain as plain
+use Rattle.poets_command.specs.Taken.{IsWholeCommand}
 use Rattle.poets_lex.specs.declared.token.Word.{Word}
 use Rattle.poets_lex.specs.declared.token.Word.TheVariants as W
 use Rattle.poets_lex.specs.declared.token.Sign.TheVariants as S

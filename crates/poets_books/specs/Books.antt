@@ -5,8 +5,8 @@ use Rattle.poets_value.specs.declared.value.Ty.{Ty}
 use Rattle.poets_value.specs.declared.value.Ty.TheVariants as T
 use Rattle.poets_syntax.specs.TypeOf.{same_type}
 use Rattle.poets_report.specs.Plain.{Template, Report}
-use Rattle.poets_call.specs.Said.{Statement, Agents, Kinds}
-use Rattle.poets_call.specs.Said as said
+use Rattle.poets_command.specs.Said.{Statement, Agents, Kinds}
+use Rattle.poets_command.specs.Said as said
 use Rattle.poets_lex.specs.Table.{Table}
 use Rattle.poets_books.specs.Statements.{statement_text}
 

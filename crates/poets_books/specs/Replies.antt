@@ -1,7 +1,7 @@
 -- The words that say what a reply is.
 use Rattle.std.specs.Prelude.{ℕ, List, ◌++◌, ◌≡◌, codes}
 use Rattle.poets_lex.specs.Table.{Table}
-use Rattle.poets_call.specs.Plain.{Reply}
+use Rattle.poets_command.specs.Plain.{Reply}
 use Rattle.poets_print.specs.Lines.{reply_text}
 
 -- what the reply is, in a word or two

@@ -3,8 +3,8 @@ use Rattle.std.specs.Prelude.{ℕ, List, [], ◌++◌, Option, Some, None, codes
 use Rattle.poets_expr.specs.Expression.{Expression}
 use Rattle.poets_syntax.specs.declared.term.Param.{Param}
 use Rattle.poets_report.specs.Plain.{Template, Report}
-use Rattle.poets_call.specs.Said.{Statement, Agents, Kinds, Clerk, Journal, Command, Numbered}
-use Rattle.poets_call.specs.Said as said
+use Rattle.poets_command.specs.Said.{Statement, Agents, Kinds, Clerk, Journal, Command, Numbered}
+use Rattle.poets_command.specs.Said as said
 use Rattle.poets_lex.specs.Table.{Table}
 use Rattle.poets_print.specs.Texts.{name_text, type_text, listed, expression_text, binders_text, contract_text}
 use Rattle.poets_print.specs.Lines.{command_text}

@@ -7,7 +7,7 @@ ghost use Rattle.poets_print.specs.Texts as texts;
 ghost use Rattle.poets_books.specs.code.Putting.{step_front};
 
 use crate::lists::names_text;
-use poets_call::Reply;
+use poets_command::Reply;
 use poets_expr::Expr;
 use poets_lex::Names;
 use poets_print::{reply_text, step_text};

@@ -1,9 +1,9 @@
 //! The words that say what a reply is.
 ghost use Rattle.std.specs.Prelude.{◌≡◌};
-ghost use Rattle.poets_call.specs.Calls.{reply_of};
+ghost use Rattle.poets_command.specs.Calls.{reply_of};
 ghost use Rattle.poets_books.specs.Replies as replies;
 
-use poets_call::Reply;
+use poets_command::Reply;
 
 /// What a reply is, in a word or two, as `name taken`.
 ///

@@ -5,9 +5,9 @@ use Rattle.std.proofs.lemmas.Bool.{false≢true}
 use Rattle.std.proofs.lemmas.List.{length-map}
 use Rattle.poets_syntax.specs.Contract.{Contract}
 use Rattle.poets_syntax.specs.Contract as C
-use Rattle.poets_syntax.specs.Alike.{Alike}
 use Rattle.poets_syntax.proofs.Replacing.{truth}
-use Rattle.poets_syntax.proofs.Multisets.{Alike-sym, Alike-trans}
+use Rattle.poets_calculus.specs.Alike.{Alike}
+use Rattle.poets_calculus.proofs.Multisets.{Alike-sym, Alike-trans}
 use Rattle.poets_cons.specs.declared.classes.Classes.{Classes}
 use Rattle.poets_cons.specs.declared.form.Form.{Form}
 use Rattle.poets_cons.specs.declared.node.Node.{Node}

@@ -3,10 +3,10 @@ use Rattle.std.proofs.Common.{◌≡◌, ℕ, ◌+◌, ◌<◌, Bool, true, fals
 use Rattle.std.specs.List.{AllByRecursion}
 use Rattle.poets_syntax.specs.Contract.{Contract}
 use Rattle.poets_syntax.specs.Contract as C
-use Rattle.poets_syntax.specs.Between.{Between}
-use Rattle.poets_syntax.proofs.Multisets.{Alike-refl}
+use Rattle.poets_meaning.specs.Between.{Between}
+use Rattle.poets_calculus.proofs.Multisets.{Alike-refl}
 use Rattle.poets_cons.specs.Row.{Transmit, Plus, Par, Seq}
-use Rattle.poets_syntax.specs.Alike.{Alike, AreAlike, parts}
+use Rattle.poets_calculus.specs.Alike.{Alike, AreAlike, parts}
 use Rattle.poets_cons.specs.code.Classes.{Shape, Single, Parallel, contract_of_shape, IsShapeAt}
 use Rattle.poets_cons.specs.code.Bags.{one_if, times, AreSame}
 use Rattle.poets_cons.proofs.Bags.{times_cons, times_first}

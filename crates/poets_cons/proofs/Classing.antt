@@ -5,13 +5,13 @@ use Rattle.std.specs.List.{IsDistinct}
 use Rattle.std.proofs.lemmas.List.{length-map, map-append}
 use Rattle.std.proofs.lemmas.Option.{get_or_from_slice_get, slice_get_within, slice_get-get_or, slice_get-map}
 use Rattle.indexmap.specs.IndexSet.{insert_key}
-use Rattle.poets_syntax.specs.Alike.{Alike, AreAlike, parts}
 use Rattle.poets_syntax.specs.Contract.{Contract}
 use Rattle.poets_syntax.specs.Contract as C
-use Rattle.poets_syntax.proofs.AlikeTests.{AreAlike-parts, parts-alike}
-use Rattle.poets_syntax.proofs.Lists.{Between-length}
-use Rattle.poets_syntax.proofs.Multisets.{AreAlike-append, AreAlike-trans}
 use Rattle.poets_syntax.proofs.Replacing.{truth}
+use Rattle.poets_meaning.proofs.Lists.{Between-length}
+use Rattle.poets_calculus.specs.Alike.{Alike, AreAlike, parts}
+use Rattle.poets_calculus.proofs.AlikeTests.{AreAlike-parts, parts-alike}
+use Rattle.poets_calculus.proofs.Multisets.{AreAlike-append, AreAlike-trans}
 use Rattle.poets_cons.specs.declared.classes.Classes.{Classes}
 use Rattle.poets_cons.specs.declared.node.Node.{Node}
 use Rattle.poets_cons.specs.declared.shape.Shape.{Shape as CodeShape}

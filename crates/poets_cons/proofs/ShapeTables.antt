@@ -4,10 +4,10 @@ use Rattle.std.specs.Prelude.{◌↔◌}
 use Rattle.std.specs.List.{AllByRecursion}
 use Rattle.std.proofs.Math.ListN.{get_or-append}
 use Rattle.std.proofs.lemmas.Option.{slice_get_within, slice_get-get_or}
-use Rattle.poets_syntax.specs.Alike.{Alike}
 use Rattle.poets_syntax.specs.Contract.{Contract}
 use Rattle.poets_syntax.specs.Contract as C
-use Rattle.poets_syntax.specs.Normal.{side_by_side}
+use Rattle.poets_calculus.specs.Alike.{Alike}
+use Rattle.poets_calculus.specs.Normal.{side_by_side}
 use Rattle.poets_cons.specs.Row.{Success, AreBelow}
 use Rattle.poets_cons.specs.code.Classes.{Shape, Single, Parallel, contract_of_shape, class_contract, shape_at, AreSingles, IsShapeAt, AreShapes, HasClass}
 use Rattle.poets_cons.proofs.Apart.{AreOne, classes_apart}

@@ -6,9 +6,9 @@ use Rattle.poets_expr.specs.Expression.{Expression}
 use Rattle.poets_syntax.specs.declared.term.Binders.{Binders}
 use Rattle.poets_syntax.specs.Contract.{Contract}
 use Rattle.poets_syntax.specs.Contract as C
-use Rattle.poets_syntax.specs.Normal.{side_by_side}
+use Rattle.poets_calculus.specs.Normal.{side_by_side}
 use Rattle.poets_cons.specs.Row.{Success, Failure, Transmit, Plus, Par, Seq, App}
-use Rattle.poets_syntax.specs.Alike.{parts}
+use Rattle.poets_calculus.specs.Alike.{parts}
 use Rattle.poets_cons.specs.code.Classes.{Shape, Single, Parallel, contract_of_shape, IsSingle, AreSingles, IsShapeAt}
 
 -- the contract is a `||`

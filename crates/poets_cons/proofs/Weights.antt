@@ -2,9 +2,9 @@
 use Rattle.std.proofs.Common.{◌≡◌, ℕ, ◌+◌, List, [], ◌∷◌, refl, ap, ap₂, arith}
 use Rattle.poets_syntax.specs.Contract.{Contract}
 use Rattle.poets_syntax.specs.Contract as C
-use Rattle.poets_syntax.specs.Between.{Between}
-use Rattle.poets_syntax.specs.Alike.{Alike, AreAlike, parts}
-use Rattle.poets_syntax.proofs.Interleavings.{Between-append}
+use Rattle.poets_meaning.specs.Between.{Between}
+use Rattle.poets_meaning.proofs.Interleavings.{Between-append}
+use Rattle.poets_calculus.specs.Alike.{Alike, AreAlike, parts}
 use Rattle.poets_cons.specs.code.Forms.{weight}
 
 -- each part counts, and the `||` before it

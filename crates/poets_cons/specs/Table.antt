@@ -2,8 +2,8 @@
 use Rattle.std.specs.Prelude.{◌≡◌, ◌⊎◌, ℕ, ◌-◌, ◌<◌, ◌≤◌, List, [], ◌∷◌, ◌++◌, map, length, slice_get, Some}
 use Rattle.std.specs.Prelude.{if◌then◌else◌}
 use Rattle.std.specs.List.{IsDistinct, list_any, slice_index_or}
-use Rattle.poets_syntax.specs.Alike.{Alike}
 use Rattle.poets_syntax.specs.Contract.{Contract, Failure}
+use Rattle.poets_calculus.specs.Alike.{Alike}
 use Rattle.poets_cons.specs.declared.node.Node.{Node}
 use Rattle.poets_cons.specs.Row.{Row, row_of, contract_by, IsPart, AreBelow}
 use Rattle.poets_cons.specs.Same.{same_row}

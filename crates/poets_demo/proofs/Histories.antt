@@ -3,10 +3,10 @@ use Rattle.std.proofs.Common.{◌≡◌, ℕ, ◌+◌, ◌<◌, List, [], ◌∷
 use Rattle.std.specs.Prelude.{ℤ, ◌+ℤ◌, pos, fold}
 use Rattle.std.proofs.lemmas.List.{take_more, map-append}
 use Rattle.std.proofs.lemmas.List.Sums.{sum_by_push, fold_push}
-use Rattle.poets_call.specs.declared.call.Entry.{Entry}
-use Rattle.poets_call.specs.Plain.{Reply}
-use Rattle.poets_call.specs.Calls.{entry_of, history_of, reply_of}
-use Rattle.poets_call.specs.Plain as plain
+use Rattle.poets_command.specs.declared.call.Entry.{Entry}
+use Rattle.poets_command.specs.Plain.{Reply}
+use Rattle.poets_command.specs.Calls.{entry_of, history_of, reply_of}
+use Rattle.poets_command.specs.Plain as plain
 use Rattle.poets_demo.specs.Line.{count_replies, paid, paid_in}
 
 history_more : (entries : List Entry) (i : ℕ) (e : Entry) → i < length entries → e ≡ slice_index_or entries i e →

@@ -2,7 +2,7 @@
 use Rattle.std.proofs.Common.{◌≡◌, ℕ, List, [], ◌∷◌, ◌++◌, length, refl}
 use Rattle.std.specs.Prelude.{ℤ, codes}
 use Rattle.std.specs.Fmt.{decimal, signed_decimal}
-use Rattle.poets_call.specs.Plain.{Entry}
+use Rattle.poets_command.specs.Plain.{Entry}
 use Rattle.poets_demo.specs.Line.{count_replies, demo_line, is_ended, is_recorded, is_refused, is_registered, paid}
 
 -- the line of these numbers

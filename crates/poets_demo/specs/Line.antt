@@ -5,7 +5,7 @@ use Rattle.std.specs.Fmt.{decimal, signed_decimal}
 use Rattle.std.specs.List.{count_by}
 use Rattle.poets_value.specs.declared.value.Value.{Value}
 use Rattle.poets_value.specs.declared.value.Value.TheVariants as V
-use Rattle.poets_call.specs.Plain.{Reply, Entry}
+use Rattle.poets_command.specs.Plain.{Reply, Entry}
 
 -- a contract is registered
 abbrev pub is_registered : Reply → Bool

@@ -1,11 +1,11 @@
 //! The line that sums up the history of a demonstration.
 ghost use Rattle.std.specs.Prelude.{◌≡◌, ◌<◌, ◌^◌, ◌+ℤ◌, ◌-ℤ◌, ◌≤ℤ◌, neg_ℤ, pos, IfOk, string_bytes};
-ghost use Rattle.poets_call.specs.Calls.{history_of, reply_of};
+ghost use Rattle.poets_command.specs.Calls.{history_of, reply_of};
 ghost use Rattle.poets_demo.specs.Line.{amount_of, count_replies, is_ended, is_recorded, is_refused, is_registered, paid_in};
 ghost use Rattle.poets_demo.specs.Line as spec;
 ghost use Rattle.poets_demo.specs.code.Sums.{Grows};
 
-use poets_call::{Entry, Folio, Reply};
+use poets_command::{Entry, Folio, Reply};
 use poets_value::{Memory, Value};
 use std::alloc::Global;
 

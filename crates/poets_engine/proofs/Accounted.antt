@@ -6,21 +6,21 @@ use Rattle.poets_value.specs.declared.event.Event.{Event}
 use Rattle.poets_syntax.specs.Applied.{CountsFit}
 use Rattle.poets_syntax.specs.Contract.{contract_of}
 use Rattle.poets_syntax.specs.declared.term.Term.{Term}
-use Rattle.poets_syntax.specs.Residual.{residual_after}
-use Rattle.poets_syntax.specs.Studied.{marks_of}
 use Rattle.poets_syntax.specs.WellFormed.{IsWellFormed, IsDeclaredEvent}
+use Rattle.poets_meaning.specs.Studied.{marks_of}
+use Rattle.poets_calculus.specs.Residual.{residual_after}
 use Rattle.poets_residue.proofs.Traces.{trace_fit}
 use Rattle.poets_cons.specs.declared.node.Node.{Node}
 use Rattle.poets_table.specs.Pieces.{joined}
 use Rattle.poets_table.specs.TableView.{RowView, number_named}
-use Rattle.poets_call.specs.declared.rules.Rules.{Rules}
-use Rattle.poets_call.specs.Rules.{book_of_rules, reports_of_rules}
-use Rattle.poets_call.specs.Plain.{Entry}
-use Rattle.poets_call.specs.Calls.{Call, calls_of}
-use Rattle.poets_call.specs.Ledger.{ledger_of}
-use Rattle.poets_call.specs.Histories.{IsLegal}
-use Rattle.poets_call.proofs.Histories.{one_history}
-use Rattle.poets_call.proofs.OneFrames.{one_frame}
+use Rattle.poets_command.specs.Plain.{Entry}
+use Rattle.poets_command.specs.Calls.{Call, calls_of}
+use Rattle.poets_rules.specs.declared.rules.Rules.{Rules}
+use Rattle.poets_rules.specs.Rules.{book_of_rules, reports_of_rules}
+use Rattle.poets_history.specs.Ledger.{ledger_of}
+use Rattle.poets_history.specs.Histories.{IsLegal}
+use Rattle.poets_history.proofs.Histories.{one_history}
+use Rattle.poets_history.proofs.OneFrames.{one_frame}
 use Rattle.poets_engine.specs.Accounts.{Accounts}
 use Rattle.poets_engine.specs.Rows.{Stands}
 use Rattle.poets_engine.specs.Store.{StoreView}

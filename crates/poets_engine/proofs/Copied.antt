@@ -10,7 +10,7 @@ use Rattle.poets_expr.proofs.SameTrees.{name_one}
 use Rattle.poets_report.specs.declared.report.Report.{Report}
 use Rattle.poets_report.specs.Reports.{report_of}
 use Rattle.poets_report.specs.Plain as plain
-use Rattle.poets_call.specs.Replies.{report_in}
+use Rattle.poets_command.specs.Reports.{report_in}
 use Rattle.poets_engine.specs.Copies.{IsReport}
 
 named_by : (p : plain.Report) (x : Name) (q : plain.Report) (rest : Option plain.Report) (b : Bool) → same_name p.name x ≡ b → (rest ≡ Some q → q.name ≡ x) →

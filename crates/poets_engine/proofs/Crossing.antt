@@ -3,7 +3,8 @@ use denote.Param.Send.{IsSend, IsSync, sendable}
 use Rattle.std.proofs.Crossing.{crosses}
 use Rattle.std.proofs.MapsCrossing as maps
 use Rattle.poets_value.proofs.value.Value.TheSendSync as value
-use Rattle.poets_call.proofs.Crossing.{parts, rules_send, command_send, command_sync, reply_send}
+use Rattle.poets_command.proofs.Crossing.{parts, command_send, command_sync, reply_send}
+use Rattle.poets_rules.proofs.Crossing.{rules_send}
 use Rattle.poets_table.proofs.Crossing.{events_send}
 use Rattle.poets_live.proofs.Crossing.{watches_send}
 use Rattle.poets_expr.specs.contracts.env.Decls as Decls

@@ -1,7 +1,7 @@
 -- The day of the last event.
 use Rattle.std.proofs.Common.{◌≡◌, suc, ◌-◌, List, [], ◌∷◌, Option, length, slice_get, option_map, refl, sym, ◌∙◌, ap, arith}
 use Rattle.poets_value.specs.declared.event.Event.{Event}
-use Rattle.poets_call.specs.Ledger.{last_day}
+use Rattle.poets_history.specs.Ledger.{last_day}
 
 pub last_day-slice_get : (s : List Event) → last_day s ≡ option_map (λ e. e.day) (slice_get s (length s - 1))
 last_day-slice_get [] = refl

@@ -5,16 +5,16 @@ use Rattle.std.specs.List.{All}
 use Rattle.std.proofs.lemmas.List.Elements.{All-nil, All-cons, All-append}
 use Rattle.poets_value.specs.declared.value.Name.{Name}
 use Rattle.poets_syntax.specs.declared.term.Term.{Term}
-use Rattle.poets_syntax.specs.Perf.{Perf}
 use Rattle.poets_syntax.specs.Contract.{contract_of}
+use Rattle.poets_meaning.specs.Perf.{Perf}
 use Rattle.poets_cons.specs.declared.node.Node.{Node}
 use Rattle.poets_cons.specs.Table.{contract_of_rows}
 use Rattle.poets_table.specs.TableView.{RowView, changed_at, finished, number_named}
-use Rattle.poets_call.specs.declared.rules.Rules.{Rules}
-use Rattle.poets_call.specs.Rules.{book_of_rules}
-use Rattle.poets_call.specs.Plain.{Command, Reply}
-use Rattle.poets_call.specs.Ledger.{Ledger, with_entry, number_in, trace}
-use Rattle.poets_call.specs.Replies.{Replies}
+use Rattle.poets_command.specs.Plain.{Command, Reply}
+use Rattle.poets_rules.specs.declared.rules.Rules.{Rules}
+use Rattle.poets_rules.specs.Rules.{book_of_rules}
+use Rattle.poets_history.specs.Ledger.{Ledger, with_entry, number_in, trace}
+use Rattle.poets_history.specs.Replies.{Replies}
 use Rattle.poets_engine.specs.Store.{StoreView}
 use Rattle.poets_engine.specs.Rows.{IsLedger, RowsAre}
 use Rattle.poets_engine.specs.code.Makes.{Makes}

@@ -20,13 +20,15 @@ use Rattle.poets_table.specs.Pieces.{joined}
 use Rattle.poets_table.specs.TableView.{RowView, number_named}
 use Rattle.poets_folio.specs.declared.folio.Part.{Part}
 use Rattle.poets_folio.specs.Rows.{IsRow}
-use Rattle.poets_call.specs.declared.rules.Rules.{Rules}
-use Rattle.poets_call.specs.Rules.{book_of_rules, reports_of_rules}
-use Rattle.poets_call.specs.Frame.{Frame}
-use Rattle.poets_call.specs.Plain.{Command, Reply}
-use Rattle.poets_call.specs.Calls.{Call, folio_row_of, reply_of}
-use Rattle.poets_call.specs.Ledger.{Ledger, ledger_of, contract_named, number_in, number_of, trace, absent_or, first_absent}
-use Rattle.poets_call.specs.Replies.{report_in, total_of, argument_values, AreFolioRows, Replies}
+use Rattle.poets_command.specs.Plain.{Command, Reply}
+use Rattle.poets_command.specs.Calls.{Call, folio_row_of, reply_of}
+use Rattle.poets_command.specs.Reports.{report_in}
+use Rattle.poets_command.specs.Totals.{total_of}
+use Rattle.poets_rules.specs.declared.rules.Rules.{Rules}
+use Rattle.poets_rules.specs.Rules.{book_of_rules, reports_of_rules}
+use Rattle.poets_history.specs.Frame.{Frame}
+use Rattle.poets_history.specs.Ledger.{Ledger, ledger_of, contract_named, number_in, number_of, trace, absent_or, first_absent}
+use Rattle.poets_history.specs.Replies.{argument_values, AreFolioRows, Replies}
 use Rattle.poets_engine.specs.Store.{StoreView}
 use Rattle.poets_engine.specs.code.Parts.{absent_or_later, absent_from, IsPart}
 use Rattle.poets_engine.specs.Rows.{IsLedger, Stands}

@@ -7,20 +7,20 @@ use Rattle.std.specs.declared.alloc.Global.{Global}
 use Rattle.std.specs.declared.sync.Arc.{Arc}
 use Rattle.std.specs.Arc.{arc_value}
 use Rattle.poets_syntax.specs.Contract.{contract_of}
-use Rattle.poets_syntax.specs.Studied.{IsStudiedBook}
 use Rattle.poets_syntax.specs.Whole.{IsWholeBook}
-use Rattle.poets_syntax.proofs.StudiedMarks.{AreRight-studied}
-use Rattle.poets_call.specs.declared.call.Command.{Command}
-use Rattle.poets_call.specs.declared.rules.Rules.{Rules}
-use Rattle.poets_call.specs.Rules.{book_of_rules, reports_of_rules}
-use Rattle.poets_call.specs.Plain.{Reply, Entry}
-use Rattle.poets_call.specs.Calls.{Call, command_of}
-use Rattle.poets_call.specs.Histories.{IsLegal, RepliesIn, AnswersIn}
-use Rattle.poets_call.specs.Ledger.{ledger_of, empty_ledger}
-use Rattle.poets_call.specs.Replies.{Legal}
-use Rattle.poets_call.specs.Plain as plain
-use Rattle.poets_call.proofs.Histories.{ledger_last, calls_last}
-use Rattle.poets_call.proofs.OneFrames.{one_frame}
+use Rattle.poets_meaning.specs.Studied.{IsStudiedBook}
+use Rattle.poets_meaning.proofs.StudiedMarks.{AreRight-studied}
+use Rattle.poets_command.specs.declared.call.Command.{Command}
+use Rattle.poets_command.specs.Plain.{Reply, Entry}
+use Rattle.poets_command.specs.Calls.{Call, command_of}
+use Rattle.poets_command.specs.Plain as plain
+use Rattle.poets_rules.specs.declared.rules.Rules.{Rules}
+use Rattle.poets_rules.specs.Rules.{book_of_rules, reports_of_rules}
+use Rattle.poets_history.specs.Histories.{IsLegal, RepliesIn, AnswersIn}
+use Rattle.poets_history.specs.Ledger.{ledger_of, empty_ledger}
+use Rattle.poets_history.specs.Replies.{Legal}
+use Rattle.poets_history.proofs.Histories.{ledger_last, calls_last}
+use Rattle.poets_history.proofs.OneFrames.{one_frame}
 use Rattle.poets_engine.specs.Store.{StoreView}
 use Rattle.poets_engine.specs.State.{commands_of, plain_calls}
 use Rattle.poets_engine.specs.Rows.{IsLedger, RowsAre, WatchIs, Stands}

@@ -6,11 +6,11 @@ use Rattle.std.proofs.lemmas.Bool.{eqb-true, eq-eqb}
 use Rattle.std.proofs.lemmas.Grind.{common_steps}
 use Rattle.poets_value.specs.declared.value.Name.{Name}
 use Rattle.poets_syntax.specs.Contract.{Contract, contract_of}
-use Rattle.poets_syntax.specs.Studied.{StudiedBook}
 use Rattle.poets_syntax.specs.declared.term.Term.{Term}
+use Rattle.poets_meaning.specs.Studied.{StudiedBook}
 use Rattle.poets_cons.specs.declared.node.Node.{Node}
 use Rattle.poets_table.specs.TableView.{RowView}
-use Rattle.poets_call.specs.Ledger.{Ledger, contract_from}
+use Rattle.poets_history.specs.Ledger.{Ledger, contract_from}
 use Rattle.poets_engine.specs.Rows.{RowIs, RowsAre}
 
 pub truth : (b : Bool) → (b ≡ true) ⊎ (b ≡ false)

@@ -7,11 +7,11 @@ use Rattle.poets_syntax.specs.Contract.{Contract, Failure}
 use Rattle.poets_syntax.specs.WellFormed.{IsWellFormed, IsDeclaredEvent}
 use Rattle.poets_syntax.specs.Applied.{CountsFit}
 use Rattle.poets_syntax.specs.Plain.{Book}
-use Rattle.poets_syntax.specs.Normal.{normal}
-use Rattle.poets_syntax.specs.Marks.{Marks, Hopeful}
-use Rattle.poets_syntax.specs.May.{May}
-use Rattle.poets_syntax.specs.Perf.{Perf}
-use Rattle.poets_syntax.specs.Residual.{residual_after}
+use Rattle.poets_meaning.specs.Marks.{Marks, Hopeful}
+use Rattle.poets_meaning.specs.May.{May}
+use Rattle.poets_meaning.specs.Perf.{Perf}
+use Rattle.poets_calculus.specs.Normal.{normal}
+use Rattle.poets_calculus.specs.Residual.{residual_after}
 use Rattle.poets_norm.proofs.Meaning.{normal_in, normal_out}
 use Rattle.poets_norm.proofs.Hope.{IsFailureOrHopeful-normal, failure_is_hopeless, hopeful_unless_failure}
 use Rattle.poets_residue.specs.Unfolding.{IsStudied}

@@ -3,11 +3,11 @@ use Rattle.std.proofs.Common.{◌≡◌, ℕ, ◌+◌, ◌-◌, ◌≤◌, List,
 use Rattle.std.proofs.lemmas.List.{take-append-drop}
 use Rattle.poets_value.specs.declared.event.Event.{Event}
 use Rattle.poets_syntax.specs.Contract.{Contract}
-use Rattle.poets_syntax.specs.Studied.{StudiedBook}
+use Rattle.poets_meaning.specs.Studied.{StudiedBook}
 use Rattle.poets_cons.specs.declared.node.Node.{Node}
 use Rattle.poets_cons.specs.Table.{contract_of_rows}
 use Rattle.poets_table.specs.Pieces.{joined}
-use Rattle.poets_call.specs.Plain.{Reply}
+use Rattle.poets_command.specs.Plain.{Reply}
 use Rattle.poets_engine.specs.code.Judgements.{Refused, Owed}
 use Rattle.poets_engine.specs.code.Renewals.{HaveFirst, ArePoints, by_event, by_events, asked_along, residual_from}
 use Rattle.poets_engine.proofs.Points.{between, between-more, between-none, joined-append, points-last}

@@ -8,9 +8,9 @@ use Rattle.std.proofs.lemmas.Bool.{le-ltb}
 use Rattle.poets_value.specs.declared.event.Event.{Event}
 use Rattle.poets_syntax.specs.Book.{book_of}
 use Rattle.poets_syntax.specs.Contract.{Contract, contract_of}
-use Rattle.poets_syntax.specs.Normal.{normal}
-use Rattle.poets_syntax.specs.Studied.{StudiedBook, marks_of}
 use Rattle.poets_syntax.specs.declared.term.Term.{Term}
+use Rattle.poets_meaning.specs.Studied.{StudiedBook, marks_of}
+use Rattle.poets_calculus.specs.Normal.{normal}
 use Rattle.poets_cons.specs.declared.node.Node.{Node}
 use Rattle.poets_cons.specs.Table.{contract_of_rows}
 use Rattle.poets_table.specs.Pieces.{AreNear, AreStarts, joined, starts_from, starts_without}

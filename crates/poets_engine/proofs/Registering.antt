@@ -8,21 +8,21 @@ use Rattle.poets_syntax.specs.declared.term.Term.{Term}
 use Rattle.poets_syntax.specs.WellFormed.{IsWellFormed}
 use Rattle.poets_syntax.specs.Whole.{IsWholeContract}
 use Rattle.poets_syntax.specs.Applied.{CountsFit}
-use Rattle.poets_syntax.specs.Studied.{marks_of}
-use Rattle.poets_syntax.specs.Marks.{Hopeful}
-use Rattle.poets_syntax.specs.Normal.{normal}
+use Rattle.poets_meaning.specs.Studied.{marks_of}
+use Rattle.poets_meaning.specs.Marks.{Hopeful}
+use Rattle.poets_calculus.specs.Normal.{normal}
 use Rattle.std.proofs.lemmas.Bool.{false≢true}
 use Rattle.poets_residue.specs.Limits.{is_past_limit_in}
 use Rattle.poets_cons.specs.declared.node.Node.{Node}
 use Rattle.poets_cons.specs.Table.{contract_of_rows}
 use Rattle.poets_table.specs.TableView.{new_row, number_named}
-use Rattle.poets_call.specs.declared.rules.Rules.{Rules}
-use Rattle.poets_call.specs.Rules.{book_of_rules, reports_of_rules}
-use Rattle.poets_call.specs.Plain.{Command, Reply}
-use Rattle.poets_call.specs.Ledger.{Ledger, contract_named}
-use Rattle.poets_call.specs.Replies.{Replies}
-use Rattle.poets_call.specs.Taken.{IsTaken}
-use Rattle.poets_call.proofs.TypedCommands.{typed_registration}
+use Rattle.poets_command.specs.Plain.{Command, Reply}
+use Rattle.poets_command.specs.Taken.{IsTaken}
+use Rattle.poets_command.proofs.TypedCommands.{typed_registration}
+use Rattle.poets_rules.specs.declared.rules.Rules.{Rules}
+use Rattle.poets_rules.specs.Rules.{book_of_rules, reports_of_rules}
+use Rattle.poets_history.specs.Ledger.{Ledger, contract_named}
+use Rattle.poets_history.specs.Replies.{Replies}
 use Rattle.poets_engine.specs.Store.{StoreView}
 use Rattle.poets_engine.specs.code.Changes.{AddsRow}
 use Rattle.poets_engine.specs.Rows.{IsLedger, RowsAre, RowIs}

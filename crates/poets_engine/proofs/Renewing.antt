@@ -6,11 +6,11 @@ use Rattle.std.proofs.lemmas.List.Sums.{fold-append}
 use Rattle.poets_value.specs.declared.event.Event.{Event}
 use Rattle.poets_syntax.specs.Book.{book_of}
 use Rattle.poets_syntax.specs.Contract.{Contract, Failure}
-use Rattle.poets_syntax.specs.Residual.{after}
-use Rattle.poets_syntax.specs.Studied.{StudiedBook, marks_of}
+use Rattle.poets_meaning.specs.Studied.{StudiedBook, marks_of}
+use Rattle.poets_calculus.specs.Residual.{after}
 use Rattle.poets_residue.specs.Limits.{is_past_limit_in}
 use Rattle.poets_residue.proofs.Kept.{after_at-failure}
-use Rattle.poets_call.specs.Plain.{Reply}
+use Rattle.poets_command.specs.Plain.{Reply}
 use Rattle.poets_engine.specs.Evaluations.{asked_in, sum_from}
 use Rattle.poets_engine.specs.code.Judgements.{Judgement, Refused, Owed, is_failure, judge, judged}
 use Rattle.poets_engine.specs.code.Renewals.{residual_from, by_event, by_events, asked_along}

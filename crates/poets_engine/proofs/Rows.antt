@@ -18,15 +18,15 @@ use Rattle.poets_syntax.specs.Contract.{Contract, contract_of}
 use Rattle.poets_syntax.specs.Applied.{CountsFit}
 use Rattle.poets_syntax.specs.Plain.{Book}
 use Rattle.poets_syntax.specs.Book.{book_of}
-use Rattle.poets_syntax.specs.Studied.{StudiedBook, marks_of}
 use Rattle.poets_syntax.specs.declared.term.Term.{Term}
 use Rattle.poets_syntax.specs.WellFormed.{IsWellFormed, IsDeclaredEvent}
+use Rattle.poets_meaning.specs.Studied.{StudiedBook, marks_of}
 use Rattle.poets_value.specs.Whole.{IsWholeEvent}
 use Rattle.poets_syntax.specs.Whole.{IsWholeContract}
 use Rattle.poets_norm.proofs.WholeNormals.{IsWhole-normal}
-use Rattle.poets_syntax.specs.Marks.{Hopeful}
-use Rattle.poets_syntax.specs.Residual.{after}
-use Rattle.poets_syntax.specs.Normal.{normal}
+use Rattle.poets_meaning.specs.Marks.{Hopeful}
+use Rattle.poets_calculus.specs.Residual.{after}
+use Rattle.poets_calculus.specs.Normal.{normal}
 use Rattle.poets_residue.specs.Limits.{is_past_limit_in}
 use Rattle.poets_residue.specs.Unfolding.{IsStudied}
 use Rattle.poets_residue.proofs.Traces.{residual_after-more, trace_fit}
@@ -34,7 +34,7 @@ use Rattle.poets_cons.specs.declared.node.Node.{Node}
 use Rattle.poets_cons.specs.Table.{contract_of_rows}
 use Rattle.poets_table.specs.Pieces.{is_full}
 use Rattle.poets_table.specs.TableView.{RowView, HasStarts, changed_at, with_event, with_piece, with_room, finished, new_row}
-use Rattle.poets_call.specs.Ledger.{Ledger, trace, is_ended, late_day, if_after}
+use Rattle.poets_history.specs.Ledger.{Ledger, trace, is_ended, late_day, if_after}
 use Rattle.poets_engine.specs.Rows.{NeverFall, RowIs, RowsAre, owed_after}
 use Rattle.poets_engine.specs.code.Judgements.{IsKept, AreKept}
 use Rattle.poets_engine.proofs.Named.{truth, named}

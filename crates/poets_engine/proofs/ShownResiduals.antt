@@ -8,24 +8,24 @@ use Rattle.poets_expr.specs.Env.{same_name}
 use Rattle.poets_syntax.specs.Applied.{CountsFit}
 use Rattle.poets_syntax.specs.Plain.{Book}
 use Rattle.poets_syntax.specs.Contract.{Contract}
-use Rattle.poets_syntax.specs.Perf.{Perf}
-use Rattle.poets_syntax.specs.Residual.{residual_after}
-use Rattle.poets_syntax.specs.Studied.{marks_in}
 use Rattle.poets_syntax.specs.WellFormed.{IsWellFormed, IsDeclaredEvent}
-use Rattle.poets_syntax.proofs.StudiedMarks.{AreRight-studied}
+use Rattle.poets_meaning.specs.Perf.{Perf}
+use Rattle.poets_meaning.specs.Studied.{marks_in}
+use Rattle.poets_meaning.proofs.StudiedMarks.{AreRight-studied}
+use Rattle.poets_calculus.specs.Residual.{residual_after}
 use Rattle.poets_residue.proofs.Studies.{IsStudied-book}
 use Rattle.poets_residue.proofs.Traces.{trace_performed}
 use Rattle.poets_report.specs.Plain.{Report}
-use Rattle.poets_call.specs.Plain.{Command, Reply, Entry}
-use Rattle.poets_call.specs.Frame.{Frame}
-use Rattle.poets_call.specs.Histories.{shown}
+use Rattle.poets_command.specs.Plain.{Command, Reply, Entry}
+use Rattle.poets_history.specs.Frame.{Frame}
+use Rattle.poets_history.specs.Histories.{shown}
 use Rattle.poets_value.specs.declared.event.Event.{Event}
-use Rattle.poets_call.specs.Ledger.{Ledger, ledger_of, number_of, without, empty_ledger, with_entry, contract_from, contract_named, trace}
-use Rattle.poets_call.specs.Replies.{Legal, Replies}
-use Rattle.poets_call.specs.Typing.{IsTypedCommand}
-use Rattle.poets_call.proofs.Histories.{legal_reply}
-use Rattle.poets_call.proofs.OneFrames.{one_frame}
-use Rattle.poets_call.proofs.TypedCommands.{typed_registration, typed_event}
+use Rattle.poets_command.specs.Typing.{IsTypedCommand}
+use Rattle.poets_command.proofs.TypedCommands.{typed_registration, typed_event}
+use Rattle.poets_history.specs.Ledger.{Ledger, ledger_of, number_of, without, empty_ledger, with_entry, contract_from, contract_named, trace}
+use Rattle.poets_history.specs.Replies.{Legal, Replies}
+use Rattle.poets_history.proofs.Histories.{legal_reply}
+use Rattle.poets_history.proofs.OneFrames.{one_frame}
 use Rattle.poets_engine.specs.Laws.{LegalHistoriesShow}
 
 -- a chosen value is the first or the later one

@@ -5,25 +5,25 @@ use Rattle.std.specs.List.{position}
 use Rattle.poets_value.specs.declared.value.Name.{Name}
 use Rattle.poets_syntax.specs.Contract.{Contract, contract_of}
 use Rattle.poets_syntax.specs.declared.term.Term.{Term}
-use Rattle.poets_syntax.specs.Marks.{AreRight}
-use Rattle.poets_syntax.specs.Perf.{Perf}
-use Rattle.poets_syntax.specs.Studied.{StudiedBook, marks_of}
-use Rattle.poets_syntax.proofs.StudiedMarks.{AreRight-studied}
+use Rattle.poets_meaning.specs.Marks.{AreRight}
+use Rattle.poets_meaning.specs.Perf.{Perf}
+use Rattle.poets_meaning.specs.Studied.{StudiedBook, marks_of}
+use Rattle.poets_meaning.proofs.StudiedMarks.{AreRight-studied}
 use Rattle.poets_residue.specs.Unfolding.{IsStudied}
 use Rattle.poets_residue.proofs.Studies.{IsStudied-book}
 use Rattle.poets_cons.specs.declared.node.Node.{Node}
 use Rattle.poets_cons.specs.Table.{contract_of_rows}
 use Rattle.poets_table.specs.TableView.{RowView, number_named}
-use Rattle.poets_call.specs.declared.rules.Rules.{Rules}
-use Rattle.poets_call.specs.Rules.{book_of_rules, reports_of_rules}
-use Rattle.poets_call.specs.Plain.{Command, Reply}
-use Rattle.poets_call.specs.Ledger.{Ledger, with_entry, contract_named, contract_from, trace}
-use Rattle.poets_call.specs.Frame.{Frame}
-use Rattle.poets_call.specs.Histories.{RepliesIn}
-use Rattle.poets_call.specs.Replies.{Replies, IsOpen}
+use Rattle.poets_command.specs.Plain.{Command, Reply}
+use Rattle.poets_rules.specs.declared.rules.Rules.{Rules}
+use Rattle.poets_rules.specs.Rules.{book_of_rules, reports_of_rules}
+use Rattle.poets_history.specs.Ledger.{Ledger, with_entry, contract_named, contract_from, trace}
+use Rattle.poets_history.specs.Frame.{Frame}
+use Rattle.poets_history.specs.Histories.{RepliesIn}
+use Rattle.poets_history.specs.Replies.{Replies, IsOpen}
 use Rattle.poets_engine.specs.Store.{StoreView}
 use Rattle.poets_engine.specs.Rows.{IsLedger, RowIs}
-use Rattle.poets_call.specs.Ledger.{is_accepted}
+use Rattle.poets_history.specs.Ledger.{is_accepted}
 use Rattle.poets_engine.specs.code.Makes.{Makes}
 use Rattle.poets_engine.proofs.Named.{has_name, contract_from-none, contract_from-found, contract_from-some, row_is}
 use Rattle.poets_engine.proofs.Owed.{residual_performed}

@@ -13,11 +13,12 @@ use Rattle.poets_report.specs.Plain.{Answer}
 use Rattle.poets_report.specs.Answers.{IsAnswer}
 use Rattle.poets_report.specs.Plain as plain
 use Rattle.poets_live.specs.Watching.{WatchView, Follows}
-use Rattle.poets_call.specs.declared.rules.Rules.{Rules}
-use Rattle.poets_call.specs.Rules.{book_of_rules, reports_of_rules}
-use Rattle.poets_call.specs.Plain.{Command, Reply}
-use Rattle.poets_call.specs.Ledger.{Ledger, events, watch_at}
-use Rattle.poets_call.specs.Replies.{Replies, report_in}
+use Rattle.poets_command.specs.Plain.{Command, Reply}
+use Rattle.poets_command.specs.Reports.{report_in}
+use Rattle.poets_rules.specs.declared.rules.Rules.{Rules}
+use Rattle.poets_rules.specs.Rules.{book_of_rules, reports_of_rules}
+use Rattle.poets_history.specs.Ledger.{Ledger, events, watch_at}
+use Rattle.poets_history.specs.Replies.{Replies}
 use Rattle.poets_engine.specs.Store.{StoreView}
 use Rattle.poets_engine.specs.code.Changes.{AddsWatch}
 use Rattle.poets_engine.specs.Rows.{RowsAre, WatchIs}

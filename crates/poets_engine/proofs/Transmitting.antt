@@ -7,13 +7,13 @@ use Rattle.poets_value.specs.declared.value.Name.{Name}
 use Rattle.poets_value.specs.declared.event.Event.{Event}
 use Rattle.poets_syntax.specs.Contract.{Contract, contract_of}
 use Rattle.poets_syntax.specs.declared.term.Term.{Term}
-use Rattle.poets_syntax.specs.Perf.{Perf}
-use Rattle.poets_syntax.specs.Marks.{Hopeful}
-use Rattle.poets_syntax.specs.May.{May}
 use Rattle.poets_syntax.specs.WellFormed.{IsDeclaredEvent}
 use Rattle.poets_syntax.specs.Whole.{IsWholeContract}
-use Rattle.poets_syntax.specs.Studied.{marks_of}
-use Rattle.poets_syntax.specs.Residual.{after, residual_after}
+use Rattle.poets_meaning.specs.Perf.{Perf}
+use Rattle.poets_meaning.specs.Marks.{Hopeful}
+use Rattle.poets_meaning.specs.May.{May}
+use Rattle.poets_meaning.specs.Studied.{marks_of}
+use Rattle.poets_calculus.specs.Residual.{after, residual_after}
 use Rattle.std.proofs.lemmas.Bool.{false≢true}
 use Rattle.poets_residue.specs.Limits.{is_past_limit_in}
 use Rattle.poets_residue.proofs.WholeResiduals.{IsWhole-after_at}
@@ -21,13 +21,13 @@ use Rattle.poets_residue.proofs.Traces.{residual_after-more}
 use Rattle.poets_cons.specs.declared.node.Node.{Node}
 use Rattle.poets_cons.specs.Table.{contract_of_rows}
 use Rattle.poets_table.specs.TableView.{RowView, changed_at, with_event, with_room, number_named}
-use Rattle.poets_call.specs.declared.rules.Rules.{Rules}
-use Rattle.poets_call.specs.Rules.{book_of_rules, reports_of_rules}
-use Rattle.poets_call.specs.Plain.{Command, Reply}
-use Rattle.poets_call.specs.Ledger.{Ledger, contract_named, number_in, trace, is_ended, late_day}
-use Rattle.poets_call.specs.Replies.{Replies, IsOpenTo, CanGoOn, IsTooLarge, TellsWhetherPerformed, trace_with}
-use Rattle.poets_call.specs.Taken.{IsTaken}
-use Rattle.poets_call.proofs.TypedCommands.{typed_event}
+use Rattle.poets_command.specs.Plain.{Command, Reply}
+use Rattle.poets_command.specs.Taken.{IsTaken}
+use Rattle.poets_command.proofs.TypedCommands.{typed_event}
+use Rattle.poets_rules.specs.declared.rules.Rules.{Rules}
+use Rattle.poets_rules.specs.Rules.{book_of_rules, reports_of_rules}
+use Rattle.poets_history.specs.Ledger.{Ledger, contract_named, number_in, trace, is_ended, late_day}
+use Rattle.poets_history.specs.Replies.{Replies, IsOpenTo, CanGoOn, IsTooLarge, TellsWhetherPerformed, trace_with}
 use Rattle.poets_engine.specs.Store.{StoreView}
 use Rattle.poets_engine.specs.code.Changes.{RecordsEvent}
 use Rattle.poets_engine.specs.Rows.{IsLedger, RowsAre}

@@ -9,9 +9,9 @@ use Rattle.poets_live.specs.declared.watch.Move.{Move}
 use Rattle.poets_live.specs.declared.watch.Move.TheVariants as M
 use Rattle.poets_report.specs.Reports.{report_of}
 use Rattle.poets_live.specs.Watching.{WatchView, Follows, AllBrought, Leads, AllLead, Moved, AllMoved}
-use Rattle.poets_call.specs.declared.rules.Rules.{Rules}
-use Rattle.poets_call.specs.Rules.{book_of_rules}
-use Rattle.poets_call.specs.Ledger.{Ledger, events}
+use Rattle.poets_rules.specs.declared.rules.Rules.{Rules}
+use Rattle.poets_rules.specs.Rules.{book_of_rules}
+use Rattle.poets_history.specs.Ledger.{Ledger, events}
 use Rattle.poets_engine.specs.Store.{StoreView}
 use Rattle.poets_engine.specs.Rows.{WatchIs}
 use Rattle.poets_engine.proofs.Rows.{with_log}

@@ -23,12 +23,12 @@ use Rattle.poets_residue.proofs.Traces.{trace_fit}
 use Rattle.poets_syntax.specs.Book.{book_of}
 use Rattle.poets_syntax.specs.Contract.{Contract, Failure, contract_of}
 use Rattle.poets_syntax.specs.declared.term.Term.{Term}
-use Rattle.poets_syntax.specs.Marks.{Hopeful}
-use Rattle.poets_syntax.specs.Normal.{normal}
-use Rattle.poets_syntax.specs.Perf.{Perf}
-use Rattle.poets_syntax.specs.Studied.{marks_of}
 use Rattle.poets_syntax.specs.WellFormed.{IsDeclaredEvent}
 use Rattle.poets_syntax.specs.Whole.{IsWholeContract}
+use Rattle.poets_meaning.specs.Marks.{Hopeful}
+use Rattle.poets_meaning.specs.Perf.{Perf}
+use Rattle.poets_meaning.specs.Studied.{marks_of}
+use Rattle.poets_calculus.specs.Normal.{normal}
 use Rattle.poets_residue.specs.Limits.{is_past_limit_in}
 use Rattle.poets_residue.proofs.WholeResiduals.{trace_whole}
 use Rattle.poets_cons.specs.declared.node.Node.{Node}
@@ -37,11 +37,11 @@ use Rattle.poets_table.specs.Pieces.{IsPieceOf, joined, starts_from, starts_of, 
 use Rattle.poets_table.specs.TableView.{RowView, CutView, values_of, IsRowCut, changed_at, events_with, number_named, place_in_log, without_event}
 use Rattle.poets_table.proofs.Logs.{IsLess, less-at-place}
 use Rattle.poets_table.proofs.Starts.{cut-starts}
-use Rattle.poets_call.specs.declared.rules.Rules.{Rules}
-use Rattle.poets_call.specs.Rules.{book_of_rules}
-use Rattle.poets_call.specs.Plain.{Command, Reply}
-use Rattle.poets_call.specs.Ledger.{Ledger, number_in, number_of, trace, without}
-use Rattle.poets_call.specs.Replies.{Replies, IsOpenAt, HasPlace, CanGoOn, GrowsTooLarge, TellsWhetherPerformed, trace_without}
+use Rattle.poets_command.specs.Plain.{Command, Reply}
+use Rattle.poets_rules.specs.declared.rules.Rules.{Rules}
+use Rattle.poets_rules.specs.Rules.{book_of_rules}
+use Rattle.poets_history.specs.Ledger.{Ledger, number_in, number_of, trace, without}
+use Rattle.poets_history.specs.Replies.{Replies, IsOpenAt, HasPlace, CanGoOn, GrowsTooLarge, TellsWhetherPerformed, trace_without}
 use Rattle.poets_live.specs.Watching.{AllLead}
 use Rattle.poets_engine.specs.Store.{StoreView}
 use Rattle.poets_engine.specs.Rows.{IsLedger, NeverFall, RowIs, RowsAre, owed_after}
@@ -53,7 +53,7 @@ use Rattle.poets_engine.specs.code.Renewals.{FitsAt, HaveFirst, asked_along, by_
 use Rattle.poets_engine.specs.code.Withdrawals.{IsKeptStore, place_from_nought}
 use Rattle.poets_norm.proofs.Hope.{failure_is_hopeless}
 use Rattle.poets_residue.specs.Unfolding.{IsStudied}
-use Rattle.poets_syntax.specs.Studied.{StudiedBook}
+use Rattle.poets_meaning.specs.Studied.{StudiedBook}
 use Rattle.poets_engine.proofs.Named.{truth, named}
 use Rattle.poets_engine.proofs.Owed.{residual_hopeless, residual_hopeful, residual_kept, residual_performed}
 use Rattle.poets_engine.proofs.Points.{front_points, later_points, joined-append, starts_from-append, start_is, take-starts_from, take-remove, take-both, start_stays}

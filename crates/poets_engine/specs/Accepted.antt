@@ -1,7 +1,7 @@
 -- The bodies after which something changed.
 use Rattle.std.specs.Prelude.{Bool, false}
-use Rattle.poets_call.specs.Ledger.{is_accepted}
-use Rattle.poets_call.specs.Calls.{reply_of}
+use Rattle.poets_command.specs.Calls.{reply_of}
+use Rattle.poets_history.specs.Ledger.{is_accepted}
 use Rattle.poets_engine.specs.declared.kept.Body.{Body}
 use Rattle.poets_engine.specs.declared.kept.Body.TheVariants.{Done, Folio}
 

@@ -4,14 +4,14 @@ use Rattle.poets_value.specs.declared.value.Name.{Name}
 use Rattle.poets_syntax.specs.Applied.{CountsFit}
 use Rattle.poets_syntax.specs.Book.{book_of}
 use Rattle.poets_syntax.specs.Contract.{Contract, contract_of}
-use Rattle.poets_syntax.specs.Residual.{residual_after}
-use Rattle.poets_syntax.specs.Studied.{StudiedBook, marks_of}
 use Rattle.poets_syntax.specs.WellFormed.{IsWellFormed, IsDeclaredEvent}
-use Rattle.poets_call.specs.Calls.{calls_of}
-use Rattle.poets_call.specs.Histories.{IsLegal}
-use Rattle.poets_call.specs.Ledger.{Ledger, ledger_of, contract_named, trace, is_ended}
-use Rattle.poets_call.specs.Plain.{Entry}
-use Rattle.poets_call.specs.Rules.{book_of_rules, reports_of_rules}
+use Rattle.poets_meaning.specs.Studied.{StudiedBook, marks_of}
+use Rattle.poets_calculus.specs.Residual.{residual_after}
+use Rattle.poets_command.specs.Calls.{calls_of}
+use Rattle.poets_command.specs.Plain.{Entry}
+use Rattle.poets_rules.specs.Rules.{book_of_rules, reports_of_rules}
+use Rattle.poets_history.specs.Histories.{IsLegal}
+use Rattle.poets_history.specs.Ledger.{Ledger, ledger_of, contract_named, trace, is_ended}
 use Rattle.poets_engine.specs.State.{State, plain_calls}
 use Rattle.poets_engine.specs.declared.accounts.Account.{Account}
 

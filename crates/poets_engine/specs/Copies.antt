@@ -8,9 +8,9 @@ use Rattle.poets_expr.specs.Env.{declared_of}
 use Rattle.poets_report.specs.declared.report.Report.{Report}
 use Rattle.poets_report.specs.Reports.{report_of}
 use Rattle.poets_report.specs.Plain as plain
-use Rattle.poets_call.specs.declared.rules.Rules.{Rules}
-use Rattle.poets_call.specs.Rules.{book_of_rules, reports_of_rules}
-use Rattle.poets_call.specs.Replies.{report_in}
+use Rattle.poets_command.specs.Reports.{report_in}
+use Rattle.poets_rules.specs.declared.rules.Rules.{Rules}
+use Rattle.poets_rules.specs.Rules.{book_of_rules, reports_of_rules}
 use Rattle.poets_engine.specs.declared.copies.Copies.{Copies}
 
 -- the report that the name has among reports

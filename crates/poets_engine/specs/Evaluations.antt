@@ -7,18 +7,18 @@ use Rattle.std.specs.Arc.{arc_value}
 use Rattle.poets_value.specs.declared.value.Name.{Name}
 use Rattle.poets_syntax.specs.declared.term.Term.{Term}
 use Rattle.poets_syntax.specs.Contract.{Contract}
-use Rattle.poets_syntax.specs.InStudied.{width_in}
-use Rattle.poets_syntax.specs.Studied.{StudiedBook}
-use Rattle.poets_syntax.specs.Width.{size}
+use Rattle.poets_meaning.specs.InStudied.{width_in}
+use Rattle.poets_meaning.specs.Studied.{StudiedBook}
+use Rattle.poets_meaning.specs.Width.{size}
 use Rattle.poets_cons.specs.declared.node.Node.{Node}
 use Rattle.poets_cons.specs.Table.{contract_of_rows}
 use Rattle.poets_residue.specs.Once.{once_in}
 use Rattle.poets_table.specs.TableView.{RowView, number_named, place_in_log}
 use Rattle.poets_live.specs.Watching.{asked_without}
-use Rattle.poets_call.specs.declared.call.Command.{Command as CodeCommand}
-use Rattle.poets_call.specs.declared.rules.Rules.{Rules}
-use Rattle.poets_call.specs.Calls.{command_of}
-use Rattle.poets_call.specs.Plain.{Command}
+use Rattle.poets_command.specs.declared.call.Command.{Command as CodeCommand}
+use Rattle.poets_command.specs.Calls.{command_of}
+use Rattle.poets_command.specs.Plain.{Command}
+use Rattle.poets_rules.specs.declared.rules.Rules.{Rules}
 use Rattle.poets_engine.specs.Rows.{owed_after}
 use Rattle.poets_engine.specs.State.{State}
 use Rattle.poets_engine.specs.Store.{StoreView}

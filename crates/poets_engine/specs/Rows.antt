@@ -10,24 +10,24 @@ use Rattle.poets_syntax.specs.Contract.{Contract, contract_of}
 use Rattle.poets_syntax.specs.declared.term.Term.{Term}
 use Rattle.poets_syntax.specs.Applied.{CountsFit}
 use Rattle.poets_syntax.specs.Book.{book_of}
-use Rattle.poets_syntax.specs.Studied.{StudiedBook, IsStudiedBook, marks_of}
 use Rattle.poets_syntax.specs.WellFormed.{IsWellFormed, IsDeclaredEvent}
 use Rattle.poets_syntax.specs.Whole.{IsWholeContract, IsWholeBook}
-use Rattle.poets_syntax.specs.Marks.{Hopeful}
-use Rattle.poets_syntax.specs.Residual.{residual_after}
+use Rattle.poets_meaning.specs.Studied.{StudiedBook, IsStudiedBook, marks_of}
+use Rattle.poets_meaning.specs.Marks.{Hopeful}
+use Rattle.poets_calculus.specs.Residual.{residual_after}
 use Rattle.poets_cons.specs.declared.node.Node.{Node}
 use Rattle.poets_cons.specs.Table.{contract_of_rows}
 use Rattle.poets_residue.specs.Limits.{is_past_limit_in}
 use Rattle.poets_report.specs.Reports.{report_of}
 use Rattle.poets_table.specs.TableView.{RowView, HasStarts}
 use Rattle.poets_live.specs.Watching.{WatchView, Follows}
-use Rattle.poets_call.specs.declared.rules.Rules.{Rules}
-use Rattle.poets_call.specs.Rules.{book_of_rules, reports_of_rules}
-use Rattle.poets_call.specs.Plain.{Entry}
-use Rattle.poets_call.specs.Calls.{Call, calls_of}
-use Rattle.poets_call.specs.Ledger.{Ledger, ledger_of, events, trace, is_ended}
-use Rattle.poets_call.specs.Replies.{report_in}
-use Rattle.poets_call.specs.Histories.{IsLegal}
+use Rattle.poets_command.specs.Plain.{Entry}
+use Rattle.poets_command.specs.Calls.{Call, calls_of}
+use Rattle.poets_command.specs.Reports.{report_in}
+use Rattle.poets_rules.specs.declared.rules.Rules.{Rules}
+use Rattle.poets_rules.specs.Rules.{book_of_rules, reports_of_rules}
+use Rattle.poets_history.specs.Ledger.{Ledger, ledger_of, events, trace, is_ended}
+use Rattle.poets_history.specs.Histories.{IsLegal}
 use Rattle.poets_engine.specs.Store.{StoreView}
 
 -- the days of the events do not fall

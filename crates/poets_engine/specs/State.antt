@@ -5,14 +5,14 @@ use Rattle.std.specs.declared.sync.Arc.{Arc}
 use Rattle.std.specs.Arc.{arc_value}
 use Rattle.poets_syntax.specs.Plain.{Book}
 use Rattle.poets_report.specs.Plain.{Report}
-use Rattle.poets_call.specs.declared.call.Command.{Command}
-use Rattle.poets_call.specs.declared.rules.Rules.{Rules}
-use Rattle.poets_call.specs.Rules.{book_of_rules, reports_of_rules}
-use Rattle.poets_call.specs.Calls.{Call, calls_of, command_of}
-use Rattle.poets_call.specs.Plain.{Reply}
-use Rattle.poets_call.specs.Histories.{AnswersIn, IsLegal}
-use Rattle.poets_call.specs.Ledger.{ledger_of}
-use Rattle.poets_call.specs.Plain as plain
+use Rattle.poets_command.specs.declared.call.Command.{Command}
+use Rattle.poets_command.specs.Calls.{Call, calls_of, command_of}
+use Rattle.poets_command.specs.Plain.{Reply}
+use Rattle.poets_command.specs.Plain as plain
+use Rattle.poets_rules.specs.declared.rules.Rules.{Rules}
+use Rattle.poets_rules.specs.Rules.{book_of_rules, reports_of_rules}
+use Rattle.poets_history.specs.Histories.{AnswersIn, IsLegal}
+use Rattle.poets_history.specs.Ledger.{ledger_of}
 use Rattle.poets_engine.specs.Accepted.{has_changed}
 use Rattle.poets_engine.specs.Works.{OwesReply}
 use Rattle.poets_engine.specs.Store.{StoreView}

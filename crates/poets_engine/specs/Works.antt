@@ -11,11 +11,11 @@ use Rattle.poets_report.specs.Plain.{Report}
 use Rattle.poets_report.specs.Reports.{report_of}
 use Rattle.poets_table.specs.Pieces.{joined}
 use Rattle.poets_folio.specs.declared.folio.Part.{Part}
-use Rattle.poets_call.specs.Plain.{Entry, Command}
-use Rattle.poets_call.specs.Calls.{Call, calls_of, reply_of}
-use Rattle.poets_call.specs.Histories.{IsLegal, AnswersIn}
-use Rattle.poets_call.specs.Ledger.{Ledger, ledger_of, first_absent, number_of, trace}
-use Rattle.poets_call.specs.Replies.{report_in}
+use Rattle.poets_command.specs.Plain.{Entry, Command}
+use Rattle.poets_command.specs.Calls.{Call, calls_of, reply_of}
+use Rattle.poets_command.specs.Reports.{report_in}
+use Rattle.poets_history.specs.Histories.{IsLegal, AnswersIn}
+use Rattle.poets_history.specs.Ledger.{Ledger, ledger_of, first_absent, number_of, trace}
 use Rattle.poets_engine.specs.declared.kept.FolioWork.{FolioWork}
 use Rattle.poets_engine.specs.declared.kept.Body.{Body}
 use Rattle.poets_engine.specs.declared.kept.Body.TheVariants.{Done, Folio}

@@ -6,8 +6,8 @@ ghost use Rattle.poets_engine.specs.code.Accounted.{AccountsInStore, IsAccountOf
 ghost use Rattle.poets_engine.specs.code.Withdrawals.{IsKeptStore};
 
 use crate::store::Store;
-use poets_call::Rules;
 use poets_cons::{Rows, to_term};
+use poets_rules::Rules;
 use poets_syntax::{Term, copy};
 use poets_table::{Events, Row};
 use poets_value::{Event, List, Memory, Name, push};

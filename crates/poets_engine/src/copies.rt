@@ -1,14 +1,14 @@
 //! Copies of what portfolios need of the rules.
 ghost use Rattle.std.specs.Prelude.{◌≡◌, Some, IfOk};
 ghost use Rattle.poets_report.specs.Reports.{report_of};
-ghost use Rattle.poets_call.specs.Replies.{report_in};
-ghost use Rattle.poets_call.specs.Rules.{reports_of_rules};
+ghost use Rattle.poets_command.specs.Reports.{report_in};
+ghost use Rattle.poets_rules.specs.Rules.{reports_of_rules};
 ghost use Rattle.poets_engine.specs.Copies.{AreCopies, IsReport};
 ghost use Rattle.poets_engine.specs.code.Found.{AreNamesOf, IsFoundAmong};
 
-use poets_call::Rules;
 use poets_expr::Decls;
 use poets_report::{Report, copy};
+use poets_rules::Rules;
 use poets_value::{List, Memory, Name, push};
 use std::alloc::Global;
 use std::sync::Arc;

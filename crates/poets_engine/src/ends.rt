@@ -1,12 +1,13 @@
 //! Ends of contracts.
-ghost use Rattle.poets_call.specs.Calls.{reply_of};
-ghost use Rattle.poets_call.specs.Plain.{Command};
+ghost use Rattle.poets_command.specs.Calls.{reply_of};
+ghost use Rattle.poets_command.specs.Plain.{Command};
 ghost use Rattle.poets_engine.specs.code.Judgements.{AreKept};
 ghost use Rattle.poets_engine.specs.code.Makes.{Makes};
 
 use crate::store::Store;
-use poets_call::{Reply, Rules};
+use poets_command::Reply;
 use poets_residue::may_end_rows;
+use poets_rules::Rules;
 use poets_value::Name;
 
 /// Ends the contract with a name, where it may end.

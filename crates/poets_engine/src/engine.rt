@@ -2,9 +2,9 @@
 ghost use Rattle.std.specs.Prelude.{◌≡◌, ◌+◌, ◌≤◌, [], IfOk, OnErr};
 ghost use Rattle.std.specs.Arc.{arc_value};
 ghost use Rattle.poets_syntax.specs.Whole.{IsWholeBook};
-ghost use Rattle.poets_call.specs.Calls.{command_of, reply_of};
-ghost use Rattle.poets_call.specs.Histories.{IsLegal};
-ghost use Rattle.poets_call.specs.Rules.{book_of_rules, reports_of_rules};
+ghost use Rattle.poets_command.specs.Calls.{command_of, reply_of};
+ghost use Rattle.poets_rules.specs.Rules.{book_of_rules, reports_of_rules};
+ghost use Rattle.poets_history.specs.Histories.{IsLegal};
 ghost use Rattle.poets_engine.specs.Accounts.{AccountsAfterCalls, HasFormedAccount};
 ghost use Rattle.poets_engine.specs.Evaluations.{most_evaluations_in};
 ghost use Rattle.poets_engine.specs.State.{AddsCall, Fulfils, HasLegalHistory, IsKeptUnlessChanged, OwesNext};
@@ -16,10 +16,11 @@ use crate::copies::Copies;
 use crate::kept::{Body, Kept};
 use crate::steps::step;
 use crate::store::Store;
-use poets_call::{Command, Reply, Rules};
+use poets_command::{Command, Reply};
 use poets_expr::Asks;
+use poets_meaning::Studied;
 use poets_report::Report;
-use poets_syntax::Studied;
+use poets_rules::Rules;
 use poets_value::{List, Memory, Name};
 use std::alloc::Global;
 use std::marker::Model;
@@ -43,7 +44,7 @@ impl Model for Engine {
 
     ghost use Rattle.poets_syntax.specs.contracts.term.Term as t;
     ghost use Rattle.poets_syntax.specs.contracts.term.Book as b;
-    ghost use Rattle.poets_call.specs.contracts.call.Command as c;
+    ghost use Rattle.poets_command.specs.contracts.call.Command as c;
     ghost use Rattle.poets_report.specs.contracts.report.Report as r;
     ghost use Rattle.poets_expr.specs.contracts.expr.Expr as x;
     ghost use Rattle.std.specs.Coded.{codes};

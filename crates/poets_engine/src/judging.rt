@@ -8,11 +8,11 @@ ghost use Rattle.poets_engine.specs.Evaluations.{asked_in};
 ghost use Rattle.poets_engine.specs.code.Judgements.{IsDecisionOn, KeptFits, judge_rows, judgement_of};
 ghost use Rattle.poets_engine.specs.code.Judgements as judgements;
 
-use poets_call::Reply;
+use poets_command::Reply;
 use poets_cons::{Node, Rows};
 use poets_expr::Asks;
+use poets_meaning::Studied;
 use poets_residue::{past_limit, residual_rows};
-use poets_syntax::Studied;
 use poets_value::{Event, Memory};
 use std::alloc::Global;
 use std::sync::Arc;

@@ -4,7 +4,7 @@ ghost use Rattle.std.specs.Arc.{arc_value};
 ghost use Rattle.poets_folio.specs.Rows.{HasTotalOf};
 ghost use Rattle.poets_engine.specs.code.Folios.{HasRowsOfShared};
 
-use poets_call::{Folio, Reply};
+use poets_command::{Folio, Reply};
 use poets_expr::Decls;
 use poets_folio::{Part, portfolio};
 use poets_report::Report;

@@ -1,13 +1,14 @@
 //! Looks at contracts.
 ghost use Rattle.std.specs.Prelude.{IfOk};
-ghost use Rattle.poets_call.specs.Plain.{Command};
+ghost use Rattle.poets_command.specs.Plain.{Command};
 ghost use Rattle.poets_engine.specs.code.Judgements.{AreKept};
 ghost use Rattle.poets_engine.specs.code.Makes.{MakesReply};
 
 use crate::store::Store;
-use poets_call::{Reply, Rules};
+use poets_command::Reply;
 use poets_cons::to_term;
 use poets_residue::may_end_rows;
+use poets_rules::Rules;
 use poets_value::{Memory, Name};
 use std::alloc::Global;
 

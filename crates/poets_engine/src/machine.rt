@@ -1,15 +1,16 @@
 //! The engine as a machine that clerks share.
-ghost use Rattle.poets_call.specs.Calls.{command_of, reply_of};
-ghost use Rattle.poets_call.specs.Histories.{AnswersIn};
-ghost use Rattle.poets_call.specs.Rules.{book_of_rules, reports_of_rules};
-ghost use Rattle.poets_call.specs.Taken.{IsTaken};
+ghost use Rattle.poets_command.specs.Calls.{command_of, reply_of};
+ghost use Rattle.poets_command.specs.Taken.{IsTaken};
+ghost use Rattle.poets_rules.specs.Rules.{book_of_rules, reports_of_rules};
+ghost use Rattle.poets_history.specs.Histories.{AnswersIn};
 ghost use Rattle.poets_engine.specs.State.{Owes, plain_calls};
 
 use crate::engine::Engine;
 use crate::kept::Kept;
-use poets_call::{Command, Reply, Rules};
+use poets_command::{Command, Reply};
 use poets_expr::Asks;
 use poets_machine::Machine;
+use poets_rules::Rules;
 use poets_value::Memory;
 use std::alloc::Global;
 use std::sync::Arc;

@@ -12,10 +12,11 @@ use crate::copies::Copies;
 use crate::kept::{Body, FolioWork};
 use crate::store::Store;
 use crate::tallies::report_called;
-use poets_call::{Reply, Rules};
+use poets_command::Reply;
 use poets_expr::{Asks, Expr};
 use poets_folio::Part;
 use poets_report::argument_values;
+use poets_rules::Rules;
 use poets_value::{List, Memory, Name, push};
 use std::alloc::Global;
 

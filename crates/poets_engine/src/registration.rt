@@ -2,16 +2,17 @@
 ghost use Rattle.std.specs.Prelude.{◌≡◌, ◌+◌, ◌≤◌, IfOk, OnErr};
 ghost use Rattle.std.specs.Arc.{arc_value};
 ghost use Rattle.poets_syntax.specs.Contract.{contract_of};
-ghost use Rattle.poets_syntax.specs.Width.{size};
+ghost use Rattle.poets_meaning.specs.Width.{size};
 ghost use Rattle.poets_engine.specs.Takes.{IsTakenBy};
 ghost use Rattle.poets_engine.specs.code.Commands.{registration_of};
 ghost use Rattle.poets_engine.specs.code.Makes.{MakesReply};
 
 use crate::judging::{Decision, judge};
 use crate::store::Store;
-use poets_call::{Reply, Rules};
+use poets_command::Reply;
 use poets_expr::Asks;
 use poets_norm::normal_rows;
+use poets_rules::Rules;
 use poets_syntax::Term;
 use poets_value::{Memory, Name};
 use std::alloc::Global;

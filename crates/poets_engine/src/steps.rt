@@ -1,6 +1,6 @@
 //! What each command does with what an engine keeps.
 ghost use Rattle.std.specs.Prelude.{◌≡◌, ◌+◌, ◌≤◌, IfOk, OnErr};
-ghost use Rattle.poets_call.specs.Calls.{command_of};
+ghost use Rattle.poets_command.specs.Calls.{command_of};
 ghost use Rattle.poets_engine.specs.Evaluations.{most_evaluations};
 ghost use Rattle.poets_engine.specs.Copies.{AreCopies};
 ghost use Rattle.poets_engine.specs.Takes.{IsTakenBy};
@@ -18,8 +18,9 @@ use crate::tallies::tally;
 use crate::transmission::transmit;
 use crate::watching::{read, watch};
 use crate::withdrawal::void;
-use poets_call::{Command, Rules};
+use poets_command::Command;
 use poets_expr::Asks;
+use poets_rules::Rules;
 use poets_value::Memory;
 use std::alloc::Global;
 

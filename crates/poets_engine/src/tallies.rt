@@ -2,17 +2,18 @@
 ghost use Rattle.std.specs.Prelude.{◌≡◌, ◌+◌, ◌*◌, ◌≤◌, length, map, Some, IfOk};
 ghost use Rattle.poets_expr.specs.Expression.{expression_of};
 ghost use Rattle.poets_report.specs.Reports.{report_of};
-ghost use Rattle.poets_call.specs.Laws.{IsReportOf};
-ghost use Rattle.poets_call.specs.Replies.{report_in};
-ghost use Rattle.poets_call.specs.Rules.{reports_of_rules};
+ghost use Rattle.poets_command.specs.Laws.{IsReportOf};
+ghost use Rattle.poets_command.specs.Reports.{report_in};
+ghost use Rattle.poets_rules.specs.Rules.{reports_of_rules};
 ghost use Rattle.poets_engine.specs.Takes.{IsTakenBy};
 ghost use Rattle.poets_engine.specs.code.Commands.{tally_of};
 ghost use Rattle.poets_engine.specs.code.Makes.{MakesReply};
 
 use crate::store::Store;
-use poets_call::{Reply, Rules};
+use poets_command::Reply;
 use poets_expr::{Asks, Expr};
 use poets_report::{Fold, Report, argument_values};
+use poets_rules::Rules;
 use poets_value::{Memory, Name};
 use std::alloc::Global;
 

@@ -1,15 +1,16 @@
 //! Watches: reports that are kept live.
 ghost use Rattle.std.specs.Prelude.{◌≡◌, ◌+◌, ◌≤◌, length, IfOk, OnErr};
-ghost use Rattle.poets_call.specs.Plain.{Command};
+ghost use Rattle.poets_command.specs.Plain.{Command};
 ghost use Rattle.poets_engine.specs.Takes.{IsTakenBy};
 ghost use Rattle.poets_engine.specs.code.Commands.{watch_of};
 ghost use Rattle.poets_engine.specs.code.Makes.{MakesReply, MakesUnderAll};
 
 use crate::store::Store;
 use crate::tallies::report_called;
-use poets_call::{Reply, Rules};
+use poets_command::Reply;
 use poets_expr::{Asks, Expr};
 use poets_report::{argument_values, copy};
+use poets_rules::Rules;
 use poets_value::{Memory, Name};
 use std::alloc::Global;
 

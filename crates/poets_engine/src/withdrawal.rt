@@ -6,7 +6,7 @@ ghost use Rattle.poets_syntax.specs.Book.{book_of};
 ghost use Rattle.poets_cons.specs.Table.{contract_of_rows};
 ghost use Rattle.poets_table.specs.Pieces.{joined};
 ghost use Rattle.poets_table.specs.TableView.{values_of};
-ghost use Rattle.poets_call.specs.Plain.{Command};
+ghost use Rattle.poets_command.specs.Plain.{Command};
 ghost use Rattle.poets_engine.specs.Evaluations.{asked_to_void};
 ghost use Rattle.poets_engine.specs.code.Judgements.{KeptFits, judgement_of};
 ghost use Rattle.poets_engine.specs.code.Makes.{MakesReply};
@@ -15,11 +15,12 @@ ghost use Rattle.poets_engine.specs.code.Withdrawals.{IsKeptStore, place_from_no
 
 use crate::judging::{Decision, take_event};
 use crate::store::Store;
-use poets_call::{Reply, Rules};
+use poets_command::Reply;
 use poets_cons::Rows;
 use poets_expr::Asks;
+use poets_meaning::Studied;
 use poets_residue::may_end_rows;
-use poets_syntax::Studied;
+use poets_rules::Rules;
 use poets_table::Events;
 use poets_value::{Event, List, Memory, Name, push};
 use std::alloc::Global;

@@ -9,12 +9,12 @@ use Rattle.poets_value.specs.declared.event.Event.{Event}
 use Rattle.poets_value.specs.declared.value.Name.{Name}
 use Rattle.poets_expr.specs.Env.{same_name}
 use Rattle.poets_syntax.specs.Contract.{Contract}
-use Rattle.poets_call.specs.Frame.{Frame}
-use Rattle.poets_call.specs.Ledger.{Ledger, ledger_of, empty_ledger, with_entry, contract_from, number_of, trace}
-use Rattle.poets_call.specs.Ledger.{without}
-use Rattle.poets_call.specs.Plain.{Command, Reply, Entry}
-use Rattle.poets_call.specs.Replies.{Replies, Legal}
-use Rattle.poets_call.specs.Taken.{IsWholeCommand}
+use Rattle.poets_command.specs.Plain.{Command, Reply, Entry}
+use Rattle.poets_command.specs.Taken.{IsWholeCommand}
+use Rattle.poets_history.specs.Frame.{Frame}
+use Rattle.poets_history.specs.Ledger.{Ledger, ledger_of, empty_ledger, with_entry, contract_from, number_of, trace}
+use Rattle.poets_history.specs.Ledger.{without}
+use Rattle.poets_history.specs.Replies.{Replies, Legal}
 use Rattle.poets_exchange.proofs.Lists.{front_holds, rest_holds}
 
 -- the number in the reply has 64 bits

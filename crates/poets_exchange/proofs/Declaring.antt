@@ -17,9 +17,9 @@ use Rattle.poets_expr.specs.Env.{same_name}
 use Rattle.poets_expr.proofs.SameTrees.{name_one}
 use Rattle.poets_syntax.specs.TypeOf.{Scope}
 use Rattle.poets_report.specs.Plain as plain
-use Rattle.poets_call.specs.Said.{Statement, Agents, Kinds}
-use Rattle.poets_call.specs.Said as said
-use Rattle.poets_call.specs.Declarations.{agents_and_kinds, reports_of, report_in_statement, template_in_statement}
+use Rattle.poets_command.specs.Said.{Statement, Agents, Kinds}
+use Rattle.poets_command.specs.Said as said
+use Rattle.poets_command.specs.Declarations.{agents_and_kinds, reports_of, report_in_statement, template_in_statement}
 use Rattle.poets_types.proofs.Scopes.{type_in_append}
 use Rattle.poets_types.proofs.Tables.{same_is_eq}
 use Rattle.poets_books.specs.Books.{names_with, declaration}

@@ -3,8 +3,8 @@ use Rattle.std.proofs.Common.{◌<◌, ◌^◌, All, refl}
 use Rattle.std.specs.List.{flat_map}
 use Rattle.std.proofs.lemmas.List.Elements.{All-weaker}
 use Rattle.poets_lex.specs.Table.{Table, IsTable}
-use Rattle.poets_call.specs.Plain.{Entry}
-use Rattle.poets_call.specs.Taken.{IsTaken}
+use Rattle.poets_command.specs.Plain.{Entry}
+use Rattle.poets_command.specs.Taken.{IsTaken}
 use Rattle.poets_print.specs.Laws.{CanWriteCommand}
 use Rattle.poets_named.specs.Written.{CanWriteReply}
 use Rattle.poets_named.proofs.WrittenHistories.{replies_can_be_written}

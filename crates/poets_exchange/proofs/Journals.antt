@@ -4,11 +4,11 @@ use Rattle.std.proofs.lemmas.List.Elements.{All-nil, All-cons, All-head, All-tai
 use Rattle.poets_syntax.specs.Plain.{Book}
 use Rattle.poets_report.specs.Plain as plain
 use Rattle.poets_lex.specs.Table.{Table}
-use Rattle.poets_call.specs.Calls.{Call, calls_of}
-use Rattle.poets_call.specs.Declarations.{book_from, reports_of}
-use Rattle.poets_call.specs.Plain.{Entry}
-use Rattle.poets_call.specs.Said.{Statement, Numbered}
-use Rattle.poets_call.specs.Taken.{IsTaken}
+use Rattle.poets_command.specs.Calls.{Call, calls_of}
+use Rattle.poets_command.specs.Declarations.{book_from, reports_of}
+use Rattle.poets_command.specs.Plain.{Entry}
+use Rattle.poets_command.specs.Said.{Statement, Numbered}
+use Rattle.poets_command.specs.Taken.{IsTaken}
 use Rattle.poets_print.specs.Laws.{CanWriteCommand}
 use Rattle.poets_session.specs.Sessions.{journal_of}
 use Rattle.poets_session.specs.Written.{IsWrittenCommand}

@@ -3,7 +3,7 @@ use Rattle.std.proofs.Common.{◌≡◌, ◌^◌, ◌<◌, length, All, Some, sy
 use Rattle.std.proofs.lemmas.List.Elements.{All-weaker}
 use Rattle.serde_json.specs.Data.{Data}
 use Rattle.poets_lex.specs.Table.{Table, IsTable}
-use Rattle.poets_call.specs.Taken.{IsTaken, IsWholeCommand}
+use Rattle.poets_command.specs.Taken.{IsTaken, IsWholeCommand}
 use Rattle.poets_print.specs.Laws.{CanWriteCommand}
 use Rattle.poets_json.specs.Plain.{Exported}
 use Rattle.poets_json.specs.Document.{document}

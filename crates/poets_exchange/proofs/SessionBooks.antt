@@ -5,8 +5,8 @@ use Rattle.poets_expr.specs.Expression.{Expression}
 use Rattle.poets_syntax.specs.Plain.{Book}
 use Rattle.poets_report.specs.Plain as plain
 use Rattle.poets_lex.specs.Table.{Table}
-use Rattle.poets_call.specs.Declarations.{book_from, reports_of}
-use Rattle.poets_call.specs.Said.{Statement, Report}
+use Rattle.poets_command.specs.Declarations.{book_from, reports_of}
+use Rattle.poets_command.specs.Said.{Statement, Report}
 use Rattle.poets_books.specs.Laws.{CanWriteKey, CanWriteReport}
 use Rattle.poets_session.specs.Written.{IsWritten, IsWrittenExpression, IsWrittenReport}
 use Rattle.poets_session.proofs.LawsFitting.{read_written}

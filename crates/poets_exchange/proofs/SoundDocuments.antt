@@ -10,8 +10,8 @@ use Rattle.poets_value.specs.declared.value.Value.{Value}
 use Rattle.poets_value.proofs.DayTexts.{day_text-utf8}
 use Rattle.poets_report.specs.Plain.{Answer, Single, Rows, KeyRow}
 use Rattle.poets_lex.specs.Table.{Table, IsTable}
-use Rattle.poets_call.specs.Plain.{Reply, Entry}
-use Rattle.poets_call.specs.Said.{Statement}
+use Rattle.poets_command.specs.Plain.{Reply, Entry}
+use Rattle.poets_command.specs.Said.{Statement}
 use Rattle.poets_print.specs.Texts.{contract_text}
 use Rattle.poets_books.specs.Statements.{statement_text}
 use Rattle.poets_json.specs.Plain.{Exported}

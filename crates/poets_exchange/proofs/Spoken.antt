@@ -18,9 +18,9 @@ use Rattle.poets_syntax.specs.Whole.{IsWholeContract}
 use Rattle.poets_report.specs.Plain.{Answer, Single, Rows}
 use Rattle.poets_lex.specs.Table.{Table, IsTable}
 use Rattle.poets_lex.proofs.CutTexts.{cut_end, cut_name}
-use Rattle.poets_call.specs.Plain.{Reply, Entry}
-use Rattle.poets_call.specs.Said.{Statement, Agents, Kinds, Command}
-use Rattle.poets_call.specs.Said as said
+use Rattle.poets_command.specs.Plain.{Reply, Entry}
+use Rattle.poets_command.specs.Said.{Statement, Agents, Kinds, Command}
+use Rattle.poets_command.specs.Said as said
 use Rattle.poets_grammar.specs.Statements.{IsStatement, IsCommand}
 use Rattle.poets_print.specs.Laws.{IsListed, CanWriteContract}
 use Rattle.poets_print.proofs.WritingCommands.{contract_reads_back}

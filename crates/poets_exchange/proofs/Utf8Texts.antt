@@ -22,9 +22,9 @@ use Rattle.poets_syntax.specs.declared.term.Binders.{Binders}
 use Rattle.poets_syntax.specs.declared.term.Param.{Param}
 use Rattle.poets_syntax.specs.Contract.{Contract, Success, Failure, Transmit, Plus, Par, Seq, App}
 use Rattle.poets_report.specs.Plain.{Template, Report}
-use Rattle.poets_call.specs.Plain as plain
-use Rattle.poets_call.specs.Said.{Statement, Agents, Kinds, Clerk, Journal, Command, Numbered}
-use Rattle.poets_call.specs.Said as said
+use Rattle.poets_command.specs.Plain as plain
+use Rattle.poets_command.specs.Said.{Statement, Agents, Kinds, Clerk, Journal, Command, Numbered}
+use Rattle.poets_command.specs.Said as said
 use Rattle.poets_lex.specs.Bytes.{begins_name}
 use Rattle.poets_lex.specs.Table.{Table, IsTable, HasNameShape}
 use Rattle.poets_lex.proofs.Fronts.{name-ascii}

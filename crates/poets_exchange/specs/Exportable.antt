@@ -6,9 +6,9 @@ use Rattle.poets_lex.specs.declared.token.Token.{Token}
 use Rattle.poets_lex.specs.Table.{Table}
 use Rattle.poets_lex.specs.Lexes.{Lexes}
 use Rattle.poets_syntax.specs.Plain.{Book}
-use Rattle.poets_call.specs.Histories.{IsLegal}
-use Rattle.poets_call.specs.Said.{Statement}
-use Rattle.poets_call.specs.Taken.{IsTaken}
+use Rattle.poets_command.specs.Said.{Statement}
+use Rattle.poets_command.specs.Taken.{IsTaken}
+use Rattle.poets_history.specs.Histories.{IsLegal}
 use Rattle.poets_grammar.specs.Tokens.{toks}
 use Rattle.poets_grammar.specs.TooDeep.{IsTooDeepStored}
 use Rattle.poets_print.specs.Laws.{CanWriteCommand}

@@ -3,9 +3,9 @@ use Rattle.std.specs.Prelude.{◌≡◌, ◌<◌, ◌^◌, List, length, map}
 use Rattle.std.specs.List.Sorted.{IsStrictlySortedBy}
 use Rattle.poets_value.specs.Names.{name_cmp}
 use Rattle.poets_lex.specs.Table.{Table, IsTable}
-use Rattle.poets_call.specs.Calls.{calls_of}
-use Rattle.poets_call.specs.Histories.{IsLegal}
-use Rattle.poets_call.specs.Said.{Statement}
+use Rattle.poets_command.specs.Calls.{calls_of}
+use Rattle.poets_command.specs.Said.{Statement}
+use Rattle.poets_history.specs.Histories.{IsLegal}
 use Rattle.poets_session.specs.Sessions.{Text, IsSession, journal_of}
 use Rattle.poets_session.specs.declared.form.Form.{Form}
 use Rattle.poets_json.specs.Plain.{Exported}

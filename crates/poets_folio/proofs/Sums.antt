@@ -4,8 +4,8 @@ use Rattle.std.specs.Prelude.{ℤ}
 use Rattle.poets_value.specs.declared.value.Name.{Name}
 use Rattle.poets_report.specs.Answers.{answer_of}
 use Rattle.poets_report.specs.declared.report.Answer.{Answer}
-use Rattle.poets_call.specs.Calls.{folio_row_of}
-use Rattle.poets_call.specs.Replies.{added}
+use Rattle.poets_command.specs.Calls.{folio_row_of}
+use Rattle.poets_command.specs.Totals.{added}
 
 abbrev pub Rows : Type 0
 Rows = List (Name × Answer)

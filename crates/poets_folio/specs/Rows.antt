@@ -12,9 +12,9 @@ use Rattle.poets_report.specs.Reports.{report_of}
 use Rattle.poets_report.specs.declared.report.Answer.{Answer}
 use Rattle.poets_report.specs.declared.report.Report.{Report as CodeReport}
 use Rattle.poets_table.specs.Pieces.{joined}
-use Rattle.poets_call.specs.Calls.{folio_row_of}
-use Rattle.poets_call.specs.Replies.{total_of}
-use Rattle.poets_call.specs.declared.call.Folio.{Folio}
+use Rattle.poets_command.specs.Calls.{folio_row_of}
+use Rattle.poets_command.specs.Totals.{total_of}
+use Rattle.poets_command.specs.declared.call.Folio.{Folio}
 use Rattle.poets_folio.specs.declared.folio.Part.{Part}
 
 -- the row of a part: its name, and the report's answer over its events

@@ -7,7 +7,7 @@ ghost use Rattle.poets_folio.specs.Rows.{HasRowsOf, HasTotalOf};
 ghost use Rattle.poets_folio.specs.code.Parts.{IsRowUnder};
 
 use crate::total::total;
-use poets_call::Folio;
+use poets_command::Folio;
 use poets_expr::{Asks, Decls};
 use poets_report::{Answer, Fold, Report};
 use poets_table::Events;

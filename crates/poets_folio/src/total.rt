@@ -2,8 +2,8 @@
 ghost use Rattle.std.specs.Prelude.{◌≡◌, ◌^◌, ◌-◌, ◌+ℤ◌, ◌-ℤ◌, ◌≤ℤ◌, neg_ℤ, map, IfSome, pos};
 ghost use Rattle.poets_expr.specs.Val as val;
 ghost use Rattle.poets_report.specs.Reports.{report_of};
-ghost use Rattle.poets_call.specs.Calls.{folio_row_of};
-ghost use Rattle.poets_call.specs.Replies.{total_of};
+ghost use Rattle.poets_command.specs.Calls.{folio_row_of};
+ghost use Rattle.poets_command.specs.Totals.{total_of};
 ghost use Rattle.poets_folio.specs.code.Sums.{Adds, sum_of};
 
 use poets_report::{Answer, Report};

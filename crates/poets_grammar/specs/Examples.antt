@@ -5,8 +5,8 @@ use Rattle.poets_value.specs.declared.value.Value.TheVariants as V
 use Rattle.poets_expr.specs.declared.expr.Op.TheVariants as O
 use Rattle.poets_expr.specs.Expression.{Expression, Minus, Not, Literal, Unary, Binary}
 use Rattle.poets_syntax.specs.Contract.{Contract, Success, Plus, Par, Seq, App}
-use Rattle.poets_call.specs.Plain.{Register}
-use Rattle.poets_call.specs.Said.{Statement, Agents, Command}
+use Rattle.poets_command.specs.Plain.{Register}
+use Rattle.poets_command.specs.Said.{Statement, Agents, Command}
 use Rattle.poets_lex.specs.declared.token.Word.TheVariants as W
 use Rattle.poets_lex.specs.declared.token.Sign.TheVariants as S
 use Rattle.poets_lex.specs.declared.token.Tok.{Tok}

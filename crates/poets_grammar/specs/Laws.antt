@@ -2,7 +2,7 @@
 use Rattle.std.specs.Prelude.{◌≡◌, ◌↔◌, List, Some}
 use Rattle.poets_expr.specs.Expression.{Expression}
 use Rattle.poets_syntax.specs.Contract.{Contract}
-use Rattle.poets_call.specs.Said.{Statement}
+use Rattle.poets_command.specs.Said.{Statement}
 use Rattle.poets_lex.specs.declared.token.Tok.{Tok}
 use Rattle.poets_grammar.specs.Expressions.{IsExpression}
 use Rattle.poets_grammar.specs.ContractGrammar.{IsContract}

@@ -1,7 +1,7 @@
 //! Statements worked by hand, each carried by a function that does nothing.
 ghost use Rattle.std.specs.Prelude.{◌∷◌};
 ghost use Rattle.poets_expr.specs.Expression.{Expression};
-ghost use Rattle.poets_call.specs.Said.{Statement};
+ghost use Rattle.poets_command.specs.Said.{Statement};
 ghost use Rattle.poets_lex.specs.declared.token.Sign.TheVariants as S;
 ghost use Rattle.poets_lex.specs.declared.token.Tok.TheVariants as K;
 ghost use Rattle.poets_grammar.specs.Expressions.{IsExpression};

@@ -17,9 +17,9 @@ use Rattle.poets_syntax.specs.Contract.{Contract, contract_of}
 use Rattle.poets_syntax.specs.Book.{template_of, book_of, template_in}
 use Rattle.poets_syntax.specs.Checked.{IsChecked}
 use Rattle.poets_syntax.specs.Applied.{ApplicationsFit}
-use Rattle.poets_syntax.specs.May.{May}
 use Rattle.poets_syntax.specs.Plain as plain
 use Rattle.poets_syntax.proofs.TypingRules.{BodiesFit-typed}
+use Rattle.poets_meaning.specs.May.{May}
 use Rattle.poets_guard.specs.declared.rules.Rule.{Rule}
 use Rattle.poets_guard.specs.declared.endings.Rules.{Rules}
 use Rattle.poets_guard.specs.code.Endings.{ends, MayEnd, IsExact}

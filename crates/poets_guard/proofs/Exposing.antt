@@ -10,12 +10,12 @@ use Rattle.poets_expr.proofs.SameTrees.{name_one}
 use Rattle.poets_syntax.specs.Contract.{Contract}
 use Rattle.poets_syntax.specs.Plain.{Book, Template}
 use Rattle.poets_syntax.specs.Book.{template_in}
-use Rattle.poets_syntax.specs.Marks.{Nullable, Hopeful}
 use Rattle.poets_syntax.specs.Applied.{ApplicationsFit, BodiesFit}
-use Rattle.poets_syntax.specs.Guarded.{Exposes, UnguardedEdge, IsPath}
 use Rattle.poets_syntax.specs.Typed.{is_among}
-use Rattle.poets_syntax.proofs.Granting.{May-Perf, Perf-May}
 use Rattle.poets_syntax.proofs.Replacing.{truth}
+use Rattle.poets_meaning.specs.Marks.{Nullable, Hopeful}
+use Rattle.poets_meaning.specs.Guarded.{Exposes, UnguardedEdge, IsPath}
+use Rattle.poets_meaning.proofs.Granting.{May-Perf, Perf-May}
 use Rattle.poets_guard.specs.declared.graph.Node.{Node}
 use Rattle.poets_guard.specs.code.Endings.{ends, MayEnd, IsExact}
 use Rattle.poets_guard.specs.code.Graph.{exposures, held, holding, IsGraph, HasEdge}

@@ -11,8 +11,8 @@ use Rattle.poets_value.specs.Names.{name_cmp}
 use Rattle.poets_expr.specs.Env.{same_name}
 use Rattle.poets_expr.proofs.SameTrees.{name_one}
 use Rattle.poets_syntax.specs.declared.term.Template.{Template}
-use Rattle.poets_syntax.specs.Guarded.{IsCycle}
 use Rattle.poets_syntax.specs.Typed.{is_among}
+use Rattle.poets_meaning.specs.Guarded.{IsCycle}
 use Rattle.poets_guard.specs.declared.graph.Node.{Node}
 use Rattle.poets_guard.specs.code.Graph.{HasEdge}
 use Rattle.poets_guard.specs.code.Walks.{HasCycle}

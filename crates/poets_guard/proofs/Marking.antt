@@ -12,13 +12,13 @@ use Rattle.poets_syntax.specs.declared.term.Binders.{Binders}
 use Rattle.poets_syntax.specs.Contract.{Contract}
 use Rattle.poets_syntax.specs.Plain.{Book, Template}
 use Rattle.poets_syntax.specs.Book.{template_in, parameter_env, granted as granted_env}
-use Rattle.poets_syntax.specs.May.{May}
-use Rattle.poets_syntax.specs.Marks.{BodySatisfies}
 use Rattle.poets_syntax.specs.Applied.{Takes, ApplicationsFit}
-use Rattle.poets_syntax.proofs.Granting.{May-anywhere}
-use Rattle.poets_syntax.proofs.Lists.{Between-nil, parts_of_nil}
-use Rattle.poets_syntax.specs.Between.{Between}
 use Rattle.poets_syntax.proofs.Replacing.{truth}
+use Rattle.poets_meaning.specs.May.{May}
+use Rattle.poets_meaning.specs.Marks.{BodySatisfies}
+use Rattle.poets_meaning.proofs.Granting.{May-anywhere}
+use Rattle.poets_meaning.proofs.Lists.{Between-nil, parts_of_nil}
+use Rattle.poets_meaning.specs.Between.{Between}
 use Rattle.poets_guard.specs.code.Endings.{ends, MayEnd, IsSound}
 use Rattle.poets_guard.proofs.Places.{name_cmp-same, same_name-self}
 

@@ -10,8 +10,8 @@ use Rattle.std.proofs.lemmas.Map.Steps.{length-le_from_keys}
 use Rattle.poets_value.specs.declared.value.Name.{Name}
 use Rattle.poets_value.specs.Names.{name_cmp}
 use Rattle.poets_value.proofs.Orders.{name_cmp_total}
-use Rattle.poets_syntax.specs.Guarded.{IsPath}
 use Rattle.poets_syntax.specs.Typed.{is_among}
+use Rattle.poets_meaning.specs.Guarded.{IsPath}
 use Rattle.poets_guard.specs.declared.graph.Node.{Node}
 use Rattle.poets_guard.specs.code.Graph.{HasEdge}
 use Rattle.poets_guard.specs.code.Searched.{HaveNodes, IsSeen, IsPassed, IsSearching, IsSearched, LeadsOn}

@@ -10,22 +10,22 @@ use Rattle.poets_expr.specs.Env.{same_name}
 use Rattle.poets_expr.proofs.SameTrees.{name_one}
 use Rattle.poets_syntax.specs.declared.term.Book.{Book}
 use Rattle.poets_syntax.specs.declared.term.Template.{Template}
-use Rattle.poets_syntax.specs.declared.studied.Mark.{Mark}
 use Rattle.poets_syntax.specs.Contract.{Contract}
 use Rattle.poets_syntax.specs.Book.{template_of, book_of, template_in}
 use Rattle.poets_syntax.specs.Checked.{IsChecked}
-use Rattle.poets_syntax.specs.Marks.{Marks, AreRight, Nullable, Hopeful, BodySatisfies, nullable}
 use Rattle.poets_syntax.specs.Applied.{BodiesFit}
-use Rattle.poets_syntax.specs.Guarded.{UnguardedEdge, IsPath, IsCycle, IsGuarded}
 use Rattle.poets_syntax.specs.Typed.{is_among}
-use Rattle.poets_syntax.specs.Width.{wide_by, body_in, width, cut}
-use Rattle.poets_syntax.specs.Studied.{marks_in, IsRightMark, IsStudiedBook}
 use Rattle.poets_syntax.specs.Plain as plain
 use Rattle.poets_syntax.proofs.Replacing.{truth}
-use Rattle.poets_syntax.proofs.StudiedMarks.{has_mark_iff}
-use Rattle.poets_syntax.proofs.Nullability.{CountsFit-fit}
+use Rattle.poets_syntax.proofs.Counts.{CountsFit-fit}
 use Rattle.poets_syntax.proofs.TypingRules.{BodiesFit-typed}
-use Rattle.poets_syntax.proofs.Unfolded.{width-unfolded}
+use Rattle.poets_meaning.specs.declared.studied.Mark.{Mark}
+use Rattle.poets_meaning.specs.Marks.{Marks, AreRight, Nullable, Hopeful, BodySatisfies, nullable}
+use Rattle.poets_meaning.specs.Guarded.{UnguardedEdge, IsPath, IsCycle, IsGuarded}
+use Rattle.poets_meaning.specs.Width.{wide_by, body_in, width, cut}
+use Rattle.poets_meaning.specs.Studied.{marks_in, IsRightMark, IsStudiedBook}
+use Rattle.poets_meaning.proofs.StudiedMarks.{has_mark_iff}
+use Rattle.poets_meaning.proofs.Unfolded.{width-unfolded}
 use Rattle.poets_guard.specs.declared.graph.Node.{Node}
 use Rattle.poets_guard.specs.code.Endings.{ends, MayEnd, IsExact}
 use Rattle.poets_guard.specs.FirstCycle.{IsFirstOf, IsFirstCycle}

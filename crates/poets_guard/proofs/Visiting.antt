@@ -19,10 +19,10 @@ use Rattle.poets_value.specs.Names.{name_cmp}
 use Rattle.poets_value.proofs.Orders.{name_cmp_total}
 use Rattle.poets_expr.specs.Env.{same_name}
 use Rattle.poets_expr.proofs.SameTrees.{name_one}
-use Rattle.poets_syntax.specs.Guarded.{IsPath}
 use Rattle.poets_syntax.specs.Typed.{is_among}
-use Rattle.poets_syntax.proofs.Guarding.{further}
 use Rattle.poets_syntax.proofs.Replacing.{truth}
+use Rattle.poets_meaning.specs.Guarded.{IsPath}
+use Rattle.poets_meaning.proofs.Guarding.{further}
 use Rattle.poets_guard.specs.declared.graph.Node.{Node}
 use Rattle.poets_guard.specs.declared.visits.Visits.{Visits}
 use Rattle.poets_guard.specs.code.Graph.{HasEdge}

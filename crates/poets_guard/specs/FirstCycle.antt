@@ -2,7 +2,7 @@
 use Rattle.std.specs.Prelude.{◌≡◌, List, ◌∷◌, ◌++◌, map, All}
 use Rattle.poets_value.specs.declared.value.Name.{Name}
 use Rattle.poets_syntax.specs.Plain.{Book}
-use Rattle.poets_syntax.specs.Guarded.{IsCycle, UnguardedEdge}
+use Rattle.poets_meaning.specs.Guarded.{IsCycle, UnguardedEdge}
 
 -- some cycle begins with the name
 abbrev pub LiesOnCycle : (Edge : Name → Name → Type 0) → Name → Type 0

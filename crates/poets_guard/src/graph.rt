@@ -2,10 +2,11 @@
 ghost use Rattle.std.specs.Prelude.{◌≡◌, ◌+◌, IfOk, OnOk};
 ghost use Rattle.poets_syntax.specs.Book.{book_of};
 ghost use Rattle.poets_syntax.specs.Checked.{IsChecked};
-ghost use Rattle.poets_syntax.specs.Width.{cut};
+ghost use Rattle.poets_meaning.specs.Width.{cut};
 ghost use Rattle.poets_guard.specs.code.Graph.{is_nullable, own_of, exposures_of, ExposesMore, IsGraphOf};
 
-use poets_syntax::{Book, Term, WIDTH_CUT, size};
+use poets_meaning::{WIDTH_CUT, size};
+use poets_syntax::{Book, Term};
 use poets_value::{List, Memory, Name, push};
 use std::alloc::Global;
 use std::collections::{BTreeMap, BTreeSet};

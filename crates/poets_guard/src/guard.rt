@@ -2,15 +2,16 @@
 ghost use Rattle.std.specs.Prelude.{◌≡◌, IfOk, OnOk, IfErr};
 ghost use Rattle.poets_syntax.specs.Book.{book_of};
 ghost use Rattle.poets_syntax.specs.Checked.{IsChecked};
-ghost use Rattle.poets_syntax.specs.Guarded.{IsGuarded};
-ghost use Rattle.poets_syntax.specs.Studied.{IsStudiedBook};
+ghost use Rattle.poets_meaning.specs.Guarded.{IsGuarded};
+ghost use Rattle.poets_meaning.specs.Studied.{IsStudiedBook};
 ghost use Rattle.poets_guard.specs.Fault.{IsFaultOf};
 
 use crate::cycles::first_cycle;
 use crate::endings::templates_that_end;
 use crate::graph::graph_of;
 use crate::widths::marks;
-use poets_syntax::{Book, Studied};
+use poets_meaning::Studied;
+use poets_syntax::Book;
 use poets_value::{List, Memory, Name};
 use std::alloc::Global;
 

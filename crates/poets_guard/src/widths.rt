@@ -4,7 +4,8 @@ ghost use Rattle.poets_guard.specs.code.Walks.{HasCycle, HasWidth, HaveWidths, A
 ghost use Rattle.poets_guard.specs.code.Marked.{AreMarksIfAny};
 
 use crate::graph::{Graph, add};
-use poets_syntax::{Book, Mark};
+use poets_meaning::Mark;
+use poets_syntax::Book;
 use poets_value::{List, Memory, Name, push};
 use std::alloc::Global;
 use std::collections::{BTreeMap, BTreeSet};

@@ -5,17 +5,17 @@ use Rattle.std.specs.declared.sync.Arc.{Arc}
 use Rattle.std.specs.Arc.{arc_value}
 use Rattle.poets_syntax.specs.Plain.{Book}
 use Rattle.poets_report.specs.Plain.{Report}
-use Rattle.poets_call.specs.declared.call.Command as code
-use Rattle.poets_call.specs.Calls.{Call, calls_of, command_of, reply_of}
-use Rattle.poets_call.specs.Histories.{AnswersIn, IsLegal}
-use Rattle.poets_call.specs.Ledger.{ledger_of, is_accepted, with_entry}
-use Rattle.poets_call.specs.Plain.{Command, Entry, Reply}
-use Rattle.poets_call.specs.Replies.{Legal, Replies}
-use Rattle.poets_call.specs.Rules.{book_of_rules, reports_of_rules}
-use Rattle.poets_call.proofs.Accepting.{only_accepted_change}
-use Rattle.poets_call.proofs.Histories.{calls_last, ledger_last, one_history}
-use Rattle.poets_call.proofs.OneFrames.{one_frame, replies_in}
-use Rattle.poets_call.proofs.OneReplies.{one_reply}
+use Rattle.poets_command.specs.declared.call.Command as code
+use Rattle.poets_command.specs.Calls.{Call, calls_of, command_of, reply_of}
+use Rattle.poets_command.specs.Plain.{Command, Entry, Reply}
+use Rattle.poets_rules.specs.Rules.{book_of_rules, reports_of_rules}
+use Rattle.poets_history.specs.Histories.{AnswersIn, IsLegal}
+use Rattle.poets_history.specs.Ledger.{ledger_of, is_accepted, with_entry}
+use Rattle.poets_history.specs.Replies.{Legal, Replies}
+use Rattle.poets_history.proofs.Accepting.{only_accepted_change}
+use Rattle.poets_history.proofs.Histories.{calls_last, ledger_last, one_history}
+use Rattle.poets_history.proofs.OneFrames.{one_frame, replies_in}
+use Rattle.poets_history.proofs.OneReplies.{one_reply}
 use Rattle.poets_engine.specs.Accounts.{Accounts}
 use Rattle.poets_engine.specs.Accepted.{has_changed}
 use Rattle.poets_engine.specs.State.{State, AddsCall, plain_calls}

@@ -13,9 +13,9 @@ use Rattle.poets_turn.specs.Settings.{OnlyClerks}
 use Rattle.poets_turn.specs.declared.types.Turn.{Turn}
 use Rattle.poets_turn.specs.Clerks.{AreClerksIn, AreNumbered, IsClerkIn, IsFresh, SawNoMore, calls, front, number}
 use Rattle.poets_turn.proofs.Fronts.{prefix_nil, prefix_self, prefix_trans}
-use Rattle.poets_call.specs.declared.call.Command.{Command}
-use Rattle.poets_call.specs.declared.call.Reply.{Reply}
-use Rattle.poets_call.specs.declared.rules.Rules.{Rules}
+use Rattle.poets_command.specs.declared.call.Command.{Command}
+use Rattle.poets_command.specs.declared.call.Reply.{Reply}
+use Rattle.poets_rules.specs.declared.rules.Rules.{Rules}
 use Rattle.poets_engine.specs.State.{State, plain_calls}
 use Rattle.poets_engine.specs.declared.kept.Kept.{Kept}
 use Rattle.poets_host.specs.Pairs.{IsReplyUnder, pair_of}

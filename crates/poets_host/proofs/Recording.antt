@@ -15,17 +15,17 @@ use Rattle.poets_table.specs.TableView.{number_named}
 use Rattle.std.specs.declared.alloc.Global.{Global}
 use Rattle.std.specs.declared.sync.Arc.{Arc}
 use Rattle.std.specs.Arc.{arc_value}
-use Rattle.poets_call.specs.declared.rules.Rules.{Rules}
-use Rattle.poets_call.specs.declared.call.Command.{Command as CodeCommand}
-use Rattle.poets_call.specs.declared.call.Command.TheVariants as C
-use Rattle.poets_call.specs.declared.call.Reply.{Reply as CodeReply}
-use Rattle.poets_call.specs.Calls.{calls_of, command_of, reply_of}
-use Rattle.poets_call.specs.Frame.{Frame}
-use Rattle.poets_call.specs.Histories.{IsLegal}
-use Rattle.poets_call.specs.Ledger.{Ledger, ledger_of, events, is_accepted, number_in, trace, with_entry}
-use Rattle.poets_call.specs.Plain.{Command, Entry, Reply}
-use Rattle.poets_call.specs.Replies.{IsNamed, Replies}
-use Rattle.poets_call.specs.Rules.{book_of_rules, reports_of_rules}
+use Rattle.poets_command.specs.declared.call.Command.{Command as CodeCommand}
+use Rattle.poets_command.specs.declared.call.Command.TheVariants as C
+use Rattle.poets_command.specs.declared.call.Reply.{Reply as CodeReply}
+use Rattle.poets_command.specs.Calls.{calls_of, command_of, reply_of}
+use Rattle.poets_command.specs.Plain.{Command, Entry, Reply}
+use Rattle.poets_rules.specs.declared.rules.Rules.{Rules}
+use Rattle.poets_rules.specs.Rules.{book_of_rules, reports_of_rules}
+use Rattle.poets_history.specs.Frame.{Frame}
+use Rattle.poets_history.specs.Histories.{IsLegal}
+use Rattle.poets_history.specs.Ledger.{Ledger, ledger_of, events, is_accepted, number_in, trace, with_entry}
+use Rattle.poets_history.specs.Replies.{IsNamed, Replies}
 use Rattle.poets_engine.specs.Accounts.{Accounts}
 use Rattle.poets_engine.specs.Rows.{IsLedger}
 use Rattle.poets_engine.specs.Accepted.{has_changed}

@@ -1,8 +1,8 @@
 -- The book that a host opens.
 use Rattle.std.specs.Prelude.{◌≡◌, List}
-use Rattle.poets_call.specs.Declarations.{book_from, reports_of}
-use Rattle.poets_call.specs.Rules.{book_of_rules, reports_of_rules}
-use Rattle.poets_call.specs.Said.{Statement}
+use Rattle.poets_command.specs.Declarations.{book_from, reports_of}
+use Rattle.poets_command.specs.Said.{Statement}
+use Rattle.poets_rules.specs.Rules.{book_of_rules, reports_of_rules}
 use Rattle.poets_session.specs.Sessions.{IsSession, Text}
 use Rattle.poets_session.specs.declared.form.Form.TheVariants as F
 use Rattle.poets_host.specs.declared.opening.Host.{Host}

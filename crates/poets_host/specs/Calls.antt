@@ -1,9 +1,9 @@
 -- What a host is told of a call.
 use Rattle.std.specs.Prelude.{◌≡◌, ◌⊎◌, ℕ, [], ◌∷◌, ◌++◌, Option}
 use Rattle.poets_value.specs.declared.value.Name.{Name}
-use Rattle.poets_call.specs.Histories.{AnswersIn}
-use Rattle.poets_call.specs.Plain.{Command, Reply}
-use Rattle.poets_call.specs.Rules.{book_of_rules, reports_of_rules}
+use Rattle.poets_command.specs.Plain.{Command, Reply}
+use Rattle.poets_rules.specs.Rules.{book_of_rules, reports_of_rules}
+use Rattle.poets_history.specs.Histories.{AnswersIn}
 use Rattle.poets_engine.specs.Accounts.{AccountsAfterCalls}
 use Rattle.poets_engine.specs.State.{State, plain_calls}
 use Rattle.poets_engine.specs.declared.accounts.Account.{Account}

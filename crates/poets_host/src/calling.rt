@@ -1,13 +1,13 @@
 //! One call, and its reply.
 ghost use Rattle.std.specs.Prelude.{◌≡◌, ◌+◌, ◌≤◌, false, IfOk, OnErr};
 ghost use Rattle.std.specs.Arc.{arc_value};
-ghost use Rattle.poets_call.specs.Calls.{command_of, reply_of};
-ghost use Rattle.poets_call.specs.Ledger.{is_accepted};
+ghost use Rattle.poets_command.specs.Calls.{command_of, reply_of};
+ghost use Rattle.poets_history.specs.Ledger.{is_accepted};
 ghost use Rattle.poets_engine.specs.Evaluations.{most_evaluations_in};
 ghost use Rattle.poets_engine.specs.Takes.{IsTakenBy};
 ghost use Rattle.poets_host.specs.Calls.{HasCallMore, IsReplyAfter, KeepsAll, MayHaveCallMore};
 
-use poets_call::{Command, Reply};
+use poets_command::{Command, Reply};
 use poets_engine::Engine;
 use poets_expr::Asks;
 use poets_value::Memory;

@@ -2,12 +2,12 @@
 ghost use Rattle.std.specs.Prelude.{◌≡◌, pos, IfOk};
 ghost use Rattle.std.specs.Arc.{arc_value};
 ghost use Rattle.poets_value.specs.Whole.{IsWholeEvent};
-ghost use Rattle.poets_call.specs.Calls.{command_of};
-ghost use Rattle.poets_call.specs.Taken.{IsWholeCommand};
+ghost use Rattle.poets_command.specs.Calls.{command_of};
+ghost use Rattle.poets_command.specs.Taken.{IsWholeCommand};
 ghost use Rattle.poets_engine.specs.Takes.{IsTakenBy};
 ghost use Rattle.poets_host.specs.Commands.{sale_of};
 
-use poets_call::Command;
+use poets_command::Command;
 use poets_engine::Engine;
 use poets_expr::Expr;
 use poets_syntax::Term;

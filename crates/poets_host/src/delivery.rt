@@ -2,12 +2,12 @@
 ghost use Rattle.std.specs.Prelude.{◌≡◌, ◌+◌, ◌*◌, ◌≤◌, true, false, length, IfOk, OnErr};
 ghost use Rattle.poets_value.specs.Whole.{IsWholeEvent};
 ghost use Rattle.poets_engine.specs.Evaluations.{asked_owed};
-ghost use Rattle.poets_call.specs.Plain.{Transmit};
+ghost use Rattle.poets_command.specs.Plain.{Transmit};
 ghost use Rattle.poets_host.specs.Calls.{HasCallMore, KeepsAll};
 ghost use Rattle.poets_host.specs.Deliveries.{Records};
 
 use crate::{checked, is_accepted};
-use poets_call::Command;
+use poets_command::Command;
 use poets_engine::{Body, Engine};
 use poets_expr::Asks;
 use poets_types::TypeCause;

@@ -2,13 +2,13 @@
 ghost use Rattle.std.specs.Prelude.{◌≡◌, ◌+◌, ◌≤◌, ◌⊎◌, [], IfOk, OnErr};
 ghost use Rattle.std.specs.Arc.{arc_value};
 ghost use mathlib.Core.List.{IsPrefix};
-ghost use Rattle.poets_call.specs.Calls.{command_of};
+ghost use Rattle.poets_command.specs.Calls.{command_of};
 ghost use Rattle.poets_engine.specs.Takes.{IsTakenBy};
 ghost use Rattle.poets_turn.specs.Clerks.{IsClerkOf, SawNoMore, clerk_count, number, turn_frame};
 ghost use Rattle.poets_host.specs.Pairs.{AreRightReplies, pair_of};
 ghost use Rattle.poets_host.specs.code.Sharing.{Asked, Called, Closes, IsPair, MadeBoth, MadePart, rules_of};
 
-use poets_call::{Command, Reply};
+use poets_command::{Command, Reply};
 use poets_engine::Engine;
 use poets_machine::Machine;
 use poets_turn::{Clerk, Turn};

@@ -1,12 +1,12 @@
 //! Reports over all recorded events.
 ghost use Rattle.std.specs.Prelude.{◌≡◌, [], OnErr, IfOk};
-ghost use Rattle.poets_call.specs.Calls.{reply_of};
-ghost use Rattle.poets_call.specs.Plain as plain;
+ghost use Rattle.poets_command.specs.Calls.{reply_of};
+ghost use Rattle.poets_command.specs.Plain as plain;
 ghost use Rattle.poets_host.specs.Calls.{HasCallMore, IsReplyAfter, KeepsAll};
 ghost use Rattle.poets_host.specs.Tallies.{AsksTwiceAnEvent};
 
 use crate::checked;
-use poets_call::{Command, Reply};
+use poets_command::{Command, Reply};
 use poets_engine::{Body, Engine};
 use poets_expr::Asks;
 use poets_types::TypeCause;

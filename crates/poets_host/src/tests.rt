@@ -2,7 +2,7 @@
 ghost use Rattle.std.specs.Prelude.{◌≡◌, [], IfSome};
 
 use crate::{Host, call, checked, deliver, handed, open, registration, share, tally};
-use poets_call::{Command, Reply};
+use poets_command::{Command, Reply};
 use poets_engine::Engine;
 use poets_expr::Asks;
 use poets_report::Answer;

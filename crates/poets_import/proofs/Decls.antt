@@ -19,9 +19,9 @@ use Rattle.poets_value.specs.declared.value.Ty.TheVariants as T
 use Rattle.poets_value.specs.Names.{name_cmp}
 use Rattle.poets_expr.specs.Env.{declared_of, same_name}
 use Rattle.poets_syntax.specs.TypeOf.{Scope, type_in}
-use Rattle.poets_call.specs.Said.{Statement, Agents, Kinds}
-use Rattle.poets_call.specs.Said as said
-use Rattle.poets_call.specs.Declarations.{agents_and_kinds, declared_by}
+use Rattle.poets_command.specs.Said.{Statement, Agents, Kinds}
+use Rattle.poets_command.specs.Said as said
+use Rattle.poets_command.specs.Declarations.{agents_and_kinds, declared_by}
 use Rattle.poets_types.proofs.Scopes.{type_in_append}
 use Rattle.poets_types.proofs.Tables.{same_is_eq}
 use Rattle.poets_import.specs.Reading.{AreDeclared, declared_in}

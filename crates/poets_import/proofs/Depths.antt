@@ -10,7 +10,7 @@ use Rattle.poets_value.specs.declared.value.Name.{Name}
 use Rattle.poets_value.specs.declared.value.Value.{Value}
 use Rattle.poets_report.specs.Plain.{Answer, Single, Rows, KeyRow}
 use Rattle.poets_lex.specs.Table.{Table}
-use Rattle.poets_call.specs.Plain.{Reply, Entry}
+use Rattle.poets_command.specs.Plain.{Reply, Entry}
 use Rattle.poets_json.specs.Document.{value_data, row_data, answer_data, part_data, list_data, folio_data}
 use Rattle.poets_json.specs.Document.{total_members, reply_data, entry_data}
 use Rattle.poets_import.specs.code.Parts.{document_with}

@@ -10,8 +10,8 @@ use Rattle.poets_expr.specs.Env.{Declared, declared_of}
 use Rattle.poets_syntax.specs.Book.{template_of}
 use Rattle.poets_report.specs.Reports.{report_of}
 use Rattle.poets_lex.specs.Table.{Table}
-use Rattle.poets_call.specs.Plain.{Entry}
-use Rattle.poets_call.specs.Said.{Statement}
+use Rattle.poets_command.specs.Plain.{Entry}
+use Rattle.poets_command.specs.Said.{Statement}
 use Rattle.poets_json.specs.Document.{entry_data}
 use Rattle.poets_json.specs.Plain.{Exported}
 use Rattle.poets_import.specs.Reading.{IsDocumentOf, IsNoDocument, declared_in}

@@ -11,8 +11,8 @@ use Rattle.poets_expr.specs.declared.env.Decls.{Decls}
 use Rattle.poets_syntax.specs.Book.{template_of}
 use Rattle.poets_report.specs.Reports.{report_of}
 use Rattle.poets_syntax.specs.TypeOf.{Scope, type_in}
-use Rattle.poets_call.specs.Said.{Statement}
-use Rattle.poets_call.specs.Declarations.{agents_and_kinds, declared_by, report_in_statement, template_in_statement}
+use Rattle.poets_command.specs.Said.{Statement}
+use Rattle.poets_command.specs.Declarations.{agents_and_kinds, declared_by, report_in_statement, template_in_statement}
 use Rattle.poets_types.proofs.Scopes.{type_in_append}
 use Rattle.poets_import.specs.code.Gathering.{Adds, Declares, IsDeclaredBy}
 use Rattle.poets_import.specs.declared.book.Declared.{Declared}

@@ -4,7 +4,7 @@ use Rattle.std.specs.List.{AllZip}
 use Rattle.serde_json.specs.Data.{Data}
 use Rattle.poets_expr.specs.Env.{Declared}
 use Rattle.poets_lex.specs.Table.{Table}
-use Rattle.poets_call.specs.Plain.{Entry}
+use Rattle.poets_command.specs.Plain.{Entry}
 use Rattle.poets_json.specs.Document.{entry_data}
 use Rattle.poets_import.specs.code.Parts.{AreSaidEntries, IsFoundEntry, IsSaidEntry}
 use Rattle.poets_import.specs.code.Spoken.{Said}

@@ -11,9 +11,9 @@ use Rattle.poets_syntax.specs.Book.{template_of}
 use Rattle.poets_report.specs.Plain.{Template, Report}
 use Rattle.poets_report.specs.Reports.{report_of}
 use Rattle.poets_lex.specs.Table.{Table}
-use Rattle.poets_call.specs.Plain.{Entry}
-use Rattle.poets_call.specs.Said.{Statement}
-use Rattle.poets_call.specs.Declarations.{declared_by, reports_of, template_in_statement}
+use Rattle.poets_command.specs.Plain.{Entry}
+use Rattle.poets_command.specs.Said.{Statement}
+use Rattle.poets_command.specs.Declarations.{declared_by, reports_of, template_in_statement}
 use Rattle.poets_books.specs.Books.{book_texts}
 use Rattle.poets_json.specs.Document.{entry_data, list_data}
 use Rattle.poets_json.specs.Plain.{Exported}

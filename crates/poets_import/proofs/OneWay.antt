@@ -15,8 +15,8 @@ use Rattle.poets_grammar.specs.Statements.{IsCommand, IsStatement}
 use Rattle.poets_grammar.specs.Tokens.{toks}
 use Rattle.poets_grammar.proofs.Statements.{statement_complete}
 use Rattle.poets_grammar.proofs.Steps.{one_answer}
-use Rattle.poets_call.specs.Plain as plain
-use Rattle.poets_call.specs.Said.{Statement, Command}
+use Rattle.poets_command.specs.Plain as plain
+use Rattle.poets_command.specs.Said.{Statement, Command}
 use Rattle.serde_json.specs.Data.{Data, Items, string}
 use Rattle.serde_json.specs.View.{view}
 use Rattle.serde_json.specs.declared.value.Value.{Value as Json}

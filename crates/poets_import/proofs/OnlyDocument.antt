@@ -7,9 +7,9 @@ use Rattle.poets_value.specs.declared.value.Ty.{Ty}
 use Rattle.poets_expr.specs.Env.{Declared}
 use Rattle.poets_report.specs.Plain.{Template, Report}
 use Rattle.poets_lex.specs.Table.{IsTable, Table}
-use Rattle.poets_call.specs.Declarations.{declared_by, reports_of, template_in_statement}
-use Rattle.poets_call.specs.Plain.{Entry}
-use Rattle.poets_call.specs.Said.{Statement}
+use Rattle.poets_command.specs.Declarations.{declared_by, reports_of, template_in_statement}
+use Rattle.poets_command.specs.Plain.{Entry}
+use Rattle.poets_command.specs.Said.{Statement}
 use Rattle.poets_json.specs.Document.{entry_data}
 use Rattle.poets_json.specs.Plain.{Exported}
 use Rattle.poets_import.specs.Laws.{OneDocument}

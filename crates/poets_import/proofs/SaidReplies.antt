@@ -12,8 +12,8 @@ use Rattle.poets_syntax.specs.Contract.{Contract}
 use Rattle.poets_report.specs.Plain.{Answer}
 use Rattle.poets_lex.specs.Table.{Table, Extends}
 use Rattle.poets_lex.proofs.Readings.{Extends-reading, Extends-then}
-use Rattle.poets_call.specs.Plain.{Reply, Entry}
-use Rattle.poets_call.specs.Said.{Command}
+use Rattle.poets_command.specs.Plain.{Reply, Entry}
+use Rattle.poets_command.specs.Said.{Command}
 use Rattle.poets_json.specs.Document.{entry_data, part_data, reply_data}
 use Rattle.poets_literals.specs.Declared.{IsPlaced}
 use Rattle.poets_print.specs.Lines.{command_text}

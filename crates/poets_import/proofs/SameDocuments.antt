@@ -19,8 +19,8 @@ use Rattle.poets_lex.specs.declared.token.Token.{Token}
 use Rattle.poets_lex.specs.Lexes.{IsTextOf, Piece, Reads, table_with}
 use Rattle.poets_lex.specs.Table.{IsName, IsTable, Table, place_of, with_text}
 use Rattle.poets_lex.proofs.Found.{IsTable-push, known, unknown}
-use Rattle.poets_call.specs.Plain.{Reply, Entry}
-use Rattle.poets_call.specs.Said.{Statement}
+use Rattle.poets_command.specs.Plain.{Reply, Entry}
+use Rattle.poets_command.specs.Said.{Statement}
 use Rattle.poets_print.specs.Lines.{command_text}
 use Rattle.poets_print.specs.Texts.{contract_text, name_text, value_text}
 use Rattle.poets_books.specs.Replies.{kind_text}

@@ -8,7 +8,7 @@ use Rattle.poets_value.specs.declared.value.Value.{Value}
 use Rattle.poets_syntax.specs.Contract.{Contract}
 use Rattle.poets_report.specs.Plain.{Answer}
 use Rattle.poets_lex.specs.Table.{Table}
-use Rattle.poets_call.specs.Plain.{Reply}
+use Rattle.poets_command.specs.Plain.{Reply}
 use Rattle.poets_books.specs.Replies.{kind_text}
 use Rattle.poets_expr.specs.Env.{Declared}
 use Rattle.poets_json.specs.Document.{reply_data}

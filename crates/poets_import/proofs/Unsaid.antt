@@ -14,7 +14,7 @@ use Rattle.poets_grammar.specs.TooDeep.{IsTooDeepStored}
 use Rattle.poets_parse.specs.declared.fault.SyntaxFault.{SyntaxFault}
 use Rattle.poets_parse.specs.declared.fault.SyntaxFault.TheVariants as S
 use Rattle.poets_parse.specs.Sentences.{AreNoSentenceStored}
-use Rattle.poets_call.specs.Said.{Statement}
+use Rattle.poets_command.specs.Said.{Statement}
 use Rattle.poets_import.specs.Phrases.{AreSentence, Phrase, Say, Says, Sentence}
 use Rattle.poets_import.specs.code.Faults.{fault_of, unread_of_lex, unread_of_syntax}
 use Rattle.poets_import.specs.code.Spoken.{HasNoTokens, SaysNo}

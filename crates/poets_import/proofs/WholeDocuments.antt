@@ -8,8 +8,8 @@ use Rattle.serde_json.specs.View.{items_of}
 use Rattle.poets_expr.specs.Env.{Declared}
 use Rattle.poets_lex.specs.Table.{Table, Extends}
 use Rattle.poets_lex.proofs.Readings.{Extends-then}
-use Rattle.poets_call.specs.Plain.{Entry}
-use Rattle.poets_call.specs.Said.{Statement}
+use Rattle.poets_command.specs.Plain.{Entry}
+use Rattle.poets_command.specs.Said.{Statement}
 use Rattle.poets_books.specs.Books.{book_texts}
 use Rattle.poets_json.specs.Document.{entry_data, list_data}
 use Rattle.poets_json.specs.Plain.{Exported}

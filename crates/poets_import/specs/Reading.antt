@@ -12,9 +12,9 @@ use Rattle.poets_expr.specs.Env.{Declared}
 use Rattle.poets_syntax.specs.TypeOf.{type_in}
 use Rattle.poets_report.specs.Plain.{Answer, Single, Rows}
 use Rattle.poets_lex.specs.Table.{Table}
-use Rattle.poets_call.specs.Plain as plain
-use Rattle.poets_call.specs.Said.{Statement}
-use Rattle.poets_call.specs.Declarations.{declared_by, reports_of, template_in_statement}
+use Rattle.poets_command.specs.Plain as plain
+use Rattle.poets_command.specs.Said.{Statement}
+use Rattle.poets_command.specs.Declarations.{declared_by, reports_of, template_in_statement}
 use Rattle.poets_books.specs.Books.{book_texts}
 use Rattle.serde_json.specs.Data.{Data}
 use Rattle.serde_json.specs.Read.{read}

@@ -4,7 +4,7 @@ ghost use Rattle.serde_json.specs.Find.{get};
 ghost use Rattle.serde_json.specs.View.{view};
 ghost use Rattle.poets_expr.specs.Env.{declared_of};
 ghost use Rattle.poets_report.specs.Answers.{answer_of};
-ghost use Rattle.poets_call.specs.Calls.{folio_row_of};
+ghost use Rattle.poets_command.specs.Calls.{folio_row_of};
 ghost use Rattle.poets_print.specs.Texts.{name_text};
 ghost use Rattle.poets_literals.specs.Declared.{IsPlaced};
 ghost use Rattle.poets_json.specs.Document.{answer_data, part_data, row_data, value_data};
@@ -15,7 +15,7 @@ ghost use Rattle.poets_import.specs.code.Members as members;
 
 use crate::fault::Unread;
 use crate::members::{first_text, items_at};
-use poets_call::Folio;
+use poets_command::Folio;
 use poets_expr::Decls;
 use poets_lex::Names;
 use poets_literals::read_value;

@@ -2,14 +2,14 @@
 ghost use Rattle.std.specs.Prelude.{◌≡◌, [], ◌∷◌, Err, IfOk, map};
 ghost use Rattle.serde_json.specs.View.{view};
 ghost use Rattle.poets_lex.specs.Table.{Extends};
-ghost use Rattle.poets_call.specs.Statements.{statement_of, statements_of};
+ghost use Rattle.poets_command.specs.Statements.{statement_of, statements_of};
 ghost use Rattle.poets_import.specs.code.Gathering.{Adds, Declares, IsDeclaredBy};
 ghost use Rattle.poets_import.specs.code.Spoken.{AreRead, IsBookSaid, IsNone, IsSentence};
 
 use crate::fault::Unread;
 use crate::members::items_in;
 use crate::phrases::statement_in;
-use poets_call::Statement;
+use poets_command::Statement;
 use poets_expr::Decls;
 use poets_lex::Names;
 use poets_report::Report;

@@ -5,9 +5,9 @@ ghost use Rattle.poets_lex.specs.Lexes.{Lexes};
 ghost use Rattle.poets_lex.specs.Table.{Extends};
 ghost use Rattle.poets_grammar.specs.Tokens.{AreNatural, toks};
 ghost use Rattle.poets_syntax.specs.Contract.{contract_of};
-ghost use Rattle.poets_call.specs.Calls as calls;
-ghost use Rattle.poets_call.specs.Said as said;
-ghost use Rattle.poets_call.specs.Statements.{statement_of};
+ghost use Rattle.poets_command.specs.Calls as calls;
+ghost use Rattle.poets_command.specs.Said as said;
+ghost use Rattle.poets_command.specs.Statements.{statement_of};
 ghost use Rattle.poets_import.specs.Phrases.{AreSentence, Called, Owed, Say, Says, Sentence};
 ghost use Rattle.poets_import.specs.Phrases as phrases;
 ghost use Rattle.poets_import.specs.code.Spoken.{AreNoContract, AreNoName, AreNoSentence, HasNoTokens};
@@ -15,7 +15,7 @@ ghost use Rattle.poets_import.specs.code.Spoken.{IsCalled, IsNoRegistration, IsN
 ghost use Rattle.poets_import.specs.code.Spoken.{SaysNoCommand};
 
 use crate::fault::Unread;
-use poets_call::{Command, Statement};
+use poets_command::{Command, Statement};
 use poets_lex::{Names, Sign, Tok, Token, Word, is_name, tokens};
 use poets_parse::statement_stored;
 use poets_syntax::{Term, copy};

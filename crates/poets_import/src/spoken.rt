@@ -11,7 +11,7 @@ ghost use Rattle.poets_import.specs.code.Spoken.{ReplySaid, RowsSaid};
 use crate::fault::Unread;
 use crate::members::{first_text, items_at, text_at};
 use crate::phrases::{command_in, name_in, owed_in};
-use poets_call::Command;
+use poets_command::Command;
 use poets_lex::Names;
 use poets_syntax::Term;
 use poets_value::{List, Name, push};

@@ -7,7 +7,7 @@ use Rattle.serde_json.specs.Data.{Data, string}
 use Rattle.serde_json.specs.View.{items_of}
 use Rattle.serde_json.specs.Written.{compact_text, items_text}
 use Rattle.poets_lex.specs.Table.{Table}
-use Rattle.poets_call.specs.Plain.{Entry}
+use Rattle.poets_command.specs.Plain.{Entry}
 use Rattle.poets_books.specs.Books.{book_texts}
 use Rattle.poets_value.specs.code.Texts.{Puts}
 use Rattle.poets_json.specs.Plain.{Exported}

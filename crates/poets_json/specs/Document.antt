@@ -9,7 +9,7 @@ use Rattle.poets_value.specs.declared.value.Value.{Value}
 use Rattle.poets_value.specs.Civil.{day_text}
 use Rattle.poets_report.specs.Plain.{Answer, Single, Rows, KeyRow}
 use Rattle.poets_lex.specs.Table.{Table}
-use Rattle.poets_call.specs.Plain.{Reply, Entry}
+use Rattle.poets_command.specs.Plain.{Reply, Entry}
 use Rattle.poets_print.specs.Texts.{name_text, value_text, contract_text}
 use Rattle.poets_print.specs.Lines.{command_text}
 use Rattle.poets_books.specs.Books.{book_texts}

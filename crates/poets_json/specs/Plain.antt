@@ -6,10 +6,10 @@ use Rattle.poets_value.specs.Listed.{Listed}
 use Rattle.poets_syntax.specs.declared.term.Book.{Book}
 use Rattle.poets_syntax.specs.Book.{template_of}
 use Rattle.poets_report.specs.declared.report.Report as code_report
-use Rattle.poets_call.specs.declared.call.Entry as code_entry
+use Rattle.poets_command.specs.declared.call.Entry as code_entry
 use Rattle.poets_report.specs.Reports.{report_of}
-use Rattle.poets_call.specs.Plain.{Template, Report, Entry}
-use Rattle.poets_call.specs.Calls.{history_of}
+use Rattle.poets_command.specs.Plain.{Template, Report, Entry}
+use Rattle.poets_command.specs.Calls.{history_of}
 use Rattle.poets_json.specs.declared.exported.Exported as code
 
 -- the declared names with their types, in the order of their numbers, the templates, the reports, and a history

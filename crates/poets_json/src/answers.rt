@@ -3,13 +3,13 @@ ghost use Rattle.std.specs.Prelude.{IfOk, codes, map};
 ghost use Rattle.serde_json.specs.Data.{member, no_members};
 ghost use Rattle.serde_json.specs.View.{view};
 ghost use Rattle.poets_report.specs.Answers.{answer_of};
-ghost use Rattle.poets_call.specs.Calls.{folio_row_of};
+ghost use Rattle.poets_command.specs.Calls.{folio_row_of};
 ghost use Rattle.poets_json.specs.Document.{answer_data, folio_data, list_data, part_data, row_data};
 ghost use Rattle.poets_json.specs.Document.{total_members, value_data};
 ghost use Rattle.poets_json.specs.code.Values.{Is};
 
 use poets_books::value_text;
-use poets_call::Folio;
+use poets_command::Folio;
 use poets_lex::Names;
 use poets_print::name_text;
 use poets_report::Answer;

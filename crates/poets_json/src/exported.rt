@@ -1,6 +1,6 @@
 //! What is exported.
 
-use poets_call::Entry;
+use poets_command::Entry;
 use poets_report::Report;
 use poets_syntax::Book;
 use poets_value::List;

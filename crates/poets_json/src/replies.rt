@@ -3,7 +3,7 @@ ghost use Rattle.std.specs.Prelude.{◌≡◌, IfOk};
 ghost use Rattle.serde_json.specs.View.{view};
 ghost use Rattle.poets_value.specs.Civil as civil;
 ghost use Rattle.poets_syntax.specs.Contract.{contract_of};
-ghost use Rattle.poets_call.specs.Calls.{entry_of, reply_of};
+ghost use Rattle.poets_command.specs.Calls.{entry_of, reply_of};
 ghost use Rattle.poets_print.specs.Texts as texts;
 ghost use Rattle.poets_json.specs.Document.{answered_data, counted_data, entry_data, id_data, late_data};
 ghost use Rattle.poets_json.specs.Document.{no_contract_data, number_data, reply_data, shown_data, word_data};
@@ -11,7 +11,7 @@ ghost use Rattle.poets_json.specs.code.Values.{Is};
 
 use crate::answers::{answer_json, folio_json};
 use poets_books::day_text;
-use poets_call::{Entry, Reply};
+use poets_command::{Entry, Reply};
 use poets_lex::Names;
 use poets_print::{command_text, name_text, term_text};
 use poets_syntax::Term;

@@ -1,7 +1,7 @@
 //! Documents of histories that are built by hand.
 
 use crate::{Exported, export_text};
-use poets_call::{Command, Entry, Folio, Reply};
+use poets_command::{Command, Entry, Folio, Reply};
 use poets_expr::Decls;
 use poets_lex::{Names, tokens};
 use poets_report::Answer;

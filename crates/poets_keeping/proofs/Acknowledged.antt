@@ -3,8 +3,8 @@ use Rattle.std.proofs.Common.{◌≡◌, ◌≢◌, ℕ, zero, suc, ◌+◌, ◌
 use Rattle.std.proofs.lemmas.List.{length-map, take_all}
 use Rattle.poets_io.specs.Causes.{Rose}
 use Rattle.poets_lex.specs.Table.{Table}
-use Rattle.poets_call.specs.Calls.{Call, calls_of}
-use Rattle.poets_call.specs.Plain.{Entry}
+use Rattle.poets_command.specs.Calls.{Call, calls_of}
+use Rattle.poets_command.specs.Plain.{Entry}
 use Rattle.poets_disk.specs.Disks.{During, MayLeave, Seen}
 use Rattle.poets_disk.proofs.Moments.{during_both}
 use Rattle.poets_journal.specs.Texts.{HoldsTexts, Texts}

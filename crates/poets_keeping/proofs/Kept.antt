@@ -8,8 +8,8 @@ use Rattle.std.proofs.lemmas.List.{length-map}
 use Rattle.poets_io.specs.Causes.{Rose}
 use Rattle.poets_value.specs.Listed.{Listed}
 use Rattle.poets_lex.specs.Table.{Table}
-use Rattle.poets_call.specs.Plain.{Entry}
-use Rattle.poets_call.specs.Said.{Statement}
+use Rattle.poets_command.specs.Plain.{Entry}
+use Rattle.poets_command.specs.Said.{Statement}
 use Rattle.poets_disk.specs.Disks.{During, GoesOn, Seen}
 use Rattle.poets_journal.specs.Journals.{texts_of}
 use Rattle.poets_journal.specs.Starts.{StaysOrIsShort, disk_of}

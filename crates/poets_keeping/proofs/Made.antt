@@ -10,17 +10,17 @@ use Rattle.std.proofs.lemmas.List.Elements.{All-append, All-map, All-nil}
 use Rattle.std.proofs.lemmas.Simd.{map-map}
 use Rattle.poets_value.specs.Listed.{Listed}
 use Rattle.poets_lex.specs.Table.{Table}
-use Rattle.poets_syntax.specs.Studied.{IsStudiedBook}
-use Rattle.poets_call.specs.declared.call.Command.{Command as CodeCommand}
-use Rattle.poets_call.specs.declared.call.Entry as code
-use Rattle.poets_call.specs.declared.call.Reply.{Reply}
-use Rattle.poets_call.specs.declared.rules.Rules.{Rules}
-use Rattle.poets_call.specs.Calls.{Call, calls_of, entry_of, history_of, command_of}
-use Rattle.poets_call.specs.Histories.{IsLegal, IsRightHistory}
-use Rattle.poets_call.specs.Plain.{Command, Entry}
-use Rattle.poets_call.specs.Rules.{book_of_rules, reports_of_rules}
-use Rattle.poets_call.specs.Typing.{IsTypedCommand}
-use Rattle.poets_call.proofs.Histories.{calls_append}
+use Rattle.poets_meaning.specs.Studied.{IsStudiedBook}
+use Rattle.poets_command.specs.declared.call.Command.{Command as CodeCommand}
+use Rattle.poets_command.specs.declared.call.Entry as code
+use Rattle.poets_command.specs.declared.call.Reply.{Reply}
+use Rattle.poets_command.specs.Calls.{Call, calls_of, entry_of, history_of, command_of}
+use Rattle.poets_command.specs.Plain.{Command, Entry}
+use Rattle.poets_command.specs.Typing.{IsTypedCommand}
+use Rattle.poets_rules.specs.declared.rules.Rules.{Rules}
+use Rattle.poets_rules.specs.Rules.{book_of_rules, reports_of_rules}
+use Rattle.poets_history.specs.Histories.{IsLegal, IsRightHistory}
+use Rattle.poets_history.proofs.Histories.{calls_append}
 use Rattle.poets_clerks.specs.Histories.{AreReplies, HasScriptParts, HasScripts}
 use Rattle.poets_clerks.specs.Scripts.{calls_of as calls_of_script}
 use Rattle.poets_clerks.proofs.Scripted.{parts_hold, parts_mapped}

@@ -1,10 +1,10 @@
 -- Parts of a session's history.
 use Rattle.std.proofs.Common.{◌≡◌, ℕ, suc, ◌+◌, ◌≤◌, List, ◌++◌, length, ◌∙◌, ap, subst, arith}
-use Rattle.poets_call.specs.Calls.{Call, calls_of}
-use Rattle.poets_call.specs.Histories.{IsRightHistory}
-use Rattle.poets_call.specs.Plain.{Entry}
-use Rattle.poets_call.specs.Rules as R
-use Rattle.poets_call.specs.Said.{Statement}
+use Rattle.poets_command.specs.Calls.{Call, calls_of}
+use Rattle.poets_command.specs.Plain.{Entry}
+use Rattle.poets_command.specs.Said.{Statement}
+use Rattle.poets_rules.specs.Rules as R
+use Rattle.poets_history.specs.Histories.{IsRightHistory}
 use Rattle.poets_clerks.specs.Histories.{HasScriptParts}
 use Rattle.poets_machine.specs.Histories.{own_calls as machine_calls}
 use Rattle.poets_making.proofs.Taking.{All-of_map}

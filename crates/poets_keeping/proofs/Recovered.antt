@@ -5,12 +5,12 @@ use Rattle.std.specs.declared.alloc.Global.{Global}
 use Rattle.poets_io.specs.Causes.{Rose}
 use Rattle.poets_io.proofs.Transfers.{transfers}
 use Rattle.poets_lex.specs.Table.{Table}
-use Rattle.poets_call.specs.Calls.{calls_of}
-use Rattle.poets_call.specs.Declarations.{book_from, reports_of}
-use Rattle.poets_call.specs.Histories.{IsRightHistory}
-use Rattle.poets_call.specs.Plain.{Entry}
-use Rattle.poets_call.specs.Rules as R
-use Rattle.poets_call.specs.Said.{Statement}
+use Rattle.poets_command.specs.Calls.{calls_of}
+use Rattle.poets_command.specs.Declarations.{book_from, reports_of}
+use Rattle.poets_command.specs.Plain.{Entry}
+use Rattle.poets_command.specs.Said.{Statement}
+use Rattle.poets_rules.specs.Rules as R
+use Rattle.poets_history.specs.Histories.{IsRightHistory}
 use Rattle.poets_disk.specs.Disks.{Seen}
 use Rattle.poets_journal.specs.Starts.{HasStartCause, OnDamaged, disk_of}
 use Rattle.poets_journal.specs.Texts.{Texts}

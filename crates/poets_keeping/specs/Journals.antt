@@ -2,8 +2,8 @@
 use Rattle.std.specs.Prelude.{◌≡◌, ◌≢◌, ℕ, ◌+◌, ◌≤◌, ◌⊎◌, List, [], ◌∷◌, ◌++◌, codes, length, option_map, IfSome}
 use Rattle.std.specs.Fmt.{decimal}
 use Rattle.poets_lex.specs.Table.{Table}
-use Rattle.poets_call.specs.Calls.{calls_of}
-use Rattle.poets_call.specs.Plain.{Entry}
+use Rattle.poets_command.specs.Calls.{calls_of}
+use Rattle.poets_command.specs.Plain.{Entry}
 use Rattle.poets_disk.specs.Disks.{Seen, MayLeave, GoesOn, During}
 use Rattle.poets_journal.specs.Texts.{Texts, HoldsTexts, IsDamaged}
 use Rattle.poets_journal.specs.Journals.{AllHold}

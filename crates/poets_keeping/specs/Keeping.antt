@@ -3,11 +3,11 @@ use Rattle.std.specs.Prelude.{◌≡◌, ℕ, suc, ◌≤◌, ◌<◌, List, [],
 use mathlib.Core.List.{IsPrefix}
 use Rattle.poets_io.specs.Causes.{Rose}
 use Rattle.poets_lex.specs.Table.{Table}
-use Rattle.poets_call.specs.Plain.{Command, Entry}
-use Rattle.poets_call.specs.Calls.{own}
-use Rattle.poets_call.specs.Said.{Statement}
-use Rattle.poets_call.specs.Declarations.{book_from, reports_of}
-use Rattle.poets_call.specs.Histories.{IsRightHistory}
+use Rattle.poets_command.specs.Plain.{Command, Entry}
+use Rattle.poets_command.specs.Calls.{own}
+use Rattle.poets_command.specs.Said.{Statement}
+use Rattle.poets_command.specs.Declarations.{book_from, reports_of}
+use Rattle.poets_history.specs.Histories.{IsRightHistory}
 use Rattle.poets_disk.specs.Disks.{Seen, MayLeave, During}
 use Rattle.poets_journal.specs.Texts.{Texts, HoldsTexts}
 use Rattle.poets_journal.specs.Journals.{AllHold}

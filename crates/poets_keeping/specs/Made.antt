@@ -1,13 +1,13 @@
 -- Calls of scripts that are made after earlier ones, and kept.
 use Rattle.std.specs.Prelude.{◌≡◌, ℕ, nat_eq, Bool, if◌then◌else◌, List, [], ◌++◌, All, length, take, Option, Some, None, IfSome}
 use Rattle.poets_lex.specs.Table.{Table}
-use Rattle.poets_call.specs.Calls.{calls_of, history_of}
-use Rattle.poets_call.specs.Histories.{IsRightHistory}
-use Rattle.poets_call.specs.Plain.{Command, Entry}
-use Rattle.poets_call.specs.Rules.{book_of_rules, reports_of_rules}
-use Rattle.poets_call.specs.Typing.{IsTypedCommand}
-use Rattle.poets_call.specs.declared.call.Entry as code
-use Rattle.poets_call.specs.declared.rules.Rules.{Rules}
+use Rattle.poets_command.specs.Calls.{calls_of, history_of}
+use Rattle.poets_command.specs.Plain.{Command, Entry}
+use Rattle.poets_command.specs.Typing.{IsTypedCommand}
+use Rattle.poets_command.specs.declared.call.Entry as code
+use Rattle.poets_rules.specs.Rules.{book_of_rules, reports_of_rules}
+use Rattle.poets_rules.specs.declared.rules.Rules.{Rules}
+use Rattle.poets_history.specs.Histories.{IsRightHistory}
 use Rattle.poets_clerks.specs.Histories.{HasScripts, HasScriptParts}
 use Rattle.poets_disk.specs.Disks.{Seen}
 use Rattle.poets_engine.specs.State.{State}

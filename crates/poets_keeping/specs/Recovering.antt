@@ -3,11 +3,11 @@ use Rattle.std.specs.Prelude.{◌≡◌, ℕ, ◌≤◌, List, [], length, Optio
 use Rattle.std.specs.Io.KnownBytes.{Appends}
 use Rattle.poets_io.specs.Causes.{Rose}
 use Rattle.poets_lex.specs.Table.{Table}
-use Rattle.poets_call.specs.Plain.{Entry}
-use Rattle.poets_call.specs.Calls.{calls_of}
-use Rattle.poets_call.specs.Said.{Statement}
-use Rattle.poets_call.specs.Declarations.{book_from, reports_of}
-use Rattle.poets_call.specs.Histories.{IsRightHistory}
+use Rattle.poets_command.specs.Plain.{Entry}
+use Rattle.poets_command.specs.Calls.{calls_of}
+use Rattle.poets_command.specs.Said.{Statement}
+use Rattle.poets_command.specs.Declarations.{book_from, reports_of}
+use Rattle.poets_history.specs.Histories.{IsRightHistory}
 use Rattle.poets_disk.specs.Disks.{Seen}
 use Rattle.poets_io.specs.Streams.{GivesAll}
 use Rattle.poets_journal.specs.Texts.{Texts}

@@ -1,7 +1,7 @@
 -- How it ends that a text is written whose run has a status of its own.
 use Rattle.std.specs.Prelude.{◌≡◌, ℕ, List}
 use Rattle.poets_lex.specs.Table.{Table}
-use Rattle.poets_call.specs.Plain.{Entry}
+use Rattle.poets_command.specs.Plain.{Entry}
 use Rattle.poets_print.specs.Lines.{lines_from}
 use Rattle.std.specs.Io.KnownBytes.{Appends}
 use Rattle.poets_io.specs.Streams.{AppendsPart}

@@ -1,7 +1,7 @@
 //! The word `keep`: the clerks' scripts are made, and their calls kept in a journal.
 ghost use Rattle.std.specs.Prelude.{◌≡◌, ◌+◌, ◌^◌, ◌≤◌, ◌<◌, [], false, length, take};
 ghost use Rattle.poets_value.specs.Limits.{most_clerks};
-ghost use Rattle.poets_call.specs.Calls.{history_of};
+ghost use Rattle.poets_command.specs.Calls.{history_of};
 ghost use Rattle.poets_disk.specs.Disks.{GoesOn};
 ghost use Rattle.poets_making.specs.Noted.{AreScriptsTaken};
 ghost use Rattle.poets_session.specs.Sessions.{commands_in};
@@ -19,8 +19,8 @@ use crate::journal::{damaged_line, holds_line};
 use crate::outcome::{DAMAGED, DISK_FAULT, HOLDS_CALLS, KeptOutcome, stopped, unstored};
 use crate::work::{KeptCalls, keep_calls};
 use crate::writing::{tell, write_entries};
-use poets_call::{Command, Entry};
 use poets_clerks::Gate;
+use poets_command::{Command, Entry};
 use poets_disk::Disk;
 use poets_engine::Engine;
 use poets_io::{Sink, Source};

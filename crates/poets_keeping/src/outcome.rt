@@ -1,7 +1,7 @@
 //! What a run with a disk answers.
 ghost use Rattle.std.specs.Prelude.{◌≡◌, []};
 
-use poets_call::Entry;
+use poets_command::Entry;
 use poets_value::List;
 use poets_writing::Outcome;
 use std::alloc::Global;

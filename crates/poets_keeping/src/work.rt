@@ -12,8 +12,8 @@ ghost use Rattle.poets_disk.specs.Disks.{GoesOn};
 ghost use Rattle.poets_keeping.specs.Made.{AreMade, OfTaken};
 ghost use Rattle.poets_keeping.specs.code.Entries.{AreEntriesWith};
 
-use poets_call::{Command, Entry, Reply};
 use poets_clerks::{Gate, MadeOf, attempt_history};
+use poets_command::{Command, Entry, Reply};
 use poets_disk::Disk;
 use poets_engine::Engine;
 use poets_journal::{Journal, Journaled, Put};

@@ -5,7 +5,7 @@ ghost use Rattle.poets_writing.specs.Writing.{change};
 ghost use Rattle.poets_keeping.specs.Writing.{WritesAs};
 
 use crate::outcome::{KeptOutcome, stopped};
-use poets_call::Entry;
+use poets_command::Entry;
 use poets_io::Sink;
 use poets_lex::Names;
 use poets_value::Memory;

@@ -2,8 +2,8 @@
 use Rattle.std.proofs.Common.{ℕ, ◌+◌, List, length, arith}
 use Rattle.std.proofs.lemmas.List.Elements.{All-map}
 use Rattle.std.proofs.lemmas.List.Folds.{fold-map}
-use Rattle.poets_call.specs.Calls.{Call, calls_of}
-use Rattle.poets_call.specs.Plain.{Entry}
+use Rattle.poets_command.specs.Calls.{Call, calls_of}
+use Rattle.poets_command.specs.Plain.{Entry}
 use Rattle.poets_printed.specs.Numbered.{numbered_text}
 use Rattle.poets_session.specs.declared.form.Form.TheVariants as F
 use Rattle.poets_session.specs.Sessions.{scripts_of}

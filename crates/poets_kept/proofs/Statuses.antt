@@ -3,8 +3,8 @@ use Rattle.std.proofs.Common.{◌≡◌, ◌≢◌, ℕ, List, [], ◌∷◌, ge
 use Rattle.std.specs.Prelude.{codes}
 use Rattle.std.specs.Io.KnownBytes.{Appends}
 use Rattle.poets_lex.specs.Table.{Table}
-use Rattle.poets_call.specs.Plain.{Entry}
-use Rattle.poets_call.specs.Said.{Statement}
+use Rattle.poets_command.specs.Plain.{Entry}
+use Rattle.poets_command.specs.Said.{Statement}
 use Rattle.poets_disk.specs.Disks.{Seen}
 use Rattle.poets_session.specs.declared.form.Form.{Form}
 use Rattle.poets_session.specs.declared.form.Form.TheVariants as F

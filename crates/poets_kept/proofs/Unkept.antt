@@ -1,6 +1,6 @@
 -- A run without a disk, as one with a disk tells it.
 use Rattle.std.proofs.Common.{◌≡◌, ℕ, List, sym, subst}
-use Rattle.poets_call.specs.Plain.{Entry}
+use Rattle.poets_command.specs.Plain.{Entry}
 use Rattle.poets_top.specs.Runs.{Ends}
 use Rattle.poets_words.specs.declared.mode.Mode.{Mode}
 use Rattle.poets_writing.specs.Writing.{Stream}

@@ -2,17 +2,17 @@
 use Rattle.std.specs.Prelude.{◌≡◌, ℕ, ◌<◌, ◌≤◌, List, length, take}
 use Rattle.poets_value.specs.Limits.{longest_text, most_clerks, most_sales}
 use Rattle.poets_lex.specs.Table.{Table, Extends}
-use Rattle.poets_call.specs.Declarations.{book_from, reports_of}
-use Rattle.poets_call.specs.Plain.{Entry}
-use Rattle.poets_call.specs.Said.{Statement}
+use Rattle.poets_command.specs.Declarations.{book_from, reports_of}
+use Rattle.poets_command.specs.Plain.{Entry}
+use Rattle.poets_command.specs.Said.{Statement}
 use Rattle.poets_grammar.specs.TooDeep.{most_open, most_open_stored, most_operators}
 use Rattle.poets_recover.specs.Stored.{length_of_all, most_stored}
 use Rattle.poets_reread.specs.Reread.{AreReread}
 use Rattle.poets_session.specs.declared.form.Form.TheVariants as F
 use Rattle.poets_session.specs.Places.{most_commands, most_reports, most_templates}
 use Rattle.poets_session.specs.Sessions.{Text, IsSession}
-use Rattle.poets_syntax.specs.Spread.{largest}
-use Rattle.poets_syntax.specs.Width.{widest}
+use Rattle.poets_meaning.specs.Spread.{largest}
+use Rattle.poets_meaning.specs.Width.{widest}
 use Rattle.poets_writing.specs.declared.outcome.TheConstants.{DONE, NO_MEMORY, NO_SESSION, READ_FAULT, TOO_LONG, USAGE}
 use Rattle.poets_writing.specs.declared.outcome.TheConstants.{WRITE_FAULT}
 use Rattle.poets_keeping.specs.Journals.{texts_of}

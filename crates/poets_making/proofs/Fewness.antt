@@ -9,9 +9,9 @@ use Rattle.std.proofs.lemmas.Bool.Decides.{nat_tests}
 use Rattle.std.proofs.lemmas.List.Sums.{sum_by-append}
 use Rattle.poets_value.specs.Limits.{most_clerks}
 use Rattle.poets_value.specs.Listed.{Listed}
-use Rattle.poets_call.specs.declared.call.Command.{Command as CodeCommand}
-use Rattle.poets_call.specs.Calls.{command_of}
-use Rattle.poets_call.specs.Said.{Statement, Clerk}
+use Rattle.poets_command.specs.declared.call.Command.{Command as CodeCommand}
+use Rattle.poets_command.specs.Calls.{command_of}
+use Rattle.poets_command.specs.Said.{Statement, Clerk}
 use Rattle.poets_session.specs.declared.form.Form.{Form}
 use Rattle.poets_session.specs.Places.{PlaceFault, is_clerk, is_misplaced, is_too_many, place_fault, place_fault_after}
 use Rattle.poets_session.specs.Sessions.{scripts_of, commands_in}

@@ -5,9 +5,9 @@ use Rattle.std.specs.declared.alloc.Global.{Global}
 use Rattle.std.specs.declared.sync.Arc.{Arc}
 use Rattle.std.proofs.lemmas.List.{map_more, length-map, length-take-le}
 use Rattle.poets_value.specs.Listed.{Listed}
-use Rattle.poets_call.specs.declared.call.Command.{Command as CodeCommand}
-use Rattle.poets_call.specs.Plain.{Command}
-use Rattle.poets_call.specs.Calls.{Call, command_of}
+use Rattle.poets_command.specs.declared.call.Command.{Command as CodeCommand}
+use Rattle.poets_command.specs.Plain.{Command}
+use Rattle.poets_command.specs.Calls.{Call, command_of}
 use Rattle.poets_session.specs.Sessions.{calls_in}
 
 -- one call more

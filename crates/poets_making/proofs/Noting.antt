@@ -4,16 +4,16 @@ use Rattle.std.specs.Arc.{arc_value}
 use Rattle.std.proofs.lemmas.List.{map-append}
 use Rattle.poets_syntax.specs.Plain.{Book}
 use Rattle.poets_report.specs.Plain.{Report}
-use Rattle.poets_call.specs.declared.call.Command.{Command}
-use Rattle.poets_call.specs.declared.call.Entry.{Entry}
-use Rattle.poets_call.specs.Rules.{book_of_rules, reports_of_rules}
-use Rattle.poets_call.specs.Calls.{calls_of, entry_of, history_of, command_of, reply_of}
-use Rattle.poets_call.specs.Histories.{IsLegal, AnswersIn}
-use Rattle.poets_call.specs.Ledger.{ledger_of}
-use Rattle.poets_call.specs.Replies.{Legal, Replies}
-use Rattle.poets_call.specs.Plain as plain
-use Rattle.poets_call.proofs.Histories.{calls_last, one_history}
-use Rattle.poets_call.proofs.OneFrames.{one_frame}
+use Rattle.poets_command.specs.declared.call.Command.{Command}
+use Rattle.poets_command.specs.declared.call.Entry.{Entry}
+use Rattle.poets_command.specs.Calls.{calls_of, entry_of, history_of, command_of, reply_of}
+use Rattle.poets_command.specs.Plain as plain
+use Rattle.poets_rules.specs.Rules.{book_of_rules, reports_of_rules}
+use Rattle.poets_history.specs.Histories.{IsLegal, AnswersIn}
+use Rattle.poets_history.specs.Ledger.{ledger_of}
+use Rattle.poets_history.specs.Replies.{Legal, Replies}
+use Rattle.poets_history.proofs.Histories.{calls_last, one_history}
+use Rattle.poets_history.proofs.OneFrames.{one_frame}
 use Rattle.poets_engine.specs.declared.kept.Kept.{Kept}
 use Rattle.poets_engine.specs.State.{State, plain_calls, OwesNext, Fulfils}
 use Rattle.poets_making.specs.Noted.{AreNoted}

@@ -5,15 +5,15 @@ use Rattle.std.proofs.lemmas.List.Elements.{All-map, All-take}
 use Rattle.std.specs.Arc.{arc_value}
 use Rattle.std.specs.declared.alloc.Global.{Global}
 use Rattle.std.specs.declared.sync.Arc.{Arc}
-use Rattle.poets_syntax.specs.Studied.{IsStudiedBook}
-use Rattle.poets_call.specs.declared.call.Command.{Command as CodeCommand}
-use Rattle.poets_call.specs.declared.rules.Rules.{Rules}
-use Rattle.poets_call.specs.Calls.{Call, calls_of, command_of}
-use Rattle.poets_call.specs.Histories.{IsLegal, IsRightHistory}
-use Rattle.poets_call.specs.Plain.{Entry}
-use Rattle.poets_call.specs.Rules as R
-use Rattle.poets_call.specs.Taken.{IsTaken}
-use Rattle.poets_call.specs.Typing.{IsTypedCommand}
+use Rattle.poets_meaning.specs.Studied.{IsStudiedBook}
+use Rattle.poets_command.specs.declared.call.Command.{Command as CodeCommand}
+use Rattle.poets_command.specs.Calls.{Call, calls_of, command_of}
+use Rattle.poets_command.specs.Plain.{Entry}
+use Rattle.poets_command.specs.Taken.{IsTaken}
+use Rattle.poets_command.specs.Typing.{IsTypedCommand}
+use Rattle.poets_rules.specs.declared.rules.Rules.{Rules}
+use Rattle.poets_rules.specs.Rules as R
+use Rattle.poets_history.specs.Histories.{IsLegal, IsRightHistory}
 use Rattle.poets_engine.proofs.ShownResiduals.{legal_histories_show}
 use Rattle.poets_session.specs.Sessions.{calls_in}
 use Rattle.poets_making.specs.Noted.{AreTaken}

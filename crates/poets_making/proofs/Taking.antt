@@ -9,18 +9,18 @@ use Rattle.std.proofs.lemmas.List.Elements.{All-nil, All-cons, All-head, All-tai
 use Rattle.poets_syntax.specs.Plain.{Book}
 use Rattle.poets_syntax.specs.Whole.{IsWholeContract, IsWholeBook}
 use Rattle.poets_report.specs.Plain.{Report}
-use Rattle.poets_call.specs.declared.call.Command.{Command as CodeCommand}
-use Rattle.poets_call.specs.declared.rules.Rules.{Rules}
-use Rattle.poets_call.specs.Rules as R
-use Rattle.poets_call.specs.Calls.{Call, command_of}
-use Rattle.poets_call.specs.Said.{Statement, Clerk, Command, Numbered, Template}
-use Rattle.poets_call.specs.Declarations.{book_from, reports_of}
-use Rattle.poets_call.specs.Taken.{IsTaken}
-use Rattle.poets_call.specs.Plain.{TypeFault}
-use Rattle.poets_call.specs.TypedStatements.{check_command, check_statement, first_of, twice_from, mistyped_from, first_fault}
-use Rattle.poets_call.specs.Typing.{IsTypedCommand}
-use Rattle.poets_call.proofs.TypingRules.{command_typed}
-use Rattle.poets_call.specs.Plain as plain
+use Rattle.poets_command.specs.declared.call.Command.{Command as CodeCommand}
+use Rattle.poets_command.specs.Calls.{Call, command_of}
+use Rattle.poets_command.specs.Said.{Statement, Clerk, Command, Numbered, Template}
+use Rattle.poets_command.specs.Declarations.{book_from, reports_of}
+use Rattle.poets_command.specs.Taken.{IsTaken}
+use Rattle.poets_command.specs.Plain.{TypeFault}
+use Rattle.poets_command.specs.TypedStatements.{check_command, check_statement, first_of, twice_from, mistyped_from, first_fault}
+use Rattle.poets_command.specs.Typing.{IsTypedCommand}
+use Rattle.poets_command.proofs.TypingRules.{command_typed}
+use Rattle.poets_command.specs.Plain as plain
+use Rattle.poets_rules.specs.declared.rules.Rules.{Rules}
+use Rattle.poets_rules.specs.Rules as R
 use Rattle.poets_lex.specs.Table.{Table}
 use Rattle.poets_types.proofs.CheckedBooks.{or_else-none}
 use Rattle.poets_value.specs.Listed.{Listed}

@@ -5,14 +5,14 @@ use Rattle.std.specs.declared.sync.Arc.{Arc}
 use Rattle.std.specs.Arc.{arc_value}
 use Rattle.std.specs.List.{zip}
 use Rattle.poets_value.specs.Listed.{Listed}
-use Rattle.poets_call.specs.declared.call.Command.{Command}
-use Rattle.poets_call.specs.declared.call.Entry as code
-use Rattle.poets_call.specs.declared.call.Reply.{Reply}
-use Rattle.poets_call.specs.declared.rules.Rules.{Rules}
-use Rattle.poets_call.specs.Calls.{Call, calls_of, command_of, history_of, reply_of}
-use Rattle.poets_call.specs.Plain.{Entry}
-use Rattle.poets_call.specs.Histories.{IsLegal, IsRightHistory}
-use Rattle.poets_call.specs.Rules.{book_of_rules, reports_of_rules}
+use Rattle.poets_command.specs.declared.call.Command.{Command}
+use Rattle.poets_command.specs.declared.call.Entry as code
+use Rattle.poets_command.specs.declared.call.Reply.{Reply}
+use Rattle.poets_command.specs.Calls.{Call, calls_of, command_of, history_of, reply_of}
+use Rattle.poets_command.specs.Plain.{Entry}
+use Rattle.poets_rules.specs.declared.rules.Rules.{Rules}
+use Rattle.poets_rules.specs.Rules.{book_of_rules, reports_of_rules}
+use Rattle.poets_history.specs.Histories.{IsLegal, IsRightHistory}
 use Rattle.poets_clerks.specs.Histories.{HasScripts}
 use Rattle.poets_engine.specs.State.{State, commands_of, plain_calls}
 use Rattle.poets_engine.specs.Takes.{IsTakenBy}

@@ -1,13 +1,14 @@
 //! The clerks' scripts, made all at once on one engine.
 ghost use Rattle.std.specs.Prelude.{◌≤◌, length, IfOk};
 ghost use Rattle.poets_value.specs.Limits.{most_clerks};
-ghost use Rattle.poets_call.specs.Rules.{book_of_rules};
+ghost use Rattle.poets_rules.specs.Rules.{book_of_rules};
 ghost use Rattle.poets_syntax.specs.Whole.{IsWholeBook};
 ghost use Rattle.poets_making.specs.Noted.{AreEntriesOf, AreRight, AreScriptsTaken, HaveScripts};
 
-use poets_call::{Command, Entry, Reply, Rules};
 use poets_clerks::{Gate, make_history};
+use poets_command::{Command, Entry, Reply};
 use poets_engine::Engine;
+use poets_rules::Rules;
 use poets_value::{List, Memory, push};
 use std::alloc::Global;
 use std::sync::{Arc, Wait};

@@ -2,15 +2,16 @@
 ghost use Rattle.std.specs.Prelude.{◌≡◌, IfOk};
 ghost use Rattle.poets_syntax.specs.Whole.{IsWholeBook};
 ghost use Rattle.std.specs.Arc.{arc_value};
-ghost use Rattle.poets_call.specs.Calls.{command_of, history_of};
-ghost use Rattle.poets_call.specs.Rules.{book_of_rules};
+ghost use Rattle.poets_command.specs.Calls.{command_of, history_of};
+ghost use Rattle.poets_rules.specs.Rules.{book_of_rules};
 ghost use Rattle.poets_engine.specs.Takes.{IsTakenBy};
 ghost use Rattle.poets_session.specs.Sessions.{calls_in};
 ghost use Rattle.poets_making.specs.Noted.{AreNoted, AreRight, AreTaken, HaveCalls, NotesCall};
 
-use poets_call::{Command, Entry, Rules};
+use poets_command::{Command, Entry};
 use poets_engine::Engine;
 use poets_expr::Asks;
+use poets_rules::Rules;
 use poets_value::{List, Memory, push};
 use std::alloc::Global;
 use std::sync::Arc;

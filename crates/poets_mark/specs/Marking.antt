@@ -2,7 +2,7 @@
 use Rattle.std.specs.Prelude.{◌≡◌, ℕ, ◌≤◌, List, ◌++◌, length, Option, String, string_bytes}
 use Rattle.std.specs.declared.alloc.Global.{Global}
 use Rattle.poets_value.specs.Limits.{longest_text}
-use Rattle.poets_call.specs.Said.{Statement}
+use Rattle.poets_command.specs.Said.{Statement}
 use Rattle.poets_lex.specs.Table.{Table}
 use Rattle.poets_session.specs.Causes.{IsFirstFault}
 use Rattle.poets_session.specs.Sessions.{Text, IsSession}

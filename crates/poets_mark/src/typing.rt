@@ -4,7 +4,7 @@
 //! The first fault of the text is one of types in this statement. So every name that is checked before it is known, and
 //! every application there has the right number of arguments.
 
-use poets_call::{Command, Statement};
+use poets_command::{Command, Statement};
 use poets_expr::{Expr, Op};
 use poets_lex::{Sign, Tok, Token};
 use poets_report::Report;

@@ -11,9 +11,9 @@ use Rattle.poets_syntax.specs.Contract.{Contract}
 use Rattle.poets_syntax.specs.Plain.{Book}
 use Rattle.poets_syntax.specs.Typing.{Fit}
 use Rattle.poets_report.specs.Plain.{Report}
-use Rattle.poets_call.specs.Ledger.{Ledger, contract_from, contract_named, without, trace, last_day, if_after, absent_or, first_absent, watch_at}
-use Rattle.poets_call.specs.Replies.{report_in}
-use Rattle.poets_call.specs.Typing.{IsTypedCall}
+use Rattle.poets_command.specs.Reports.{report_in}
+use Rattle.poets_command.specs.Typing.{IsTypedCall}
+use Rattle.poets_history.specs.Ledger.{Ledger, contract_from, contract_named, without, trace, last_day, if_after, absent_or, first_absent, watch_at}
 
 -- a chosen value is the first or the later one
 first_or_later : {A : Type 0} (b : Bool) (first : A) (later : Option A) (x : A) → (if b then Some first else later) ≡ Some x → (first ≡ x) ⊎ (later ≡ Some x)

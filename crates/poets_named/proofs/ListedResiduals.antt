@@ -15,10 +15,11 @@ use Rattle.poets_syntax.specs.Contract.{Contract, Success, Failure, Transmit, Pl
 use Rattle.poets_syntax.specs.Plain.{Book, Template}
 use Rattle.poets_syntax.specs.Book.{template_in}
 use Rattle.poets_syntax.specs.Replace.{binds, without, replace}
-use Rattle.poets_syntax.specs.Marks.{Marks}
-use Rattle.poets_syntax.specs.Normal.{folded, params_in, normal}
-use Rattle.poets_syntax.specs.Residual.{event_givens, argument_givens, after, after_at}
+use Rattle.poets_syntax.specs.Givens.{event_givens, argument_givens}
 use Rattle.poets_syntax.proofs.Replacing.{truth}
+use Rattle.poets_meaning.specs.Marks.{Marks}
+use Rattle.poets_calculus.specs.Normal.{folded, params_in, normal}
+use Rattle.poets_calculus.specs.Residual.{after, after_at}
 use Rattle.poets_norm.proofs.Parts.{IsOfParts, kept_by_normal}
 use Rattle.poets_residue.proofs.Kept.{of_body, kept_by_after_at}
 use Rattle.poets_print.specs.Laws.{CanWrite, CanWriteContract}

@@ -13,13 +13,13 @@ use Rattle.poets_expr.proofs.SameTrees.{name_one}
 use Rattle.poets_syntax.specs.Plain.{Book}
 use Rattle.poets_syntax.specs.TypeOf.{Scope, type_in}
 use Rattle.poets_syntax.specs.Whole.{IsWholeBook, IsWholeContract}
-use Rattle.poets_call.specs.Declarations.{agents_and_kinds, template_in_statement, book_from, reports_of}
-use Rattle.poets_call.specs.Plain.{TypeFault}
-use Rattle.poets_call.specs.Plain as plain
-use Rattle.poets_call.specs.Said.{Statement, Agents, Kinds, Template, Report}
-use Rattle.poets_call.specs.TypedStatements.{report_names, check_statement, check_report, first_of, twice_from, mistyped_from}
-use Rattle.poets_call.specs.Typing.{IsTypedReport}
-use Rattle.poets_call.proofs.TypingRules.{report_typed}
+use Rattle.poets_command.specs.Declarations.{agents_and_kinds, template_in_statement, book_from, reports_of}
+use Rattle.poets_command.specs.Plain.{TypeFault}
+use Rattle.poets_command.specs.Plain as plain
+use Rattle.poets_command.specs.Said.{Statement, Agents, Kinds, Template, Report}
+use Rattle.poets_command.specs.TypedStatements.{report_names, check_statement, check_report, first_of, twice_from, mistyped_from}
+use Rattle.poets_command.specs.Typing.{IsTypedReport}
+use Rattle.poets_command.proofs.TypingRules.{report_typed}
 use Rattle.poets_print.specs.Laws.{IsListed}
 use Rattle.poets_books.specs.Laws.{CanWriteTemplate, IsWholeKey}
 use Rattle.poets_types.proofs.CheckedBooks.{or_else-none}

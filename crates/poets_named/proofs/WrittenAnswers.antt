@@ -20,7 +20,7 @@ use Rattle.poets_syntax.specs.Typing.{Has, Fit}
 use Rattle.poets_syntax.specs.WellFormed.{IsDeclaredEvent}
 use Rattle.poets_syntax.proofs.TypingRules.{type_passes}
 use Rattle.poets_syntax.proofs.Typedness.{HasDeclaredLiterals-typed}
-use Rattle.poets_call.specs.Typing.{HasKey, NoKey, AKey}
+use Rattle.poets_command.specs.Typing.{HasKey, NoKey, AKey}
 use Rattle.poets_books.specs.Laws.{IsWholeKey}
 use Rattle.poets_named.specs.Laws.{AnswersAreDeclared}
 use Rattle.poets_named.proofs.KeptAnswers.{EachPart, EachLiteralOf, EachLiteralOfKey, val-kept_in, answer-kept}

@@ -19,20 +19,22 @@ use Rattle.poets_expr.specs.Val.{val, whole}
 use Rattle.poets_expr.specs.Whole.{IsWholeExpression}
 use Rattle.poets_syntax.specs.Contract.{Contract}
 use Rattle.poets_syntax.specs.Plain.{Book}
-use Rattle.poets_syntax.specs.Residual.{residual_after}
 use Rattle.poets_syntax.specs.WellFormed.{IsDeclaredEvent}
 use Rattle.poets_syntax.specs.Whole.{IsWholeContract}
+use Rattle.poets_calculus.specs.Residual.{residual_after}
 use Rattle.poets_residue.proofs.WholeResiduals.{trace_whole}
 use Rattle.poets_report.specs.Answers.{IsAnswer}
 use Rattle.poets_report.specs.Plain.{Report, Answer, Single, Rows}
-use Rattle.poets_call.specs.Frame.{Frame}
-use Rattle.poets_call.specs.Ledger.{Ledger, ledger_of, empty_ledger, with_entry, contract_named, number_of, trace, events, last_day, late_day}
-use Rattle.poets_call.specs.Plain.{Command, Reply, Entry}
-use Rattle.poets_call.specs.Replies.{Replies, Legal, ReportAnswers, AreFolioRows, report_in, if_whole, total_by, added}
-use Rattle.poets_call.specs.Taken.{IsTaken}
-use Rattle.poets_call.specs.TypedStatements.{report_names}
-use Rattle.poets_call.specs.Typing.{IsTypedCall, IsTypedCommand, IsTypedReport, Tallies, Lists, Watches}
-use Rattle.poets_call.proofs.TypedCommands.{typed_event}
+use Rattle.poets_command.specs.Plain.{Command, Reply, Entry}
+use Rattle.poets_command.specs.Reports.{report_in}
+use Rattle.poets_command.specs.Totals.{if_whole, total_by, added}
+use Rattle.poets_command.specs.Taken.{IsTaken}
+use Rattle.poets_command.specs.TypedStatements.{report_names}
+use Rattle.poets_command.specs.Typing.{IsTypedCall, IsTypedCommand, IsTypedReport, Tallies, Lists, Watches}
+use Rattle.poets_command.proofs.TypedCommands.{typed_event}
+use Rattle.poets_history.specs.Frame.{Frame}
+use Rattle.poets_history.specs.Ledger.{Ledger, ledger_of, empty_ledger, with_entry, contract_named, number_of, trace, events, last_day, late_day}
+use Rattle.poets_history.specs.Replies.{Replies, Legal, ReportAnswers, AreFolioRows}
 use Rattle.poets_print.specs.Laws.{IsListed, CanWriteContract, CanWriteCommand}
 use Rattle.poets_literals.specs.Declared.{IsNumber, IsDeclaredAs, IsAsDeclared}
 use Rattle.poets_named.specs.Laws.{RepliesCanBeWritten}

@@ -9,19 +9,19 @@ use Rattle.poets_expr.specs.Fold.{HasDeclaredNames}
 use Rattle.poets_expr.specs.Val.{val}
 use Rattle.poets_expr.specs.Whole.{IsWholeExpression}
 use Rattle.poets_syntax.specs.Contract.{Contract}
-use Rattle.poets_syntax.specs.Marks.{Marks}
 use Rattle.poets_syntax.specs.Plain.{Book}
-use Rattle.poets_syntax.specs.Residual.{residual_after}
 use Rattle.poets_syntax.specs.Typing.{Fit}
 use Rattle.poets_syntax.specs.WellFormed.{IsDeclaredEvent}
+use Rattle.poets_meaning.specs.Marks.{Marks}
+use Rattle.poets_calculus.specs.Residual.{residual_after}
 use Rattle.poets_report.specs.Answers.{IsAnswer}
 use Rattle.poets_report.specs.Plain.{Report, Answer}
-use Rattle.poets_call.specs.Declarations.{book_from, reports_of}
-use Rattle.poets_call.specs.Histories.{IsLegal}
-use Rattle.poets_call.specs.Plain.{Entry}
-use Rattle.poets_call.specs.Said.{Statement}
-use Rattle.poets_call.specs.Taken.{IsTaken}
-use Rattle.poets_call.specs.Typing.{IsTypedReport}
+use Rattle.poets_command.specs.Declarations.{book_from, reports_of}
+use Rattle.poets_command.specs.Plain.{Entry}
+use Rattle.poets_command.specs.Said.{Statement}
+use Rattle.poets_command.specs.Taken.{IsTaken}
+use Rattle.poets_command.specs.Typing.{IsTypedReport}
+use Rattle.poets_history.specs.Histories.{IsLegal}
 use Rattle.poets_print.specs.Laws.{CanWriteContract, CanWriteCommand}
 use Rattle.poets_session.specs.Sessions.{Text, IsSession}
 use Rattle.poets_session.specs.declared.form.Form.{Form}

@@ -11,9 +11,9 @@ use Rattle.poets_expr.specs.Whole.{IsWholeExpression}
 use Rattle.poets_syntax.specs.Plain.{Book}
 use Rattle.poets_syntax.specs.Whole.{IsWholeBook, IsWholeContract}
 use Rattle.poets_report.specs.Plain.{Report, Answer, Single, Rows}
-use Rattle.poets_call.specs.Plain.{Reply}
-use Rattle.poets_call.specs.Typing.{IsTypedReport}
-use Rattle.poets_call.specs.TypedStatements.{report_names}
+use Rattle.poets_command.specs.Plain.{Reply}
+use Rattle.poets_command.specs.Typing.{IsTypedReport}
+use Rattle.poets_command.specs.TypedStatements.{report_names}
 use Rattle.poets_print.specs.Laws.{IsListed, CanWriteContract}
 use Rattle.poets_books.specs.Laws.{CanWriteTemplate, IsWholeKey}
 use Rattle.poets_literals.specs.Declared.{IsAsDeclared}

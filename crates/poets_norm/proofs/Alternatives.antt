@@ -6,11 +6,11 @@ use Rattle.std.proofs.lemmas.List.Folds.{list_any-append}
 use Rattle.std.proofs.lemmas.List.Sums.{fold-append}
 use Rattle.std.proofs.lemmas.Map.Views.{any-filter_same}
 use Rattle.poets_syntax.specs.Contract.{Contract, Failure, Plus}
-use Rattle.poets_syntax.specs.Alike.{alike}
-use Rattle.poets_syntax.specs.Normal.{alternatives, distinct, choice, plus}
 use Rattle.poets_syntax.proofs.Replacing.{truth}
-use Rattle.poets_syntax.proofs.AlikeTests.{alike_iff}
-use Rattle.poets_syntax.proofs.Multisets.{Alike-trans}
+use Rattle.poets_calculus.specs.Alike.{alike}
+use Rattle.poets_calculus.specs.Normal.{alternatives, distinct, choice, plus}
+use Rattle.poets_calculus.proofs.AlikeTests.{alike_iff}
+use Rattle.poets_calculus.proofs.Multisets.{Alike-trans}
 use Rattle.poets_norm.specs.Choices.{distinct_choice, holds_alike, IsDistinctChoice}
 use Rattle.poets_norm.proofs.Parts.{All-distinct}
 

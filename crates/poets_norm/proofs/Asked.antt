@@ -11,8 +11,8 @@ use Rattle.poets_expr.specs.Size.{nodes, nodes_of_all}
 use Rattle.poets_expr.specs.Subst.{Givens, subst, replaced, literal_of}
 use Rattle.poets_syntax.specs.Contract.{Contract, Success, Failure, Transmit, Plus, Par, Seq, App}
 use Rattle.poets_syntax.specs.Replace.{without, replace}
-use Rattle.poets_syntax.specs.Width.{size}
 use Rattle.poets_syntax.proofs.Replacing.{truth}
+use Rattle.poets_meaning.specs.Width.{size}
 use Rattle.poets_norm.specs.Questions.{operated, questions}
 use Rattle.poets_norm.proofs.Measures.{IsMeasure}
 

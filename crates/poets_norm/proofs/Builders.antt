@@ -6,12 +6,12 @@ use Rattle.poets_expr.specs.Expression.{Expression}
 use Rattle.poets_syntax.specs.declared.term.Binders.{Binders}
 use Rattle.poets_syntax.specs.Contract.{Contract, Success, Failure, Transmit, Plus, Par, Seq}
 use Rattle.poets_syntax.specs.Plain.{Book}
-use Rattle.poets_syntax.specs.May.{May}
-use Rattle.poets_syntax.proofs.Inversions.{of_plus}
-use Rattle.poets_syntax.proofs.Multisets.{Alike-sym, Alike-performed}
-use Rattle.poets_syntax.proofs.Regrouping.{Alike-regrouped}
-use Rattle.poets_syntax.proofs.Lists.{Between-none, Between-swap, Between-all}
-use Rattle.poets_syntax.specs.Normal.{plus, par, seq, send}
+use Rattle.poets_meaning.specs.May.{May}
+use Rattle.poets_meaning.proofs.Inversions.{of_plus}
+use Rattle.poets_meaning.proofs.Lists.{Between-none, Between-swap, Between-all}
+use Rattle.poets_calculus.proofs.Multisets.{Alike-sym, Alike-performed}
+use Rattle.poets_calculus.proofs.Regrouping.{Alike-regrouped}
+use Rattle.poets_calculus.specs.Normal.{plus, par, seq, send}
 use Rattle.poets_norm.proofs.SomePart as SomePart
 use Rattle.poets_norm.proofs.SomePart.{IsOfSomePart}
 

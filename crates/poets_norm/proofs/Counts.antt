@@ -3,11 +3,11 @@ use Rattle.std.proofs.Common.{sym, ◌∙◌}
 use Rattle.poets_expr.specs.Subst.{Givens}
 use Rattle.poets_syntax.specs.Contract.{Contract, Success, Failure, Transmit, Plus, Par, Seq, App}
 use Rattle.poets_syntax.specs.Plain.{Book}
-use Rattle.poets_syntax.specs.Marks.{Marks}
-use Rattle.poets_syntax.specs.Normal.{params_in, normal}
 use Rattle.poets_syntax.specs.Replace.{without, replace}
 use Rattle.poets_syntax.proofs.Replacing.{args_count}
-pub use Rattle.poets_syntax.proofs.Exposures.{length-folded}
+use Rattle.poets_meaning.specs.Marks.{Marks}
+use Rattle.poets_calculus.specs.Normal.{params_in, normal}
+pub use Rattle.poets_calculus.proofs.Exposures.{length-folded}
 use Rattle.poets_norm.specs.Laws.{CountsFit}
 use Rattle.poets_norm.proofs.Parts.{IsOfParts, kept_by_normal}
 

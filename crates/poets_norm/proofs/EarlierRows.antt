@@ -4,9 +4,9 @@ use Rattle.std.proofs.lemmas.List.{length-map}
 use Rattle.std.proofs.lemmas.List.Folds.{list_any-append}
 use Rattle.std.proofs.lemmas.Option.{slice_get-get_or}
 use Rattle.poets_syntax.specs.Contract.{Contract}
-use Rattle.poets_syntax.specs.Alike.{alike}
-use Rattle.poets_syntax.specs.Normal.{alternatives}
 use Rattle.poets_syntax.proofs.Replacing.{truth}
+use Rattle.poets_calculus.specs.Alike.{alike}
+use Rattle.poets_calculus.specs.Normal.{alternatives}
 use Rattle.poets_norm.specs.Choices.{holds_alike}
 use Rattle.poets_cons.specs.declared.node.Node.{Node}
 use Rattle.poets_cons.specs.Forms.{has_parallel}

@@ -3,10 +3,10 @@ use Rattle.std.proofs.Common.{◌≡◌, true, ◌++◌, refl, sym, ◌∙◌, a
 use Rattle.std.proofs.lemmas.List.Sums.{fold-append}
 use Rattle.poets_expr.proofs.SameTrees.{both_true}
 use Rattle.poets_syntax.specs.Contract.{Contract, Success, Failure, Par}
-use Rattle.poets_syntax.specs.Alike.{Alike, parts}
-use Rattle.poets_syntax.specs.Normal.{par, side_by_side}
-use Rattle.poets_syntax.proofs.AlikeTests.{IsPart}
-use Rattle.poets_syntax.proofs.Regrouping.{Alike-regrouped, parts-regrouped, regrouped-more, regrouped-last}
+use Rattle.poets_calculus.specs.Alike.{Alike, parts}
+use Rattle.poets_calculus.specs.Normal.{par, side_by_side}
+use Rattle.poets_calculus.proofs.AlikeTests.{IsPart}
+use Rattle.poets_calculus.proofs.Regrouping.{Alike-regrouped, parts-regrouped, regrouped-more, regrouped-last}
 use Rattle.poets_cons.specs.Forms.{is_grouped, is_single}
 use Rattle.poets_norm.specs.Choices.{regrouped}
 use Rattle.poets_norm.specs.code.Grouping.{beside_parts}

@@ -9,13 +9,13 @@ use Rattle.poets_syntax.specs.declared.term.Binders.{Binders}
 use Rattle.poets_syntax.specs.Contract.{Contract, Success, Failure, Transmit, Plus, Par, Seq, App}
 use Rattle.poets_syntax.specs.Plain.{Book}
 use Rattle.poets_syntax.specs.Book.{parameter_env, granted}
-use Rattle.poets_syntax.specs.Between.{Between}
-use Rattle.poets_syntax.specs.May.{May}
-use Rattle.poets_syntax.specs.Marks.{Marks, AreRight, Hopeful}
-use Rattle.poets_syntax.specs.Normal.{alternatives, distinct, plus, send, folded, params_in, normal}
-use Rattle.poets_syntax.proofs.Granting.{May-anywhere}
-use Rattle.poets_syntax.proofs.Regrouping.{regrouped-keeps}
 use Rattle.poets_syntax.proofs.Replacing.{truth}
+use Rattle.poets_meaning.specs.Between.{Between}
+use Rattle.poets_meaning.specs.May.{May}
+use Rattle.poets_meaning.specs.Marks.{Marks, AreRight, Hopeful}
+use Rattle.poets_meaning.proofs.Granting.{May-anywhere}
+use Rattle.poets_calculus.specs.Normal.{alternatives, distinct, plus, send, folded, params_in, normal}
+use Rattle.poets_calculus.proofs.Regrouping.{regrouped-keeps}
 use Rattle.poets_norm.specs.Laws.{CountsFit}
 use Rattle.poets_norm.proofs.Counts.{length-folded}
 use Rattle.poets_norm.proofs.Parts.{All-distinct, All-choice, FailureOr, FailureOr-alternatives, FailureOr-par, FailureOr-seq, FailureOr-send, IsKeptOrFailure}

@@ -12,14 +12,14 @@ use Rattle.poets_syntax.specs.declared.term.Param.{Param}
 use Rattle.poets_syntax.specs.Contract.{Contract, Success, Failure, Transmit, Plus, Par, Seq, App}
 use Rattle.poets_syntax.specs.Plain.{Book}
 use Rattle.poets_syntax.specs.Book.{BinderValues, values_of, undefined_values, bound}
-use Rattle.poets_syntax.specs.May.{May}
 use Rattle.poets_syntax.specs.Replace.{AreUndeclared}
 use Rattle.poets_syntax.proofs.Replacing.{truth, bound-free, declared_free}
-use Rattle.poets_syntax.proofs.Granting.{May-granted, May-anywhere}
-use Rattle.poets_syntax.proofs.Saying.{SaysSame, SaysSame-May, SaysSame-sym}
-use Rattle.poets_syntax.specs.Marks.{Marks, AreRight}
-use Rattle.poets_syntax.specs.Normal.{normal, folded, app, params_in}
 use Rattle.poets_syntax.specs.WellFormed.{HaveDeclaredLiterals, IsWellFormed}
+use Rattle.poets_meaning.specs.May.{May}
+use Rattle.poets_meaning.proofs.Granting.{May-granted, May-anywhere}
+use Rattle.poets_meaning.proofs.Saying.{SaysSame, SaysSame-May, SaysSame-sym}
+use Rattle.poets_meaning.specs.Marks.{Marks, AreRight}
+use Rattle.poets_calculus.specs.Normal.{normal, folded, app, params_in}
 use Rattle.poets_norm.proofs.Counts.{length-folded}
 use Rattle.poets_norm.proofs.Builders.{plus_in, plus_out, par_in, par_out, seq_in, seq_out, send_in, send_out}
 

@@ -1,10 +1,10 @@
 -- Numbers that a choice and a `||` have of their parts: the builders make them no greater.
 use Rattle.std.proofs.Common.{◌≡◌, ℕ, ◌+◌, ◌≤◌, Bool, not, List, [], ◌∷◌, ◌++◌, filter, fold, inl, inr, arith, ap}
 use Rattle.poets_syntax.specs.Contract.{Contract, Failure, Plus, Par}
-use Rattle.poets_syntax.specs.Alike.{alike, parts}
-use Rattle.poets_syntax.specs.Normal.{alternatives, distinct, choice, plus, side_by_side, par}
 use Rattle.poets_syntax.proofs.Replacing.{truth}
-use Rattle.poets_syntax.proofs.Regrouping.{first_part}
+use Rattle.poets_calculus.specs.Alike.{alike, parts}
+use Rattle.poets_calculus.specs.Normal.{alternatives, distinct, choice, plus, side_by_side, par}
+use Rattle.poets_calculus.proofs.Regrouping.{first_part}
 use Rattle.poets_norm.proofs.Parts.{par_is}
 
 -- a choice and a `||` have the sum of their parts and one number more, and `Failure` has no more than that number

@@ -5,9 +5,9 @@ use Rattle.poets_expr.specs.Env.{Declared}
 use Rattle.poets_syntax.specs.Contract.{Contract, Success, Failure, Transmit, Plus, Par, Seq, App}
 use Rattle.poets_syntax.specs.Plain.{Template}
 use Rattle.poets_syntax.specs.Book.{template_in}
-use Rattle.poets_syntax.specs.Marks.{AreRight}
 use Rattle.poets_syntax.specs.WellFormed.{AreWellFormed}
-use Rattle.poets_syntax.specs.NoTemplates.{without_templates, no_marks}
+use Rattle.poets_meaning.specs.Marks.{AreRight}
+use Rattle.poets_meaning.specs.NoTemplates.{without_templates, no_marks}
 use Rattle.poets_norm.specs.Laws.{CountsFit}
 
 no_template : (declared : Declared) (f : Name) (t : Template) → template_in (without_templates declared).templates f ≡ Some t → ⊥

@@ -15,12 +15,12 @@ use Rattle.poets_syntax.specs.declared.term.Binders.{Binders}
 use Rattle.poets_syntax.specs.declared.term.Param.{Param}
 use Rattle.poets_syntax.specs.Contract.{Contract, Success, Failure, Transmit, Plus, Par, Seq, App}
 use Rattle.poets_syntax.specs.Plain.{Book}
-use Rattle.poets_syntax.specs.Marks.{Marks}
-use Rattle.poets_syntax.specs.Normal.{alternatives, plus, par, seq, send, folded, params_in, app, normal}
-use Rattle.poets_syntax.specs.Alike.{parts}
-use Rattle.poets_syntax.proofs.AlikeTests.{IsPart}
-use Rattle.poets_syntax.proofs.Regrouping.{first_part, regrouped-last}
 use Rattle.poets_syntax.proofs.Replacing.{truth}
+use Rattle.poets_meaning.specs.Marks.{Marks}
+use Rattle.poets_calculus.specs.Normal.{alternatives, plus, par, seq, send, folded, params_in, app, normal}
+use Rattle.poets_calculus.specs.Alike.{parts}
+use Rattle.poets_calculus.proofs.AlikeTests.{IsPart}
+use Rattle.poets_calculus.proofs.Regrouping.{first_part, regrouped-last}
 use Rattle.poets_norm.specs.Choices.{IsDistinctChoice, regrouped}
 use Rattle.poets_norm.proofs.Alternatives.{alternatives-one, alternatives-distinct_choice, IsGrouped, IsGrouped-distinct_choice, distinct_choice-grouped}
 use Rattle.poets_norm.proofs.Parts.{All-distinct, FailureOr, FailureOr-alternatives, FailureOr-par, FailureOr-seq, FailureOr-send, IsKeptOrFailure, IsProper, par_joined}

@@ -8,14 +8,14 @@ use Rattle.poets_expr.specs.Subst.{Givens}
 use Rattle.poets_syntax.specs.declared.term.Binders.{Binders}
 use Rattle.poets_syntax.specs.Contract.{Contract, Success, Failure, Transmit, Plus, Par, Seq, App}
 use Rattle.poets_syntax.specs.Plain.{Book}
-use Rattle.poets_syntax.specs.Marks.{Marks, AreRight, nullable}
-use Rattle.poets_syntax.specs.Normal.{plus, par, seq, send, normal}
 use Rattle.poets_syntax.specs.Replace.{replace}
 use Rattle.poets_syntax.proofs.Replacing.{truth}
-use Rattle.poets_syntax.proofs.Nullability.{or_first, or_second, either_true}
-use Rattle.poets_syntax.proofs.Granting.{Perf-May}
-use Rattle.poets_syntax.proofs.AlikeMeasures.{Alike-nullable}
-use Rattle.poets_syntax.proofs.Regrouping.{Alike-regrouped}
+use Rattle.poets_meaning.specs.Marks.{Marks, AreRight, nullable}
+use Rattle.poets_meaning.proofs.Nullability.{or_first, or_second, either_true}
+use Rattle.poets_meaning.proofs.Granting.{Perf-May}
+use Rattle.poets_calculus.specs.Normal.{plus, par, seq, send, normal}
+use Rattle.poets_calculus.proofs.AlikeMeasures.{Alike-nullable}
+use Rattle.poets_calculus.proofs.Regrouping.{Alike-regrouped}
 use Rattle.poets_norm.proofs.SomePart.{IsOfSomePart, plus_in, plus_out}
 
 module _ (marks : Marks) where

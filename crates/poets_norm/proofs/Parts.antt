@@ -7,13 +7,13 @@ use Rattle.poets_expr.specs.Expression.{Expression}
 use Rattle.poets_syntax.specs.declared.term.Binders.{Binders}
 use Rattle.poets_syntax.specs.Contract.{Contract, Success, Failure, Transmit, Plus, Par, Seq, App}
 use Rattle.poets_syntax.specs.Plain.{Book}
-use Rattle.poets_syntax.specs.Marks.{Marks}
-use Rattle.poets_syntax.specs.Normal.{alternatives, plus, par, seq, send, folded, params_in, normal}
-use Rattle.poets_syntax.proofs.Choosing.{plus-keeps}
-use Rattle.poets_syntax.proofs.Regrouping.{par-keeps}
 use Rattle.poets_syntax.proofs.Replacing.{truth}
+use Rattle.poets_meaning.specs.Marks.{Marks}
+use Rattle.poets_calculus.specs.Normal.{alternatives, plus, par, seq, send, folded, params_in, normal}
+use Rattle.poets_calculus.proofs.Choosing.{plus-keeps}
+use Rattle.poets_calculus.proofs.Regrouping.{par-keeps}
 use Rattle.poets_norm.specs.Choices.{regrouped}
-pub use Rattle.poets_syntax.proofs.Choosing.{All-distinct, All-choice}
+pub use Rattle.poets_calculus.proofs.Choosing.{All-distinct, All-choice}
 
 -- the builders of `||` and `;` give one of the two, or join both
 pub par-failure : (a : Contract) → par a Failure ≡ Failure

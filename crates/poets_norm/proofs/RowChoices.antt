@@ -5,11 +5,11 @@ use Rattle.std.proofs.lemmas.List.{length-map}
 use Rattle.std.proofs.Math.Bool.{or-false}
 use Rattle.poets_syntax.specs.Contract.{Contract, Failure, Plus}
 use Rattle.poets_syntax.specs.Plain.{Book}
-use Rattle.poets_syntax.specs.Marks.{Marks}
-use Rattle.poets_syntax.specs.Alike.{Alike, alike}
-use Rattle.poets_syntax.specs.Normal.{alternatives, plus, normal}
-use Rattle.poets_syntax.proofs.AlikeTests.{alike_iff}
-use Rattle.poets_syntax.proofs.Multisets.{Alike-sym}
+use Rattle.poets_meaning.specs.Marks.{Marks}
+use Rattle.poets_calculus.specs.Alike.{Alike, alike}
+use Rattle.poets_calculus.specs.Normal.{alternatives, plus, normal}
+use Rattle.poets_calculus.proofs.AlikeTests.{alike_iff}
+use Rattle.poets_calculus.proofs.Multisets.{Alike-sym}
 use Rattle.poets_norm.specs.Choices.{distinct_choice, holds_alike, IsDistinctChoice}
 use Rattle.poets_norm.proofs.Alternatives.{IsOne, alternatives-one, front_of, plus-front, plus-one, plus-distinct, distinct_choice-twice}
 use Rattle.poets_norm.proofs.NormalForms.{normal_is_distinct}

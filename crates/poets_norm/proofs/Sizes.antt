@@ -12,11 +12,11 @@ use Rattle.poets_syntax.specs.declared.term.Param.{Param}
 use Rattle.poets_syntax.specs.Contract.{Contract, Success, Failure, Transmit, Plus, Par, Seq, App}
 use Rattle.poets_syntax.specs.Plain.{Book}
 use Rattle.poets_syntax.specs.Book.{template_in}
-use Rattle.poets_syntax.specs.Marks.{Marks, AreRight, nullable}
-use Rattle.poets_syntax.specs.Normal.{seq, send, folded, params_in, normal}
 use Rattle.poets_syntax.specs.Replace.{without, replace}
-use Rattle.poets_syntax.specs.Width.{size, wide_by, body_in, wide_at, width}
 use Rattle.poets_syntax.proofs.Replacing.{truth}
+use Rattle.poets_meaning.specs.Marks.{Marks, AreRight, nullable}
+use Rattle.poets_meaning.specs.Width.{size, wide_by, body_in, wide_at, width}
+use Rattle.poets_calculus.specs.Normal.{seq, send, folded, params_in, normal}
 use Rattle.poets_norm.proofs.Asked.{leaf-literal, leaf-replaced}
 use Rattle.poets_norm.proofs.Measures.{IsMeasure, plus-le, par-le}
 use Rattle.poets_norm.proofs.Nullable.{nullable-replace, nullable-normal}

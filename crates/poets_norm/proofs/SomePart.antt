@@ -1,11 +1,11 @@
 -- What a choice has where one of its parts has it, the choice of distinct alternatives has likewise.
 use Rattle.std.proofs.Common.{◌≡◌, Bool, false, not, List, [], ◌∷◌, ◌++◌, filter, fold, sym, ◌∙◌, ap, ◌⊎◌, inl, inr}
 use Rattle.poets_syntax.specs.Contract.{Contract, Failure, Plus}
-use Rattle.poets_syntax.specs.Alike.{Alike, alike}
-use Rattle.poets_syntax.proofs.AlikeTests.{alike_iff}
-use Rattle.poets_syntax.proofs.Multisets.{Alike-sym}
 use Rattle.poets_syntax.proofs.Replacing.{truth}
-use Rattle.poets_syntax.specs.Normal.{alternatives, distinct, choice, plus}
+use Rattle.poets_calculus.specs.Alike.{Alike, alike}
+use Rattle.poets_calculus.proofs.AlikeTests.{alike_iff}
+use Rattle.poets_calculus.proofs.Multisets.{Alike-sym}
+use Rattle.poets_calculus.specs.Normal.{alternatives, distinct, choice, plus}
 
 not_other : (c x : Contract) → not (alike c x) ≡ false → Alike c x
 not_other c x e = (alike_iff c x).0 (elim (truth (alike c x)) [ inl k ↦ k | inr k ↦ absurd (let j : not false ≡ false = ap not (sym k) ∙ e in cc) ])

@@ -1,16 +1,16 @@
 -- What a studied book gives.
 use Rattle.std.proofs.Common.{◌≡◌, List}
-use Rattle.poets_syntax.specs.declared.studied.Mark.{Mark}
 use Rattle.poets_syntax.specs.Contract.{Contract}
 use Rattle.poets_syntax.specs.Plain.{Book}
 use Rattle.poets_syntax.specs.Book.{template_in}
 use Rattle.poets_syntax.specs.Applied.{CountsFit, BodiesCountsFit}
-use Rattle.poets_syntax.specs.Studied.{IsStudiedBook, marks_in}
-use Rattle.poets_syntax.specs.Width.{body_in, wide_by, width}
-use Rattle.poets_syntax.proofs.Nullability.{CountsFit-fit}
-use Rattle.poets_syntax.proofs.StudiedMarks.{AreRight-studied}
+use Rattle.poets_syntax.proofs.Counts.{CountsFit-fit}
 use Rattle.poets_syntax.proofs.TypingRules.{BodiesFit-typed}
-use Rattle.poets_syntax.proofs.Unfolded.{width-unfolded}
+use Rattle.poets_meaning.specs.declared.studied.Mark.{Mark}
+use Rattle.poets_meaning.specs.Studied.{IsStudiedBook, marks_in}
+use Rattle.poets_meaning.specs.Width.{body_in, wide_by, width}
+use Rattle.poets_meaning.proofs.StudiedMarks.{AreRight-studied}
+use Rattle.poets_meaning.proofs.Unfolded.{width-unfolded}
 
 -- the bodies of its templates apply templates to as many arguments as these have parameters
 pub BodiesCountsFit-studied : (book : Book) (marks : List Mark) → IsStudiedBook book marks → BodiesCountsFit book

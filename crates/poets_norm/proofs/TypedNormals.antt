@@ -9,14 +9,14 @@ use Rattle.poets_syntax.specs.declared.term.Param.{Param}
 use Rattle.poets_syntax.specs.Contract.{Contract, Success, Failure, Transmit, Plus, Par, Seq, App}
 use Rattle.poets_syntax.specs.Plain.{Book, Template}
 use Rattle.poets_syntax.specs.Book.{template_in}
-use Rattle.poets_syntax.specs.Marks.{Marks}
-use Rattle.poets_syntax.specs.Normal.{send, folded, params_in, normal}
 use Rattle.poets_syntax.specs.TypeOf.{Passes, Scope}
 use Rattle.poets_syntax.specs.Typed.{types_bound, check_type, check_args}
 use Rattle.poets_syntax.specs.code.Passing.{ContractPasses}
 use Rattle.poets_syntax.proofs.Replacing.{truth}
 use Rattle.poets_syntax.proofs.Typedness.{passed}
 use Rattle.poets_syntax.proofs.TypedReplacing.{KeepsTypes, KeepsTypes-bound, HasType-fold_closed, HasType-checked, check_type-typed, application_parts, application_of_parts, two_parts, of_two_parts, transmit_parts, of_transmit_parts, binders_undeclared}
+use Rattle.poets_meaning.specs.Marks.{Marks}
+use Rattle.poets_calculus.specs.Normal.{send, folded, params_in, normal}
 use Rattle.poets_norm.proofs.Parts.{IsOfParts, kept_by_plus, kept_by_par, kept_by_seq}
 
 folded-length : (declared : Declared) (params : List Param) (args : List Expression) → length (folded declared params args) ≡ length args

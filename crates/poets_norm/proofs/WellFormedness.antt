@@ -9,11 +9,11 @@ use Rattle.poets_expr.proofs.FoldClosed.{known-val}
 use Rattle.poets_syntax.specs.declared.term.Param.{Param}
 use Rattle.poets_syntax.specs.Contract.{Contract}
 use Rattle.poets_syntax.specs.Plain.{Book}
-use Rattle.poets_syntax.specs.Marks.{Marks}
-use Rattle.poets_syntax.specs.Normal.{folded, params_in, normal}
 use Rattle.poets_syntax.specs.WellFormed.{HaveDeclaredLiterals, IsWellFormed}
 use Rattle.poets_syntax.proofs.Replacing.{truth}
 use Rattle.poets_syntax.proofs.WellFormedness.{HasDeclaredLiterals-literal}
+use Rattle.poets_meaning.specs.Marks.{Marks}
+use Rattle.poets_calculus.specs.Normal.{folded, params_in, normal}
 use Rattle.poets_norm.proofs.Parts.{IsOfParts, kept_by_normal}
 
 module _ (declared : Declared) where

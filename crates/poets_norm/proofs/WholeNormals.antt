@@ -11,8 +11,8 @@ use Rattle.poets_syntax.specs.declared.term.Param.{Param}
 use Rattle.poets_syntax.specs.Contract.{Contract}
 use Rattle.poets_syntax.specs.Plain.{Book}
 use Rattle.poets_syntax.specs.Whole.{IsWholeContract}
-use Rattle.poets_syntax.specs.Marks.{Marks}
-use Rattle.poets_syntax.specs.Normal.{folded, params_in, normal}
+use Rattle.poets_meaning.specs.Marks.{Marks}
+use Rattle.poets_calculus.specs.Normal.{folded, params_in, normal}
 use Rattle.poets_norm.proofs.Parts.{IsOfParts, kept_by_normal}
 
 pub IsWhole-of_parts : IsOfParts IsWholeContract

@@ -4,8 +4,8 @@ use Rattle.poets_expr.specs.declared.expr.Expr.{Expr}
 use Rattle.poets_expr.specs.Expression.{expression_of}
 use Rattle.poets_syntax.specs.declared.term.Term.{Term}
 use Rattle.poets_syntax.specs.Contract.{Contract, contract_of}
-use Rattle.poets_syntax.specs.InStudied.{normal_in}
-use Rattle.poets_syntax.specs.Studied.{StudiedBook}
+use Rattle.poets_meaning.specs.Studied.{StudiedBook}
+use Rattle.poets_calculus.specs.InStudied.{normal_in}
 use Rattle.poets_norm.specs.Questions.{operated, questions}
 
 -- how many of the arguments have to be asked: those that are neither literals nor names

@@ -2,8 +2,8 @@
 use Rattle.std.specs.Prelude.{◌≡◌, Bool, List}
 use Rattle.std.specs.List.{list_any}
 use Rattle.poets_syntax.specs.Contract.{Contract}
-use Rattle.poets_syntax.specs.Alike.{alike, parts}
-use Rattle.poets_syntax.specs.Normal.{alternatives, distinct, choice, side_by_side}
+use Rattle.poets_calculus.specs.Alike.{alike, parts}
+use Rattle.poets_calculus.specs.Normal.{alternatives, distinct, choice, side_by_side}
 
 -- whether a contract of the list is alike to this one
 abbrev pub holds_alike : List Contract → Contract → Bool

@@ -8,14 +8,14 @@ use Rattle.poets_syntax.specs.Contract.{Contract, Failure}
 use Rattle.poets_syntax.specs.Plain.{Book}
 use Rattle.poets_syntax.specs.Whole.{IsWholeContract}
 pub use Rattle.poets_syntax.specs.Applied.{CountsFit}
-use Rattle.poets_syntax.specs.May.{May}
-use Rattle.poets_syntax.specs.Marks.{Marks, AreRight, Hopeful}
-use Rattle.poets_syntax.specs.Normal.{normal}
 use Rattle.poets_syntax.specs.WellFormed.{IsWellFormed, AreWellFormed}
 use Rattle.poets_syntax.specs.TypeOf.{Scope}
 use Rattle.poets_syntax.specs.Typing.{IsTyped}
 use Rattle.poets_syntax.specs.OfType.{IsUndeclaredScope}
-use Rattle.poets_syntax.specs.NoTemplates.{without_templates, no_marks}
+use Rattle.poets_meaning.specs.May.{May}
+use Rattle.poets_meaning.specs.Marks.{Marks, AreRight, Hopeful}
+use Rattle.poets_meaning.specs.NoTemplates.{without_templates, no_marks}
+use Rattle.poets_calculus.specs.Normal.{normal}
 
 -- the normal form is performed as the contract is, where declared names stand for themselves
 abbrev pub NormalAlike : Type 0

@@ -1,12 +1,13 @@
 //! Applications of templates, with their arguments folded.
 ghost use Rattle.std.specs.Prelude.{◌+◌, ◌≤◌, IfOk, map};
 ghost use Rattle.poets_expr.specs.Expression.{expression_of};
-ghost use Rattle.poets_syntax.specs.InStudied.{app_in};
+ghost use Rattle.poets_calculus.specs.InStudied.{app_in};
 ghost use Rattle.poets_norm.specs.Asking.{to_ask};
 ghost use Rattle.poets_norm.specs.code.Applications.{to_ask_of, IsFolded, AreFolded, Keeps, KeepsWithin};
 
 use poets_expr::{Asks, Decls, Expr, copy, fold_closed};
-use poets_syntax::{Param, Studied};
+use poets_meaning::Studied;
+use poets_syntax::Param;
 use poets_value::{List, Memory, Name, push};
 use std::alloc::Global;
 

@@ -1,7 +1,7 @@
 //! The builders of normal forms in tables of rows. Alternatives are compared by their rows, or by the classes of these.
 ghost use Rattle.std.specs.Prelude.{◌≡◌, ◌<◌, IfOk, IsTrue, length};
 ghost use Rattle.poets_syntax.specs.Contract.{Failure};
-ghost use Rattle.poets_syntax.specs.Normal as normal;
+ghost use Rattle.poets_calculus.specs.Normal as normal;
 ghost use Rattle.poets_norm.specs.Choices.{IsDistinctChoice, regrouped};
 ghost use Rattle.poets_norm.specs.Choices as spec;
 ghost use Rattle.poets_norm.specs.Rows.{joined_at, Enters};

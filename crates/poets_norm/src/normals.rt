@@ -2,12 +2,12 @@
 //! rows, calls the builder of rows, and gives the tree of the row back.
 ghost use Rattle.std.specs.Prelude.{◌+◌, ◌≤◌, ◌<◌, IfOk, length, map};
 ghost use Rattle.poets_expr.specs.Expression.{expression_of};
-ghost use Rattle.poets_syntax.specs.Arguments.{arguments};
 ghost use Rattle.poets_syntax.specs.Contract.{contract_of};
-ghost use Rattle.poets_syntax.specs.InStudied.{app_in, normal_in};
-ghost use Rattle.poets_syntax.specs.Normal as spec;
 ghost use Rattle.poets_syntax.specs.Results.{GivesContract};
-ghost use Rattle.poets_syntax.specs.Width.{size};
+ghost use Rattle.poets_meaning.specs.Arguments.{arguments};
+ghost use Rattle.poets_meaning.specs.Width.{size};
+ghost use Rattle.poets_calculus.specs.InStudied.{app_in, normal_in};
+ghost use Rattle.poets_calculus.specs.Normal as spec;
 ghost use Rattle.poets_cons.specs.Table.{contract_at, Extends, Stands};
 ghost use Rattle.poets_norm.specs.Asking.{to_ask, AsksWithin};
 ghost use Rattle.poets_norm.specs.Questions.{questions};
@@ -18,7 +18,8 @@ use crate::joining::{self, either};
 use crate::row_normals::{applied, normal_rows, rows_from, send as send_row};
 use poets_cons::{Arena, enter, to_term};
 use poets_expr::{Asks, Expr};
-use poets_syntax::{Binders, Studied, Term};
+use poets_meaning::Studied;
+use poets_syntax::{Binders, Term};
 use poets_value::{Memory, Name};
 use std::alloc::Global;
 

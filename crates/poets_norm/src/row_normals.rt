@@ -1,11 +1,11 @@
 //! Normal forms of contracts as rows.
 ghost use Rattle.std.specs.Prelude.{◌+◌, ◌≤◌, ◌<◌, IfOk, OnOk, length};
 ghost use Rattle.poets_expr.specs.Expression.{expression_of};
-ghost use Rattle.poets_syntax.specs.Arguments.{arguments};
 ghost use Rattle.poets_syntax.specs.Contract.{contract_of};
-ghost use Rattle.poets_syntax.specs.InStudied.{normal_in};
-ghost use Rattle.poets_syntax.specs.Normal as spec;
-ghost use Rattle.poets_syntax.specs.Width.{size};
+ghost use Rattle.poets_meaning.specs.Arguments.{arguments};
+ghost use Rattle.poets_meaning.specs.Width.{size};
+ghost use Rattle.poets_calculus.specs.InStudied.{normal_in};
+ghost use Rattle.poets_calculus.specs.Normal as spec;
 ghost use Rattle.poets_norm.specs.Asking.{AsksOnce};
 ghost use Rattle.poets_norm.specs.Questions.{questions};
 ghost use Rattle.poets_norm.specs.Rows.{Enters, GivesRows};
@@ -17,7 +17,8 @@ use crate::applications::kept_args;
 use crate::joining::{failure, merge, par, seq};
 use poets_cons::{Arena, Node, Rows, rows_at};
 use poets_expr::{Asks, Expr};
-use poets_syntax::{Binders, Studied, Term, copy};
+use poets_meaning::Studied;
+use poets_syntax::{Binders, Term, copy};
 use poets_value::{List, Memory, Name};
 use std::alloc::Global;
 use std::sync::Arc;

@@ -1,11 +1,12 @@
 //! The width of contracts, cut at one more than the greatest spread that is kept.
 ghost use Rattle.std.specs.Prelude.{◌≡◌, ◌+◌, ◌&&◌, false};
 ghost use Rattle.poets_syntax.specs.Contract.{contract_of};
-ghost use Rattle.poets_syntax.specs.InStudied.{nullable_in, width_by_bodies, wide_in, CountsFitIn};
-ghost use Rattle.poets_syntax.specs.Width.{cut};
-ghost use Rattle.poets_syntax.specs.Width as spec;
+ghost use Rattle.poets_meaning.specs.InStudied.{nullable_in, width_by_bodies, wide_in, CountsFitIn};
+ghost use Rattle.poets_meaning.specs.Width.{cut};
+ghost use Rattle.poets_meaning.specs.Width as spec;
 
-use poets_syntax::{Studied, Term, WIDTH_CUT, size};
+use poets_meaning::{Studied, WIDTH_CUT, size};
+use poets_syntax::Term;
 
 // The width of a contract, cut, and whether the empty trace performs it.
 #[derive(Clone, Copy)]

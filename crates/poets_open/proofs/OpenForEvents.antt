@@ -6,19 +6,21 @@ use Rattle.poets_expr.specs.Expression.{Expression}
 use Rattle.poets_syntax.specs.Contract.{Contract, Success, Failure, Transmit, Plus, Par, Seq, App}
 use Rattle.poets_syntax.specs.Plain.{Book, Template}
 use Rattle.poets_syntax.specs.Book.{template_in, taken}
-use Rattle.poets_syntax.specs.Between.{Between}
-use Rattle.poets_syntax.specs.Exposed.{EachExposed, UnfoldsWithin}
 use Rattle.poets_syntax.specs.Applied.{CountsFit}
-use Rattle.poets_syntax.specs.May.{May}
-use Rattle.poets_syntax.specs.Marks.{Marks, nullable}
-use Rattle.poets_syntax.specs.Normal.{normal}
 use Rattle.poets_syntax.specs.Replace.{replace}
-use Rattle.poets_syntax.specs.Residual.{argument_givens, after, body_of}
+use Rattle.poets_syntax.specs.Givens.{argument_givens}
 use Rattle.poets_syntax.specs.WellFormed.{IsWellFormed, IsDeclaredEvent, HaveDeclaredLiterals}
-use Rattle.poets_syntax.proofs.Granting.{May-Perf, Perf-May}
-use Rattle.poets_syntax.proofs.Nullability.{nullable_in, nullable_performed, EachExposed-fits}
 use Rattle.poets_syntax.proofs.Replacing.{truth}
-use Rattle.poets_syntax.proofs.Unfolded.{unfolds-guarded}
+use Rattle.poets_meaning.specs.Between.{Between}
+use Rattle.poets_meaning.specs.Exposed.{EachExposed}
+use Rattle.poets_meaning.specs.May.{May}
+use Rattle.poets_meaning.specs.Marks.{Marks, nullable}
+use Rattle.poets_meaning.proofs.Granting.{May-Perf, Perf-May}
+use Rattle.poets_meaning.proofs.Nullability.{nullable_in, nullable_performed, EachExposed-fits}
+use Rattle.poets_calculus.specs.Exposed.{UnfoldsWithin}
+use Rattle.poets_calculus.specs.Normal.{normal}
+use Rattle.poets_calculus.specs.Residual.{after, body_of}
+use Rattle.poets_calculus.proofs.Unfolded.{unfolds-guarded}
 use Rattle.poets_norm.proofs.Hope.{IsHopefulThroughout, IsFailureOrHopeful, hopeful_by_parts, hopeful_unless_failure, failure_is_hopeless, IsFailureOrHopeful-normal}
 use Rattle.poets_norm.proofs.Counts.{CountsFit-replace}
 use Rattle.poets_residue.specs.Once.{ready_by, ready_at, ready}

@@ -9,13 +9,13 @@ use Rattle.poets_expr.specs.Expression.{Expression}
 use Rattle.poets_syntax.specs.Applied.{CountsFit}
 use Rattle.poets_syntax.specs.Book.{template_in}
 use Rattle.poets_syntax.specs.Contract.{Contract, Success, Failure, Transmit, Plus, Par, Seq, App}
-use Rattle.poets_syntax.specs.Marks.{Marks, nullable}
-use Rattle.poets_syntax.specs.Perf.{Perf}
 use Rattle.poets_syntax.specs.Plain.{Book, Template}
-use Rattle.poets_syntax.specs.Residual.{body_of}
-use Rattle.poets_syntax.specs.Width.{width}
-use Rattle.poets_syntax.proofs.Nullability.{nullable_in, nullable_performed, EachExposed-fits}
 use Rattle.poets_syntax.proofs.Replacing.{truth}
+use Rattle.poets_meaning.specs.Marks.{Marks, nullable}
+use Rattle.poets_meaning.specs.Perf.{Perf}
+use Rattle.poets_meaning.specs.Width.{width}
+use Rattle.poets_meaning.proofs.Nullability.{nullable_in, nullable_performed, EachExposed-fits}
+use Rattle.poets_calculus.specs.Residual.{body_of}
 use Rattle.poets_residue.specs.Once.{ready}
 use Rattle.poets_residue.specs.Unfolding.{IsStudied}
 use Rattle.poets_residue.proofs.Kept.{CountsFit-body}

@@ -4,8 +4,8 @@ use Rattle.std.specs.List.{slice_index_or}
 use Rattle.poets_value.specs.declared.event.Event.{Event}
 use Rattle.poets_syntax.specs.Plain.{Book}
 use Rattle.poets_syntax.specs.Book.{taken}
-use Rattle.poets_syntax.specs.Perf.{Holds}
 use Rattle.poets_syntax.proofs.Replacing.{truth}
+use Rattle.poets_meaning.specs.Perf.{Holds}
 use Rattle.poets_open.specs.Laws.{SomeStepHolds}
 use Rattle.poets_open.specs.Next.{Step, same_step, each_once}
 use Rattle.poets_open.proofs.Listing.{step_one}

@@ -5,11 +5,11 @@ use Rattle.poets_syntax.specs.Contract.{Contract, Failure}
 use Rattle.poets_syntax.specs.Plain.{Book}
 use Rattle.poets_syntax.specs.Book.{taken}
 use Rattle.poets_syntax.specs.Applied.{CountsFit}
-use Rattle.poets_syntax.specs.Marks.{Marks}
-use Rattle.poets_syntax.specs.Normal.{normal}
-use Rattle.poets_syntax.specs.Perf.{Holds}
-use Rattle.poets_syntax.specs.Residual.{after, residual_after}
 use Rattle.poets_syntax.specs.WellFormed.{IsWellFormed, IsDeclaredEvent}
+use Rattle.poets_meaning.specs.Marks.{Marks}
+use Rattle.poets_meaning.specs.Perf.{Holds}
+use Rattle.poets_calculus.specs.Normal.{normal}
+use Rattle.poets_calculus.specs.Residual.{after, residual_after}
 use Rattle.poets_residue.specs.Unfolding.{IsStudied}
 use Rattle.poets_open.specs.Next.{Step, next}
 

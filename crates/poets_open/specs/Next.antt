@@ -7,8 +7,8 @@ use Rattle.poets_syntax.specs.Contract.{Contract, Transmit}
 use Rattle.poets_syntax.specs.Same.{same_binders}
 use Rattle.poets_syntax.specs.Book.{book_of}
 use Rattle.poets_syntax.specs.Plain.{Book}
-use Rattle.poets_syntax.specs.Studied.{StudiedBook, marks_of}
-use Rattle.poets_syntax.specs.Marks.{Marks}
+use Rattle.poets_meaning.specs.Studied.{StudiedBook, marks_of}
+use Rattle.poets_meaning.specs.Marks.{Marks}
 use Rattle.poets_residue.specs.Once.{ready}
 use Rattle.poets_open.specs.declared.opening.Step.{Step as OpenStep}
 

@@ -4,8 +4,9 @@ ghost use Rattle.poets_residue.specs.Bodies.{unfolded};
 
 use poets_cons::{Arena, rows_at, to_term};
 use poets_expr::{Asks, Expr};
+use poets_meaning::Studied;
 use poets_residue::unfold;
-use poets_syntax::{Studied, Template, Term};
+use poets_syntax::{Template, Term};
 use poets_value::Memory;
 use std::alloc::Global;
 

@@ -3,16 +3,17 @@ ghost use Rattle.std.specs.Prelude.{◌≡◌, IfOk, OnOk, map};
 ghost use Rattle.poets_expr.specs.Expression.{expression_of};
 ghost use Rattle.poets_syntax.specs.Book.{book_of};
 ghost use Rattle.poets_syntax.specs.Contract.{contract_of};
-ghost use Rattle.poets_syntax.specs.InStudied.{CountsFitIn};
-ghost use Rattle.poets_syntax.specs.Studied.{marks_of};
+ghost use Rattle.poets_meaning.specs.InStudied.{CountsFitIn};
+ghost use Rattle.poets_meaning.specs.Studied.{marks_of};
 ghost use Rattle.poets_residue.specs.Unfolding.{IsStudied};
 ghost use Rattle.poets_open.specs.Next.{step_of, same_step, next_in};
 ghost use Rattle.poets_open.specs.code.Opened.{is_listed, opened_in, step, Lists, ListsAll};
 
 use crate::bodies::body_with;
 use poets_expr::{Asks, Expr, copy, same};
+use poets_meaning::Studied;
 use poets_residue::may_end;
-use poets_syntax::{Binders, Studied, Term};
+use poets_syntax::{Binders, Term};
 use poets_value::{List, Memory, push};
 use std::alloc::Global;
 

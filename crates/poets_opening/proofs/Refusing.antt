@@ -2,7 +2,7 @@
 use Rattle.std.proofs.Common.{◌≡◌, ℕ, ◌≤◌, List, [], length, Some, None, sym, ◌∙◌, ap, subst, inl, inr}
 use Rattle.std.specs.Prelude.{option_map}
 use Rattle.poets_io.specs.Streams.{GivesAll, LosesFront}
-use Rattle.poets_call.specs.Plain.{Entry}
+use Rattle.poets_command.specs.Plain.{Entry}
 use Rattle.poets_session.specs.Causes.{refusal_of, IsFirstFault}
 use Rattle.poets_session.specs.Sessions.{Text}
 use Rattle.poets_session.specs.Texts.{refusal_text}

@@ -1,7 +1,7 @@
 -- A source that was opened, by its change and the session or outcome.
 use Rattle.std.specs.Prelude.{List}
-use Rattle.poets_call.specs.Calls.{history_of}
-use Rattle.poets_call.specs.Said.{Statement}
+use Rattle.poets_command.specs.Calls.{history_of}
+use Rattle.poets_command.specs.Said.{Statement}
 use Rattle.poets_session.specs.Sessions.{Represents}
 use Rattle.poets_session.specs.declared.form.Form.{Form}
 use Rattle.poets_session.specs.declared.session.Session.{Session}

@@ -3,9 +3,9 @@ use Rattle.std.proofs.Common.{◌≡◌, ℕ, List, Some, None, sym, ◌∙◌, 
 use Rattle.std.specs.Prelude.{IfSome, IsErrAnd, Result, Ok, Err}
 use Rattle.std.specs.Result.{result_err}
 use Rattle.poets_lex.specs.declared.token.Tok.{Tok}
-use Rattle.poets_call.specs.declared.statement.Statement.{Statement}
-use Rattle.poets_call.specs.Statements.{statement_of}
-use Rattle.poets_call.specs.Said as said
+use Rattle.poets_command.specs.declared.statement.Statement.{Statement}
+use Rattle.poets_command.specs.Statements.{statement_of}
+use Rattle.poets_command.specs.Said as said
 use Rattle.poets_grammar.specs.Statements.{IsStatement}
 use Rattle.poets_grammar.specs.StatementReading.{statement}
 use Rattle.poets_grammar.proofs.Statements.{statement_sound, statement_complete}

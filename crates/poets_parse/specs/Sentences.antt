@@ -1,7 +1,7 @@
 -- Tokens that are a sentence: a statement which is not too deep.
 use Rattle.std.specs.Prelude.{ℕ, List}
 use Rattle.poets_lex.specs.declared.token.Tok.{Tok}
-use Rattle.poets_call.specs.Said.{Statement}
+use Rattle.poets_command.specs.Said.{Statement}
 use Rattle.poets_grammar.specs.Statements.{IsStatement}
 use Rattle.poets_grammar.specs.TooDeep.{IsDeeper, IsTooDeep, most_open, most_open_stored}
 

@@ -2,11 +2,11 @@
 ghost use Rattle.std.specs.Prelude.{◌≡◌, IfOk};
 ghost use Rattle.poets_expr.specs.Expression.{expression_of, Make, Binary, If};
 ghost use Rattle.poets_syntax.specs.Contract.{contract_of};
-ghost use Rattle.poets_call.specs.Calls.{command_of};
-ghost use Rattle.poets_call.specs.Plain as plain;
+ghost use Rattle.poets_command.specs.Calls.{command_of};
+ghost use Rattle.poets_command.specs.Plain as plain;
 ghost use Rattle.poets_parse.specs.code.Gives.{Makes};
 
-use poets_call::Command;
+use poets_command::Command;
 use poets_expr::build::boxed;
 use poets_expr::{Expr, Op};
 use poets_syntax::Term;

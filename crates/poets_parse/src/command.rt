@@ -1,5 +1,5 @@
 //! Commands, each after its word and up to the end of the statement.
-ghost use Rattle.poets_call.specs.Calls.{command_of};
+ghost use Rattle.poets_command.specs.Calls.{command_of};
 ghost use Rattle.poets_grammar.specs.Tokens.{toks};
 ghost use Rattle.poets_grammar.specs.StatementReading as reading;
 ghost use Rattle.poets_parse.specs.code.Gives.{Gives, expressions_of};
@@ -9,7 +9,7 @@ use crate::contract::whole_contract;
 use crate::fault::ReadFault;
 use crate::list::{arguments, names};
 use crate::step::{first, last_day, last_name, name, natural, number, sign, whole, word};
-use poets_call::Command;
+use poets_command::Command;
 use poets_expr::Expr;
 use poets_lex::{Sign, Tok, Token, Word};
 use poets_value::{Event, List, Name, Resource};

@@ -1,6 +1,6 @@
 //! Templates and reports, each after its word and up to the end of the statement.
 ghost use Rattle.poets_expr.specs.Expression.{expression_of};
-ghost use Rattle.poets_call.specs.Statements.{statement_of};
+ghost use Rattle.poets_command.specs.Statements.{statement_of};
 ghost use Rattle.poets_grammar.specs.Tokens.{toks};
 ghost use Rattle.poets_grammar.specs.Reading as expressions;
 ghost use Rattle.poets_grammar.specs.StatementReading as reading;
@@ -11,7 +11,7 @@ use crate::expression::expression;
 use crate::fault::ReadFault;
 use crate::list::{binders, parameters};
 use crate::step::{behind_word, name, sign, type_name, whole, word};
-use poets_call::Statement;
+use poets_command::Statement;
 use poets_expr::Expr;
 use poets_lex::{Sign, Token, Word};
 use poets_report::Report;

@@ -1,6 +1,6 @@
 //! Statements.
 ghost use Rattle.std.specs.Prelude.{◌≡◌, ◌≤◌, length, IfOk, Err};
-ghost use Rattle.poets_call.specs.Statements.{statement_of};
+ghost use Rattle.poets_command.specs.Statements.{statement_of};
 ghost use Rattle.poets_grammar.specs.Tokens.{toks, AreNatural};
 ghost use Rattle.poets_grammar.specs.StatementReading as reading;
 ghost use Rattle.poets_grammar.specs.Statements.{IsStatement};
@@ -14,7 +14,7 @@ use crate::declaration::{report, template};
 use crate::depth::{is_deeper, is_too_deep};
 use crate::fault::ReadFault;
 use crate::step::{first, natural, sign, whole};
-use poets_call::Statement;
+use poets_command::Statement;
 use poets_grammar::{MOST_OPEN, MOST_OPEN_STORED};
 use poets_lex::{Sign, Tok, Token, Word};
 use poets_value::Memory;

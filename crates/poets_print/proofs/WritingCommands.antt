@@ -7,7 +7,7 @@ use Rattle.std.proofs.lemmas.List.{append-nil}
 use Rattle.poets_value.specs.declared.value.Name.{Name}
 use Rattle.poets_value.specs.Civil.{day_text}
 use Rattle.poets_value.proofs.EachDay.{IsDayText-day_text}
-use Rattle.poets_call.specs.Plain.{Command}
+use Rattle.poets_command.specs.Plain.{Command}
 use Rattle.poets_lex.specs.declared.token.Word.TheVariants as W
 use Rattle.poets_lex.specs.declared.token.Sign.TheVariants as S
 use Rattle.poets_lex.specs.declared.token.Tok.{Tok}
@@ -17,8 +17,8 @@ use Rattle.poets_lex.proofs.CutTexts.{IsCutInto, cut_end, cut_space, cut_word, c
 use Rattle.poets_grammar.specs.Statements.{IsCommand, IsStatement}
 use Rattle.poets_print.specs.Texts.{call_text, listed, name_text}
 use Rattle.poets_print.specs.Lines.{command_text}
-use Rattle.poets_call.specs.Taken.{IsWholeCommand}
-use Rattle.poets_call.specs.Plain as plain
+use Rattle.poets_command.specs.Taken.{IsWholeCommand}
+use Rattle.poets_command.specs.Plain as plain
 use Rattle.poets_print.specs.Laws.{CanWriteCommand, ContractReadsBack, CommandReadsBack}
 use Rattle.poets_print.proofs.Writing.{IsTextOf}
 use Rattle.poets_print.proofs.WritingContracts.{writes_call, writes_names, writes_contract}

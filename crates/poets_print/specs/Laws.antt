@@ -6,9 +6,9 @@ use Rattle.poets_value.specs.declared.value.Value.TheVariants as V
 use Rattle.poets_expr.specs.Expression.{Expression, Literal, Undefined, Named, Unary, Make, Binary, If}
 use Rattle.poets_syntax.specs.Contract.{Contract, Success, Failure, Transmit, Plus, Par, Seq, App}
 use Rattle.poets_syntax.specs.Whole.{IsWholeContract}
-use Rattle.poets_call.specs.Taken.{IsWholeCommand}
-use Rattle.poets_call.specs.Said.{Command}
-use Rattle.poets_call.specs.Plain as plain
+use Rattle.poets_command.specs.Taken.{IsWholeCommand}
+use Rattle.poets_command.specs.Said.{Command}
+use Rattle.poets_command.specs.Plain as plain
 use Rattle.poets_lex.specs.declared.token.Token.{Token}
 use Rattle.poets_lex.specs.Table.{Table, IsTable}
 use Rattle.poets_lex.specs.Lexes.{Lexes}

@@ -8,7 +8,7 @@ use Rattle.poets_value.specs.declared.event.Event.{Event}
 use Rattle.poets_value.specs.Civil.{day_text}
 use Rattle.poets_report.specs.Plain.{Answer, Single, Rows, KeyRow}
 use Rattle.poets_lex.specs.Table.{Table}
-use Rattle.poets_call.specs.Plain.{Command, Reply, Entry}
+use Rattle.poets_command.specs.Plain.{Command, Reply, Entry}
 use Rattle.poets_print.specs.Texts.{name_text, value_text, contract_text, call_text, listed}
 
 -- `7 Oil`

@@ -1,6 +1,6 @@
 //! The texts of commands.
 ghost use Rattle.std.specs.Prelude.{OnOk, IfOk};
-ghost use Rattle.poets_call.specs.Calls.{command_of};
+ghost use Rattle.poets_command.specs.Calls.{command_of};
 ghost use Rattle.poets_print.specs.Texts.{IsText, behind_commas, name_text};
 ghost use Rattle.poets_print.specs.Lines.{amount_text, event_text};
 ghost use Rattle.poets_print.specs.Lines as lines;
@@ -9,7 +9,7 @@ ghost use Rattle.poets_print.specs.code.Putting.{names_text};
 
 use crate::contracts::{put_call, put_contract};
 use crate::pieces::{put, put_counted, put_day, put_name, put_named, put_number};
-use poets_call::Command;
+use poets_command::Command;
 use poets_lex::Names;
 use poets_value::{Event, List, Memory, Name, Resource};
 use std::alloc::Global;

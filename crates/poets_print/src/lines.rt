@@ -1,13 +1,13 @@
 //! The lines of a history.
 ghost use Rattle.std.specs.Prelude.{IfOk};
-ghost use Rattle.poets_call.specs.Calls.{entry_of};
+ghost use Rattle.poets_command.specs.Calls.{entry_of};
 ghost use Rattle.poets_print.specs.Texts.{IsText};
 ghost use Rattle.poets_print.specs.Lines as lines;
 
 use crate::commands::put_command;
 use crate::pieces::{put, put_count};
 use crate::replies::put_reply;
-use poets_call::Entry;
+use poets_command::Entry;
 use poets_lex::Names;
 use poets_value::Memory;
 use std::alloc::Global;

@@ -2,7 +2,7 @@
 ghost use Rattle.std.specs.Prelude.{OnOk, IfOk, map};
 ghost use Rattle.std.specs.Fmt.{decimal};
 ghost use Rattle.poets_report.specs.Answers.{answer_of};
-ghost use Rattle.poets_call.specs.Calls.{reply_of, folio_row_of};
+ghost use Rattle.poets_command.specs.Calls.{reply_of, folio_row_of};
 ghost use Rattle.poets_print.specs.Texts.{IsText, behind_commas};
 ghost use Rattle.poets_print.specs.Lines.{yes_text, row_text, rows_text, answer_text, answered_text, part_text};
 ghost use Rattle.poets_print.specs.Lines.{parts_text, total_text};
@@ -12,7 +12,7 @@ ghost use Rattle.poets_print.specs.code.Putting.{more_parts, folio_text, shown_t
 
 use crate::contracts::put_contract;
 use crate::pieces::{put, put_counted, put_day, put_name, put_named, put_optional};
-use poets_call::{Folio, Reply};
+use poets_command::{Folio, Reply};
 use poets_lex::Names;
 use poets_report::Answer;
 use poets_syntax::Term;

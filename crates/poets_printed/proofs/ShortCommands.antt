@@ -3,8 +3,8 @@ use Rattle.std.proofs.Common.{◌*◌, ◌≤◌, List, [], length, arith, lengt
 use Rattle.std.specs.Prelude.{codes}
 use Rattle.std.specs.Fmt.{decimal, signed_decimal}
 use Rattle.poets_value.specs.Civil.{day_text}
-use Rattle.poets_call.specs.Plain.{Command}
-use Rattle.poets_call.specs.Taken.{IsWholeCommand}
+use Rattle.poets_command.specs.Plain.{Command}
+use Rattle.poets_command.specs.Taken.{IsWholeCommand}
 use Rattle.poets_lex.specs.declared.token.Tok.{Tok}
 use Rattle.poets_lex.specs.Table.{Table, IsTable}
 use Rattle.poets_grammar.specs.Statements.{IsCommand}

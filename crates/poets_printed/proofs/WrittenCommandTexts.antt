@@ -7,9 +7,9 @@ use Rattle.poets_value.specs.declared.value.Name.{Name}
 use Rattle.poets_value.specs.declared.event.Event.{Event}
 use Rattle.poets_value.specs.Civil.{day_text}
 use Rattle.poets_value.proofs.EachDay.{IsDayText-day_text}
-use Rattle.poets_call.specs.Plain as plain
-use Rattle.poets_call.specs.Plain.{Command}
-use Rattle.poets_call.specs.Taken.{IsWholeCommand}
+use Rattle.poets_command.specs.Plain as plain
+use Rattle.poets_command.specs.Plain.{Command}
+use Rattle.poets_command.specs.Taken.{IsWholeCommand}
 use Rattle.poets_lex.specs.declared.token.Word.TheVariants as W
 use Rattle.poets_lex.specs.declared.token.Sign.TheVariants as S
 use Rattle.poets_lex.specs.declared.token.Tok.TheVariants as K

@@ -1,7 +1,7 @@
 -- The law of how deep a printed command is.
 use Rattle.std.specs.Prelude.{List}
-use Rattle.poets_call.specs.Plain as plain
-use Rattle.poets_call.specs.Taken.{IsWholeCommand}
+use Rattle.poets_command.specs.Plain as plain
+use Rattle.poets_command.specs.Taken.{IsWholeCommand}
 use Rattle.poets_lex.specs.declared.token.Tok.{Tok}
 use Rattle.poets_lex.specs.declared.token.Token.{Token}
 use Rattle.poets_lex.specs.Table.{Table, IsTable}

@@ -3,8 +3,8 @@ use Rattle.std.specs.Prelude.{◌*◌, ◌≤◌, List, length}
 use Rattle.poets_lex.specs.declared.token.Tok.{Tok}
 use Rattle.poets_lex.specs.Table.{Table, IsTable}
 use Rattle.poets_grammar.specs.Statements.{IsCommand}
-use Rattle.poets_call.specs.Plain.{Command}
-use Rattle.poets_call.specs.Taken.{IsWholeCommand}
+use Rattle.poets_command.specs.Plain.{Command}
+use Rattle.poets_command.specs.Taken.{IsWholeCommand}
 use Rattle.poets_print.specs.Lines.{command_text}
 
 -- a command prints as at most 80 bytes for each token that it was read from

@@ -1,9 +1,9 @@
 -- The text of a command with its clerk's number, as it stands in a journal, and its laws.
 use Rattle.std.specs.Prelude.{ℕ, ◌+◌, ◌*◌, ◌^◌, ◌<◌, ◌≤◌, List, ◌++◌, length, codes}
 use Rattle.std.specs.Fmt.{decimal}
-use Rattle.poets_call.specs.Plain.{Command}
-use Rattle.poets_call.specs.Said.{Numbered}
-use Rattle.poets_call.specs.Taken.{IsWholeCommand}
+use Rattle.poets_command.specs.Plain.{Command}
+use Rattle.poets_command.specs.Said.{Numbered}
+use Rattle.poets_command.specs.Taken.{IsWholeCommand}
 use Rattle.poets_lex.specs.declared.token.Tok.{Tok}
 use Rattle.poets_lex.specs.declared.token.Token.{Token}
 use Rattle.poets_lex.specs.Table.{Table, IsTable}

@@ -4,8 +4,8 @@ use Rattle.std.specs.List.{All}
 use Rattle.std.proofs.lemmas.List.Elements.{All-nil, All-cons}
 use Rattle.poets_syntax.specs.Plain.{Book}
 use Rattle.poets_report.specs.Plain.{Report}
-use Rattle.poets_call.specs.Calls.{Call}
-use Rattle.poets_call.specs.Typing.{IsTypedCommand}
+use Rattle.poets_command.specs.Calls.{Call}
+use Rattle.poets_command.specs.Typing.{IsTypedCommand}
 use Rattle.poets_lex.specs.Table.{Table, Extends}
 use Rattle.poets_lex.proofs.Readings.{Extends-reading, Extends-then}
 use Rattle.poets_recover.specs.Stored.{AreCalls, AreStoredCalls}

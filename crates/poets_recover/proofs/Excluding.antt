@@ -5,8 +5,8 @@ use Rattle.poets_lex.proofs.OneWay.{one-reading}
 use Rattle.poets_lex.specs.Table.{Table}
 use Rattle.poets_syntax.specs.Plain.{Book}
 use Rattle.poets_report.specs.Plain.{Report}
-use Rattle.poets_call.specs.Calls.{Call}
-use Rattle.poets_call.specs.Plain.{Command}
+use Rattle.poets_command.specs.Calls.{Call}
+use Rattle.poets_command.specs.Plain.{Command}
 use Rattle.poets_recover.specs.Stored.{AreCalls, AreStoredCalls, IsRefused, IsRefusedText, IsStoredCall, length_of_all, most_stored}
 
 module _ (book : Book) (reports : List Report) where

@@ -4,10 +4,10 @@ use Rattle.std.proofs.lemmas.List.Elements.{All-nil, All-cons, All-head, All-tai
 use Rattle.poets_lex.specs.Table.{Table}
 use Rattle.poets_syntax.specs.Plain.{Book}
 use Rattle.poets_report.specs.Plain.{Report}
-use Rattle.poets_call.specs.Calls.{Call}
-use Rattle.poets_call.specs.Plain.{Command}
-use Rattle.poets_call.specs.Taken.{IsWholeCommand}
-use Rattle.poets_call.specs.Typing.{IsTypedCommand}
+use Rattle.poets_command.specs.Calls.{Call}
+use Rattle.poets_command.specs.Plain.{Command}
+use Rattle.poets_command.specs.Taken.{IsWholeCommand}
+use Rattle.poets_command.specs.Typing.{IsTypedCommand}
 use Rattle.poets_recover.specs.Stored.{IsStoredCall, AreCalls, NoTexts, Text, AreStoredCalls}
 use Rattle.poets_recover.specs.code.Reading.{SaysCall}
 use Rattle.poets_recover.proofs.Saying.{whole_call}

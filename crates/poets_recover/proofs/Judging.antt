@@ -13,14 +13,14 @@ use Rattle.poets_lex.proofs.Readings.{Extends-then}
 use Rattle.poets_syntax.specs.Plain.{Book, TypeCause}
 use Rattle.poets_report.specs.Plain.{Report}
 use Rattle.poets_syntax.specs.TypeOf.{Fails}
-use Rattle.poets_call.specs.declared.rules.Rules.{Rules}
-use Rattle.poets_call.specs.Calls.{Call, command_of}
-use Rattle.poets_call.specs.Plain.{Command}
-use Rattle.poets_call.specs.Rules.{book_of_rules, reports_of_rules}
-use Rattle.poets_call.specs.Said.{Numbered}
-use Rattle.poets_call.specs.Taken.{IsTaken, IsWholeCommand}
-use Rattle.poets_call.specs.TypedStatements.{check_command}
-use Rattle.poets_call.proofs.TypingRules.{command_passes}
+use Rattle.poets_command.specs.Calls.{Call, command_of}
+use Rattle.poets_command.specs.Plain.{Command}
+use Rattle.poets_command.specs.Said.{Numbered}
+use Rattle.poets_command.specs.Taken.{IsTaken, IsWholeCommand}
+use Rattle.poets_command.specs.TypedStatements.{check_command}
+use Rattle.poets_command.proofs.TypingRules.{command_passes}
+use Rattle.poets_rules.specs.declared.rules.Rules.{Rules}
+use Rattle.poets_rules.specs.Rules.{book_of_rules, reports_of_rules}
 use Rattle.poets_types.specs.declared.cause.TypeCause.{TypeCause as CodeCause}
 use Rattle.poets_types.specs.declared.cause.TypeCause.TheVariants as C
 use Rattle.poets_types.specs.Calls.{IsFirstMistyped}

@@ -18,13 +18,13 @@ use Rattle.poets_grammar.proofs.Steps.{one_answer}
 use Rattle.poets_parse.specs.declared.fault.SyntaxFault.{SyntaxFault}
 use Rattle.poets_parse.specs.declared.fault.SyntaxFault.TheVariants as S
 use Rattle.poets_parse.specs.Sentences.{AreNoSentenceStored}
-use Rattle.poets_call.specs.declared.call.Command.{Command as CodeCommand}
-use Rattle.poets_call.specs.declared.statement.Statement as code
-use Rattle.poets_call.specs.declared.statement.Statement.TheVariants as V
-use Rattle.poets_call.specs.Statements.{statement_of}
-use Rattle.poets_call.specs.Plain.{Command}
-use Rattle.poets_call.specs.Said.{Statement, Numbered}
-use Rattle.poets_call.specs.Taken.{IsWholeCommand}
+use Rattle.poets_command.specs.declared.call.Command.{Command as CodeCommand}
+use Rattle.poets_command.specs.declared.statement.Statement as code
+use Rattle.poets_command.specs.declared.statement.Statement.TheVariants as V
+use Rattle.poets_command.specs.Statements.{statement_of}
+use Rattle.poets_command.specs.Plain.{Command}
+use Rattle.poets_command.specs.Said.{Statement, Numbered}
+use Rattle.poets_command.specs.Taken.{IsWholeCommand}
 use Rattle.poets_session.proofs.LawsFitting.{stand_fit, statement_fits}
 use Rattle.poets_recover.specs.declared.fault.TextFault.TheVariants as T
 use Rattle.poets_recover.specs.code.Faults.{fault_of_lex, fault_of_syntax}

@@ -3,7 +3,7 @@ use Rattle.std.specs.Prelude.{◌≡◌, ℕ, ◌≤◌, List}
 use Rattle.poets_lex.specs.Table.{Table}
 use Rattle.poets_syntax.specs.Plain.{Book}
 use Rattle.poets_report.specs.Plain.{Report}
-use Rattle.poets_call.specs.Calls.{Call}
+use Rattle.poets_command.specs.Calls.{Call}
 use Rattle.poets_recover.specs.Stored.{AreStoredCalls, IsRefusedText, length_of_all, most_stored}
 
 -- texts that are calls of a book, and have no more bytes than the most, are not refused

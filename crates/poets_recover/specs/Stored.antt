@@ -10,10 +10,10 @@ use Rattle.poets_grammar.specs.Tokens.{toks}
 use Rattle.poets_grammar.specs.TooDeep.{IsTooDeepStored}
 use Rattle.poets_syntax.specs.Plain.{Book}
 use Rattle.poets_report.specs.Plain.{Report}
-use Rattle.poets_call.specs.Calls.{Call}
-use Rattle.poets_call.specs.Plain.{Command}
-use Rattle.poets_call.specs.Said.{Numbered}
-use Rattle.poets_call.specs.Typing.{IsTypedCommand}
+use Rattle.poets_command.specs.Calls.{Call}
+use Rattle.poets_command.specs.Plain.{Command}
+use Rattle.poets_command.specs.Said.{Numbered}
+use Rattle.poets_command.specs.Typing.{IsTypedCommand}
 use Rattle.poets_recover.specs.declared.fault.RecoverFault.{RecoverFault}
 use Rattle.poets_recover.specs.declared.fault.RecoverFault.TheVariants as F
 use Rattle.poets_recover.specs.declared.limits.TheConstants.{MOST_STORED}

@@ -2,17 +2,18 @@
 ghost use Rattle.std.specs.Prelude.{◌≡◌, ◌≤◌, length, IfOk, IfErr};
 ghost use Rattle.poets_value.specs.Limits.{longest_text};
 ghost use Rattle.poets_syntax.specs.Whole.{IsWholeBook};
-ghost use Rattle.poets_call.specs.Rules.{book_of_rules, reports_of_rules};
+ghost use Rattle.poets_rules.specs.Rules.{book_of_rules, reports_of_rules};
 ghost use Rattle.poets_making.specs.Noted.{AreNoted, AreRight};
-ghost use Rattle.poets_call.specs.Calls.{calls_of, history_of};
+ghost use Rattle.poets_command.specs.Calls.{calls_of, history_of};
 ghost use Rattle.poets_recover.specs.Stored.{AreStoredCalls, bytes_in, length_of_all, most_stored, TellsRefused};
 
 use crate::RecoverFault;
 use crate::stored::stored_calls;
-use poets_call::{Entry, Rules};
+use poets_command::Entry;
 use poets_engine::Engine;
 use poets_lex::Names;
 use poets_making::make_calls;
+use poets_rules::Rules;
 use poets_value::List;
 use std::alloc::Global;
 use std::thread::Threads;

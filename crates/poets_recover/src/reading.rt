@@ -3,16 +3,16 @@ ghost use Rattle.std.specs.Prelude.{◌≡◌, ◌+◌, ◌≤◌, ◌<◌, ◌^
 ghost use Rattle.poets_value.specs.Limits.{longest_text};
 ghost use Rattle.poets_lex.specs.Table.{Extends};
 ghost use Rattle.poets_grammar.specs.Tokens.{toks, AreNatural};
-ghost use Rattle.poets_call.specs.Calls.{command_of};
-ghost use Rattle.poets_call.specs.Said.{Numbered};
-ghost use Rattle.poets_call.specs.Statements.{statement_of};
+ghost use Rattle.poets_command.specs.Calls.{command_of};
+ghost use Rattle.poets_command.specs.Said.{Numbered};
+ghost use Rattle.poets_command.specs.Statements.{statement_of};
 ghost use Rattle.poets_recover.specs.Stored.{bytes_in};
 ghost use Rattle.poets_recover.specs.code.Reading.{IsUnnumbered, AreTokensOf, AreTokensOfNone, SaysCallOf, SaysNone};
 ghost use Rattle.poets_recover.specs.code.Reading.{AreRead};
 
 use crate::fault::TextFault;
 use crate::limits::MOST_STORED;
-use poets_call::{Command, Statement};
+use poets_command::{Command, Statement};
 use poets_lex::{Names, Token, tokens};
 use poets_parse::statement_stored;
 use poets_value::{List, MOST_CLERKS, Memory, push};

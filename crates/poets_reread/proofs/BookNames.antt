@@ -11,10 +11,10 @@ use Rattle.poets_expr.specs.Env.{same_name}
 use Rattle.poets_syntax.specs.Book.{template_in}
 use Rattle.poets_syntax.specs.TypeOf.{Scope, type_in}
 use Rattle.poets_syntax.specs.Typed.{is_among}
-use Rattle.poets_call.specs.Declarations.{agents_and_kinds, declared_by, template_in_statement, report_in_statement, book_from, reports_of}
-use Rattle.poets_call.specs.Said.{Statement, Agents, Kinds, Template, Report, Clerk, Journal, Command, Numbered}
-use Rattle.poets_call.specs.Plain as plain
-use Rattle.poets_call.specs.TypedStatements.{report_names}
+use Rattle.poets_command.specs.Declarations.{agents_and_kinds, declared_by, template_in_statement, report_in_statement, book_from, reports_of}
+use Rattle.poets_command.specs.Said.{Statement, Agents, Kinds, Template, Report, Clerk, Journal, Command, Numbered}
+use Rattle.poets_command.specs.Plain as plain
+use Rattle.poets_command.specs.TypedStatements.{report_names}
 use Rattle.poets_lex.specs.Table.{Table}
 use Rattle.poets_print.specs.Laws.{IsListed}
 use Rattle.poets_session.specs.Written.{IsWritten}

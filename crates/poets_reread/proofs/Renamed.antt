@@ -9,8 +9,8 @@ use Rattle.poets_expr.specs.Expression.{Expression, Literal, Undefined, Named, U
 use Rattle.poets_syntax.specs.declared.term.Binders.{Binders}
 use Rattle.poets_syntax.specs.Contract as C
 use Rattle.poets_syntax.specs.Contract.{Contract}
-use Rattle.poets_call.specs.Plain as plain
-use Rattle.poets_call.specs.Plain.{Command}
+use Rattle.poets_command.specs.Plain as plain
+use Rattle.poets_command.specs.Plain.{Command}
 
 abbrev pub renamed_resource : (Name → Name) → Resource → Resource
 renamed_resource new r = record { kind = new r.kind; amount = r.amount }

@@ -16,9 +16,9 @@ use Rattle.poets_syntax.specs.declared.term.Binders.{Binders}
 use Rattle.poets_syntax.specs.Contract as C
 use Rattle.poets_syntax.specs.Contract.{Contract}
 use Rattle.poets_syntax.specs.Whole.{IsWholeContract}
-use Rattle.poets_call.specs.Plain as plain
-use Rattle.poets_call.specs.Plain.{Command}
-use Rattle.poets_call.specs.Taken.{IsWholeCommand}
+use Rattle.poets_command.specs.Plain as plain
+use Rattle.poets_command.specs.Plain.{Command}
+use Rattle.poets_command.specs.Taken.{IsWholeCommand}
 use Rattle.poets_lex.specs.Table.{Table}
 use Rattle.poets_print.specs.Levels.{level, is_number, left_in_brackets, right_in_brackets, negated_in_brackets, denied_in_brackets, contract_level}
 use Rattle.poets_print.specs.Texts.{name_text, bracketed, behind_commas, listed, value_text, op_text, expression_text, call_text, binders_text, contract_text}

@@ -15,10 +15,10 @@ use Rattle.poets_syntax.specs.TypeOf.{Scope, type_in}
 use Rattle.poets_syntax.specs.Typed.{is_among, in_use}
 use Rattle.poets_syntax.specs.Typing.{Has, Fit, AreNew, IsTyped}
 use Rattle.poets_report.specs.Plain.{Report}
-use Rattle.poets_call.specs.Plain.{Command}
-use Rattle.poets_call.specs.Replies.{report_in}
-use Rattle.poets_call.specs.Typing.{IsTypedCall, IsTypedCommand}
-use Rattle.poets_call.specs.TypedStatements.{report_names}
+use Rattle.poets_command.specs.Plain.{Command}
+use Rattle.poets_command.specs.Reports.{report_in}
+use Rattle.poets_command.specs.Typing.{IsTypedCall, IsTypedCommand}
+use Rattle.poets_command.specs.TypedStatements.{report_names}
 use Rattle.poets_reread.proofs.Renamed.{renamed, renamed_args, renamed_contract, renamed_command}
 
 -- the new names are equal where the old ones are, and a new name is declared as the old one is

@@ -22,11 +22,11 @@ use Rattle.poets_grammar.specs.Statements.{IsCommand, IsStatement}
 use Rattle.poets_syntax.specs.Plain.{Book}
 use Rattle.poets_syntax.specs.Typed.{in_use}
 use Rattle.poets_report.specs.Plain.{Report}
-use Rattle.poets_call.specs.Calls.{Call}
-use Rattle.poets_call.specs.Plain.{Command}
-use Rattle.poets_call.specs.Said as said
-use Rattle.poets_call.specs.Taken.{IsWholeCommand}
-use Rattle.poets_call.specs.TypedStatements.{report_names}
+use Rattle.poets_command.specs.Calls.{Call}
+use Rattle.poets_command.specs.Plain.{Command}
+use Rattle.poets_command.specs.Said as said
+use Rattle.poets_command.specs.Taken.{IsWholeCommand}
+use Rattle.poets_command.specs.TypedStatements.{report_names}
 use Rattle.poets_print.specs.Lines.{command_text}
 use Rattle.poets_print.specs.Laws.{CanWriteCommand}
 use Rattle.poets_print.proofs.WritingCommands.{command_reads_back}

@@ -9,11 +9,11 @@ use Rattle.std.proofs.lemmas.Option.{get_or_from_slice_get, slice_get-get_or, sl
 use Rattle.poets_lex.specs.Table.{Table}
 use Rattle.poets_syntax.specs.Plain.{Book}
 use Rattle.poets_report.specs.Plain.{Report}
-use Rattle.poets_call.specs.Calls.{Call, calls_of, own_calls, own}
-use Rattle.poets_call.specs.Declarations.{book_from, reports_of}
-use Rattle.poets_call.specs.Plain.{Command, Entry}
-use Rattle.poets_call.specs.Said.{Statement}
-use Rattle.poets_call.specs.Taken.{IsTaken}
+use Rattle.poets_command.specs.Calls.{Call, calls_of, own_calls, own}
+use Rattle.poets_command.specs.Declarations.{book_from, reports_of}
+use Rattle.poets_command.specs.Plain.{Command, Entry}
+use Rattle.poets_command.specs.Said.{Statement}
+use Rattle.poets_command.specs.Taken.{IsTaken}
 use Rattle.poets_session.specs.declared.form.Form.TheVariants as F
 use Rattle.poets_session.specs.Sessions.{Text, IsSession, scripts_of}
 use Rattle.poets_session.specs.Written.{IsWrittenCommand}

@@ -9,9 +9,9 @@ use Rattle.std.proofs.lemmas.List.{length-append}
 use Rattle.poets_value.specs.Listed.{Listed}
 use Rattle.poets_value.specs.declared.value.Name.{Name}
 use Rattle.poets_lex.specs.Table.{Table, Extends}
-use Rattle.poets_call.specs.Calls.{command_of}
-use Rattle.poets_call.specs.Plain.{Command}
-use Rattle.poets_call.specs.declared.call.Command.{Command as CodeCommand}
+use Rattle.poets_command.specs.Calls.{command_of}
+use Rattle.poets_command.specs.Plain.{Command}
+use Rattle.poets_command.specs.declared.call.Command.{Command as CodeCommand}
 use Rattle.poets_print.specs.Laws.{CanWriteCommand, IsListed}
 use Rattle.poets_printed.specs.Numbered.{numbered_text}
 use Rattle.poets_stored.specs.Laws.{AreStorableScripts, IsStorableCall}

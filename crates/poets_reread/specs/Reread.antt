@@ -11,11 +11,11 @@ use Rattle.poets_grammar.specs.TooDeep.{IsTooDeep}
 use Rattle.poets_syntax.specs.Plain.{Book}
 use Rattle.poets_syntax.specs.Typed.{in_use}
 use Rattle.poets_report.specs.Plain.{Report}
-use Rattle.poets_call.specs.Calls.{Call, own}
-use Rattle.poets_call.specs.Plain.{Command, Entry}
-use Rattle.poets_call.specs.Said.{Statement}
-use Rattle.poets_call.specs.Taken.{IsTaken}
-use Rattle.poets_call.specs.TypedStatements.{report_names}
+use Rattle.poets_command.specs.Calls.{Call, own}
+use Rattle.poets_command.specs.Plain.{Command, Entry}
+use Rattle.poets_command.specs.Said.{Statement}
+use Rattle.poets_command.specs.Taken.{IsTaken}
+use Rattle.poets_command.specs.TypedStatements.{report_names}
 use Rattle.poets_print.specs.Laws.{IsListed, CanWriteCommand}
 use Rattle.poets_printed.specs.Numbered.{numbered_text}
 use Rattle.poets_recover.specs.Stored.{AreStoredCalls}

@@ -4,7 +4,7 @@ use Rattle.poets_expr.specs.Env.{Declared}
 use Rattle.poets_expr.specs.Expression.{expression_of}
 use Rattle.poets_expr.specs.declared.expr.Expr.{Expr}
 use Rattle.poets_syntax.specs.declared.term.Param.{Param}
-use Rattle.poets_syntax.specs.Residual.{argument_givens}
+use Rattle.poets_syntax.specs.Givens.{argument_givens}
 
 -- none is left
 pub argument_givens_end : (declared : Declared) (n : ℕ) (params : List Param) (args : List Expr) → n ≡ min (length params) (length args) →

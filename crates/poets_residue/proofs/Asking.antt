@@ -11,13 +11,13 @@ use Rattle.poets_expr.specs.declared.expr.Expr.{Expr}
 use Rattle.poets_expr.specs.Expression.{Expression, expression_of}
 use Rattle.poets_syntax.specs.declared.term.Binders.{Binders}
 use Rattle.poets_syntax.specs.Contract.{Contract, Transmit, App}
-use Rattle.poets_syntax.specs.Arguments.{arguments}
 use Rattle.poets_syntax.specs.Plain.{Book, Template}
 use Rattle.poets_syntax.specs.Book.{template_in}
 use Rattle.poets_syntax.specs.Applied.{CountsFit}
-use Rattle.poets_syntax.specs.Marks.{Marks}
-use Rattle.poets_syntax.specs.Residual.{after, body_of}
-use Rattle.poets_syntax.specs.Width.{width, body_in}
+use Rattle.poets_meaning.specs.Arguments.{arguments}
+use Rattle.poets_meaning.specs.Marks.{Marks}
+use Rattle.poets_meaning.specs.Width.{width, body_in}
+use Rattle.poets_calculus.specs.Residual.{after, body_of}
 use Rattle.poets_norm.specs.Questions.{operated, questions}
 use Rattle.poets_cons.specs.declared.node.Node.{Node}
 use Rattle.poets_cons.specs.declared.node.Node.TheVariants as N

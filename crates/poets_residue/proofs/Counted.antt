@@ -4,8 +4,8 @@ use Rattle.std.proofs.lemmas.List.{take_more, map-append}
 use Rattle.std.proofs.lemmas.List.Sums.{sum_by_push, sum_by-cons}
 use Rattle.std.proofs.lemmas.Bool.Decides.{nat_tests}
 use Rattle.poets_syntax.specs.Contract.{Contract}
-use Rattle.poets_syntax.specs.Width.{widest}
-use Rattle.poets_syntax.specs.Spread.{own_count, largest}
+use Rattle.poets_meaning.specs.Width.{widest}
+use Rattle.poets_meaning.specs.Spread.{own_count, largest}
 use Rattle.poets_cons.specs.declared.node.Node.{Node}
 use Rattle.poets_cons.specs.Row.{Row, Success, Failure, Transmit, Plus, Par, Seq, App, row_of, contract_by}
 use Rattle.poets_cons.specs.Table.{nth, grown, rows_of, contracts_of}

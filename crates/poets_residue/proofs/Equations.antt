@@ -9,14 +9,16 @@ use Rattle.poets_syntax.specs.Contract.{Contract, Success, Failure, Transmit, Pl
 use Rattle.poets_syntax.specs.Plain.{Book, Template}
 use Rattle.poets_syntax.specs.Book.{template_in, taken}
 use Rattle.poets_syntax.specs.Replace.{replace}
-use Rattle.poets_syntax.specs.Marks.{Marks, nullable}
 use Rattle.poets_syntax.specs.Applied.{CountsFit}
-use Rattle.poets_syntax.specs.Exposed.{EachExposed}
-use Rattle.poets_syntax.specs.Normal.{normal, plus, par, seq}
-use Rattle.poets_syntax.specs.Residual.{event_givens, is_true, after_by, body_of, after_at, after}
+use Rattle.poets_syntax.specs.Givens.{event_givens}
 use Rattle.poets_syntax.proofs.Replacing.{truth}
-use Rattle.poets_syntax.proofs.Nullability.{EachExposed-weaker}
-use Rattle.poets_syntax.proofs.Unfolded.{unfolds-guarded}
+use Rattle.poets_meaning.specs.Marks.{Marks, nullable}
+use Rattle.poets_meaning.specs.Exposed.{EachExposed}
+use Rattle.poets_meaning.specs.Truth.{is_true}
+use Rattle.poets_meaning.proofs.Nullability.{EachExposed-weaker}
+use Rattle.poets_calculus.specs.Normal.{normal, plus, par, seq}
+use Rattle.poets_calculus.specs.Residual.{after_by, body_of, after_at, after}
+use Rattle.poets_calculus.proofs.Unfolded.{unfolds-guarded}
 use Rattle.poets_residue.specs.Unfolding.{UnfoldsWithin, IsStudied}
 use Rattle.poets_residue.proofs.Kept.{after_at-failure}
 use Rattle.poets_residue.proofs.Unfoldings.{found}

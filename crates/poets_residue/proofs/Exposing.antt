@@ -9,11 +9,11 @@ use Rattle.indexmap.specs.IndexSet.{insert_key}
 use Rattle.poets_value.specs.declared.value.Name.{Name}
 use Rattle.poets_expr.specs.Expression.{Expression}
 use Rattle.poets_syntax.specs.Contract.{Contract, App}
-use Rattle.poets_syntax.specs.Marks.{nullable}
 use Rattle.poets_syntax.specs.Same.{same_contract}
-use Rattle.poets_syntax.specs.Spread.{exposed}
-use Rattle.poets_syntax.specs.Studied.{StudiedBook, marks_of}
 use Rattle.poets_syntax.proofs.Replacing.{truth}
+use Rattle.poets_meaning.specs.Marks.{nullable}
+use Rattle.poets_meaning.specs.Spread.{exposed}
+use Rattle.poets_meaning.specs.Studied.{StudiedBook, marks_of}
 use Rattle.poets_cons.specs.declared.node.Node.{Node}
 use Rattle.poets_cons.specs.Row.{row_of, contract_by}
 use Rattle.poets_cons.specs.Table.{contract_at}

@@ -10,20 +10,21 @@ use Rattle.poets_syntax.specs.Contract.{Contract}
 use Rattle.poets_syntax.specs.Contract as C
 use Rattle.poets_syntax.specs.Plain.{Book, Template}
 use Rattle.poets_syntax.specs.Book.{template_in, taken, parameter_env}
-use Rattle.poets_syntax.specs.Between.{Between}
 use Rattle.poets_syntax.specs.Replace.{replace, env_of}
-use Rattle.poets_syntax.specs.Perf.{Holds}
-use Rattle.poets_syntax.specs.May.{May}
-use Rattle.poets_syntax.specs.Marks.{Marks, AreRight, Nullable}
-use Rattle.poets_syntax.specs.Normal.{normal, plus, par, seq}
 use Rattle.poets_syntax.specs.WellFormed.{IsWellFormed, IsDeclaredEvent, HaveDeclaredLiterals}
-use Rattle.poets_syntax.specs.Residual.{event_givens, argument_givens}
-use Rattle.poets_syntax.proofs.Granting.{May-Perf, Perf-May}
-use Rattle.poets_syntax.proofs.Inversions.{of_plus, of_par, of_seq}
-use Rattle.poets_syntax.proofs.Saying.{SaysSame, SaysSame-May, SaysSame-sym}
-use Rattle.poets_syntax.proofs.Replacing.{SaysSame-replace, Agrees-pairs}
+use Rattle.poets_syntax.specs.Givens.{event_givens, argument_givens}
+use Rattle.poets_syntax.proofs.Replacing.{Agrees-pairs}
 use Rattle.poets_syntax.proofs.Givens.{HaveDeclaredNames, AreDeclared-values, HaveDeclaredNames-event, HaveDeclaredNames-arguments, env_of-arguments}
 use Rattle.poets_syntax.proofs.WellFormedness.{IsWellFormed-replace, BindersAreUndeclared-of}
+use Rattle.poets_meaning.specs.Between.{Between}
+use Rattle.poets_meaning.specs.Perf.{Holds}
+use Rattle.poets_meaning.specs.May.{May}
+use Rattle.poets_meaning.specs.Marks.{Marks, AreRight, Nullable}
+use Rattle.poets_meaning.proofs.Granting.{May-Perf, Perf-May}
+use Rattle.poets_meaning.proofs.Inversions.{of_plus, of_par, of_seq}
+use Rattle.poets_meaning.proofs.Saying.{SaysSame, SaysSame-May, SaysSame-sym}
+use Rattle.poets_meaning.proofs.Replacing.{SaysSame-replace}
+use Rattle.poets_calculus.specs.Normal.{normal, plus, par, seq}
 use Rattle.poets_norm.proofs.Builders.{plus_in, plus_out, par_in, par_out, seq_in, seq_out}
 use Rattle.poets_norm.proofs.Meaning.{normal_in, normal_out}
 

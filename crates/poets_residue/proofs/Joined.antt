@@ -7,10 +7,12 @@ use Rattle.poets_syntax.specs.Contract.{Contract, Success, Failure, Transmit, Pl
 use Rattle.poets_syntax.specs.Plain.{Book, Template}
 use Rattle.poets_syntax.specs.Book.{template_in, taken}
 use Rattle.poets_syntax.specs.Replace.{replace}
-use Rattle.poets_syntax.specs.Marks.{Marks, nullable}
-use Rattle.poets_syntax.specs.Normal.{par, seq}
-use Rattle.poets_syntax.specs.Residual.{event_givens, argument_givens, is_true, body_of, after_at}
+use Rattle.poets_syntax.specs.Givens.{event_givens, argument_givens}
 use Rattle.poets_syntax.proofs.Replacing.{truth}
+use Rattle.poets_meaning.specs.Marks.{Marks, nullable}
+use Rattle.poets_meaning.specs.Truth.{is_true}
+use Rattle.poets_calculus.specs.Normal.{par, seq}
+use Rattle.poets_calculus.specs.Residual.{body_of, after_at}
 use Rattle.poets_norm.specs.Choices.{IsDistinctChoice}
 use Rattle.poets_norm.proofs.Alternatives.{distinct_choice-twice}
 use Rattle.poets_norm.proofs.NormalForms.{IsBuilt, built-normal, normal_of_built, normal_is_distinct}

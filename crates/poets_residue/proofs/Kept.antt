@@ -9,13 +9,15 @@ use Rattle.poets_syntax.specs.Contract.{Contract, Success, Failure, Transmit, Pl
 use Rattle.poets_syntax.specs.Plain.{Book, Template}
 use Rattle.poets_syntax.specs.Book.{template_in, taken}
 use Rattle.poets_syntax.specs.Replace.{replace}
-use Rattle.poets_syntax.specs.Marks.{Marks, AreRight, nullable}
-use Rattle.poets_syntax.specs.Normal.{normal, par, seq}
 use Rattle.poets_syntax.specs.WellFormed.{IsWellFormed, IsDeclaredEvent, AreWellFormed}
-use Rattle.poets_syntax.specs.Residual.{event_givens, argument_givens, is_true, after_by, after_at, body_of}
+use Rattle.poets_syntax.specs.Givens.{event_givens, argument_givens}
 use Rattle.poets_syntax.proofs.Givens.{HaveDeclaredNames-event, HaveDeclaredNames-arguments}
 use Rattle.poets_syntax.proofs.WellFormedness.{IsWellFormed-replace}
 use Rattle.poets_syntax.specs.Applied.{CountsFit, BodiesCountsFit}
+use Rattle.poets_meaning.specs.Marks.{Marks, AreRight, nullable}
+use Rattle.poets_meaning.specs.Truth.{is_true}
+use Rattle.poets_calculus.specs.Normal.{normal, par, seq}
+use Rattle.poets_calculus.specs.Residual.{after_by, after_at, body_of}
 use Rattle.poets_norm.proofs.Parts.{IsOfParts, kept_by_plus, kept_by_par, kept_by_seq, FailureOr, IsKeptOrFailure}
 use Rattle.poets_norm.proofs.WellFormedness.{IsWellFormed-of_parts, IsWellFormed-normal}
 use Rattle.poets_norm.proofs.Counts.{CountsFit-of_parts, CountsFit-normal, CountsFit-replace}

@@ -10,15 +10,15 @@ use Rattle.poets_syntax.specs.Same.{same_contract}
 use Rattle.poets_syntax.specs.Plain.{Book, Template}
 use Rattle.poets_syntax.specs.Book.{template_in}
 use Rattle.poets_syntax.specs.Applied.{CountsFit, BodiesCountsFit}
-use Rattle.poets_syntax.specs.Marks.{Marks, AreRight, nullable}
-use Rattle.poets_syntax.specs.Guarded.{IsGuarded}
-use Rattle.poets_syntax.specs.Exposed.{EachExposed}
-use Rattle.poets_syntax.specs.Residual.{body_of}
-use Rattle.poets_syntax.specs.Width.{width}
 use Rattle.poets_syntax.proofs.Replacing.{truth}
-use Rattle.poets_syntax.proofs.Nullability.{EachExposed-weaker}
 use Rattle.poets_syntax.proofs.SameContracts.{contract_one, contract_itself}
-use Rattle.poets_syntax.proofs.Unfolded.{unfolds-guarded}
+use Rattle.poets_meaning.specs.Marks.{Marks, AreRight, nullable}
+use Rattle.poets_meaning.specs.Guarded.{IsGuarded}
+use Rattle.poets_meaning.specs.Exposed.{EachExposed}
+use Rattle.poets_meaning.specs.Width.{width}
+use Rattle.poets_meaning.proofs.Nullability.{EachExposed-weaker}
+use Rattle.poets_calculus.specs.Residual.{body_of}
+use Rattle.poets_calculus.proofs.Unfolded.{unfolds-guarded}
 use Rattle.poets_residue.specs.Once.{ready_by, ready_at, ready, IsAmong}
 use Rattle.poets_residue.specs.Unfolding.{UnfoldsWithin, IsStudied}
 use Rattle.poets_residue.proofs.Kept.{CountsFit-body}

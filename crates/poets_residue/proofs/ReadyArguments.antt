@@ -15,21 +15,22 @@ use Rattle.poets_expr.specs.Subst.{literal_of}
 use Rattle.poets_expr.specs.Fold.{is_closed, is_literal, is_folded, fold_closed, HasDeclaredNames}
 use Rattle.poets_syntax.specs.declared.term.Param.{Param}
 use Rattle.poets_syntax.specs.Contract.{Contract, Success, Failure, Transmit, Plus, Par, Seq, App}
-use Rattle.poets_syntax.specs.Arguments.{arguments}
 use Rattle.poets_syntax.specs.Plain.{Book, Template}
 use Rattle.poets_syntax.specs.Book.{template_in}
-use Rattle.poets_syntax.specs.Marks.{Marks, nullable}
-use Rattle.poets_syntax.specs.Normal.{folded, params_in, app, normal}
 use Rattle.poets_syntax.specs.Replace.{replace}
-use Rattle.poets_syntax.specs.Residual.{argument_givens, body_of}
+use Rattle.poets_syntax.specs.Givens.{argument_givens}
 use Rattle.poets_syntax.specs.TypeOf.{Passes, name_type, unary_type, binary_type, make_type, if_type, ◌>>=◌, type_of}
 use Rattle.poets_syntax.specs.Typed.{check_type, check_args}
 use Rattle.poets_syntax.specs.code.Passing.{HasType, ContractPasses, BookPasses}
-use Rattle.poets_syntax.specs.Width.{body_in}
 use Rattle.poets_syntax.proofs.Replacing.{truth}
 use Rattle.poets_syntax.proofs.Soundness.{HasDeclaredNames-val}
 use Rattle.poets_syntax.proofs.TypedReplacing.{HasType-checked, application_parts, two_parts}
 use Rattle.poets_syntax.proofs.Typedness.{passed}
+use Rattle.poets_meaning.specs.Arguments.{arguments}
+use Rattle.poets_meaning.specs.Marks.{Marks, nullable}
+use Rattle.poets_meaning.specs.Width.{body_in}
+use Rattle.poets_calculus.specs.Normal.{folded, params_in, app, normal}
+use Rattle.poets_calculus.specs.Residual.{body_of}
 use Rattle.poets_norm.specs.Questions.{operated}
 use Rattle.poets_norm.proofs.NormalForms.{IsBuilt, built-normal, built_of_normal}
 use Rattle.poets_norm.proofs.Parts.{FailureOr}

@@ -4,10 +4,11 @@ use Rattle.poets_value.specs.declared.event.Event.{Event}
 use Rattle.poets_syntax.specs.Contract.{Contract}
 use Rattle.poets_syntax.specs.Plain.{Book}
 use Rattle.poets_syntax.specs.Replace.{replace}
-use Rattle.poets_syntax.specs.Marks.{Marks, AreRight}
-use Rattle.poets_syntax.specs.Normal.{normal, plus, par, seq}
 use Rattle.poets_syntax.specs.WellFormed.{IsWellFormed, IsDeclaredEvent, AreWellFormed}
-use Rattle.poets_syntax.specs.Residual.{After, argument_givens}
+use Rattle.poets_syntax.specs.Givens.{argument_givens}
+use Rattle.poets_meaning.specs.Marks.{Marks, AreRight}
+use Rattle.poets_calculus.specs.Normal.{normal, plus, par, seq}
+use Rattle.poets_calculus.specs.Residual.{After}
 use Rattle.poets_norm.proofs.Parts.{kept_by_plus, kept_by_par, kept_by_seq}
 use Rattle.poets_norm.proofs.WellFormedness.{IsWellFormed-of_parts}
 use Rattle.poets_residue.proofs.Kept.{IsWellFormed-body, IsWellFormed-taken}

@@ -9,8 +9,8 @@ use borrow.Author.Tests.{eq-eqb}
 use Rattle.poets_syntax.specs.Contract.{Contract}
 use Rattle.poets_syntax.specs.Same.{same_contract}
 use Rattle.poets_syntax.specs.Plain.{Book}
-use Rattle.poets_syntax.specs.Marks.{Marks}
 use Rattle.poets_syntax.proofs.Replacing.{truth}
+use Rattle.poets_meaning.specs.Marks.{Marks}
 use Rattle.poets_cons.specs.declared.node.Node.{Node}
 use Rattle.std.proofs.lemmas.List.{length-map}
 use Rattle.poets_cons.specs.Row.{row_of}

@@ -6,15 +6,15 @@ use Rattle.std.proofs.lemmas.List.Sums.{fold-append}
 use Rattle.poets_value.specs.declared.event.Event.{Event}
 use Rattle.poets_syntax.specs.Contract.{Contract, Failure}
 use Rattle.poets_syntax.specs.Plain.{Book}
-use Rattle.poets_syntax.specs.Perf.{Perf}
-use Rattle.poets_syntax.specs.May.{May}
-use Rattle.poets_syntax.specs.Marks.{Marks, Hopeful}
-use Rattle.poets_syntax.specs.Normal.{normal}
 use Rattle.poets_syntax.specs.WellFormed.{IsWellFormed, IsDeclaredEvent}
-use Rattle.poets_syntax.specs.Residual.{after, residual_after}
-use Rattle.poets_syntax.proofs.Granting.{May-Perf, Perf-May}
-use Rattle.poets_syntax.proofs.Unfolded.{unfolds-guarded}
 use Rattle.poets_syntax.specs.Applied.{CountsFit}
+use Rattle.poets_meaning.specs.Perf.{Perf}
+use Rattle.poets_meaning.specs.May.{May}
+use Rattle.poets_meaning.specs.Marks.{Marks, Hopeful}
+use Rattle.poets_meaning.proofs.Granting.{May-Perf, Perf-May}
+use Rattle.poets_calculus.specs.Normal.{normal}
+use Rattle.poets_calculus.specs.Residual.{after, residual_after}
+use Rattle.poets_calculus.proofs.Unfolded.{unfolds-guarded}
 use Rattle.poets_norm.proofs.Meaning.{normal_in, normal_out}
 use Rattle.poets_norm.proofs.WellFormedness.{IsWellFormed-normal}
 use Rattle.poets_norm.proofs.Counts.{CountsFit-normal}

@@ -9,13 +9,14 @@ use Rattle.poets_syntax.specs.Contract.{Contract, Transmit, App}
 use Rattle.poets_syntax.specs.Plain.{Book}
 use Rattle.poets_syntax.specs.Book.{template_in}
 use Rattle.poets_syntax.specs.Replace.{replace}
-use Rattle.poets_syntax.specs.Marks.{Marks}
-use Rattle.poets_syntax.specs.Normal.{normal}
 use Rattle.poets_syntax.specs.WellFormed.{IsDeclaredEvent}
-use Rattle.poets_syntax.specs.Residual.{event_givens, argument_givens, after_at, after, body_of, residual_after}
+use Rattle.poets_syntax.specs.Givens.{event_givens, argument_givens}
 use Rattle.poets_syntax.specs.code.Passing.{ContractPasses, BookPasses}
 use Rattle.poets_syntax.proofs.TypedReplacing.{KeepsTypes-nil}
 use Rattle.poets_syntax.proofs.TypedGivens.{ContractPasses-event, ContractPasses-arguments}
+use Rattle.poets_meaning.specs.Marks.{Marks}
+use Rattle.poets_calculus.specs.Normal.{normal}
+use Rattle.poets_calculus.specs.Residual.{after_at, after, body_of, residual_after}
 use Rattle.poets_norm.proofs.TypedNormals.{ContractPasses-of_parts, ContractPasses-normal}
 use Rattle.poets_residue.proofs.Kept.{kept_by_after_at, of_body}
 

@@ -8,13 +8,14 @@ use Rattle.poets_syntax.specs.Contract.{Contract}
 use Rattle.poets_syntax.specs.Contract as C
 use Rattle.poets_syntax.specs.Plain.{Book, Template}
 use Rattle.poets_syntax.specs.Book.{template_in, taken}
-use Rattle.poets_syntax.specs.Marks.{Marks, AreRight, Nullable, nullable}
-use Rattle.poets_syntax.specs.Normal.{plus, par, seq}
 use Rattle.poets_syntax.specs.WellFormed.{IsWellFormed, IsDeclaredEvent, AreWellFormed, HaveDeclaredLiterals}
-use Rattle.poets_syntax.specs.Residual.{After, is_true, after_by, after_at, body_of}
-use Rattle.poets_syntax.specs.Exposed.{EachExposed}
 use Rattle.poets_syntax.proofs.Replacing.{truth}
-use Rattle.poets_syntax.proofs.Nullability.{nullable_in, nullable_performed, true_holds, false_fails, EachExposed-weaker}
+use Rattle.poets_meaning.specs.Marks.{Marks, AreRight, Nullable, nullable}
+use Rattle.poets_meaning.specs.Truth.{is_true}
+use Rattle.poets_meaning.specs.Exposed.{EachExposed}
+use Rattle.poets_meaning.proofs.Nullability.{nullable_in, nullable_performed, true_holds, false_fails, EachExposed-weaker}
+use Rattle.poets_calculus.specs.Normal.{plus, par, seq}
+use Rattle.poets_calculus.specs.Residual.{After, after_by, after_at, body_of}
 use Rattle.poets_residue.specs.Unfolding.{UnfoldsWithin}
 use Rattle.poets_residue.proofs.Kept.{IsWellFormed-body, after_at-failure}
 use Rattle.poets_syntax.specs.Applied.{FitsTemplate}

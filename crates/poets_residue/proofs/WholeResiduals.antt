@@ -16,11 +16,12 @@ use Rattle.poets_syntax.specs.Plain.{Book, Template}
 use Rattle.poets_syntax.specs.Book.{template_in}
 use Rattle.poets_syntax.specs.Replace.{replace}
 use Rattle.poets_syntax.specs.Whole.{IsWholeContract, IsWholeBook}
-use Rattle.poets_syntax.specs.Marks.{Marks}
-use Rattle.poets_syntax.specs.Normal.{normal}
-use Rattle.poets_syntax.specs.Residual.{event_givens, argument_givens, after, after_at, residual_after}
+use Rattle.poets_syntax.specs.Givens.{event_givens, argument_givens}
 use Rattle.poets_syntax.proofs.Replacing.{truth}
 use Rattle.poets_syntax.proofs.WholeContracts.{IsWhole-replace}
+use Rattle.poets_meaning.specs.Marks.{Marks}
+use Rattle.poets_calculus.specs.Normal.{normal}
+use Rattle.poets_calculus.specs.Residual.{after, after_at, residual_after}
 use Rattle.poets_norm.proofs.WholeNormals.{IsWhole-of_parts, IsWhole-normal}
 use Rattle.poets_residue.proofs.Kept.{of_body, kept_by_after_at}
 

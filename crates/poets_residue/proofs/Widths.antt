@@ -9,12 +9,13 @@ use Rattle.poets_syntax.specs.Contract.{Contract, Transmit, Plus, Par, Seq, App}
 use Rattle.poets_syntax.specs.Plain.{Book, Template}
 use Rattle.poets_syntax.specs.Book.{template_in}
 use Rattle.poets_syntax.specs.Replace.{replace}
-use Rattle.poets_syntax.specs.Marks.{Marks, nullable}
 use Rattle.poets_syntax.specs.Applied.{CountsFit}
-use Rattle.poets_syntax.specs.Residual.{argument_givens, body_of}
-use Rattle.poets_syntax.specs.Width.{size, wide_at, body_in, width}
+use Rattle.poets_syntax.specs.Givens.{argument_givens}
 use Rattle.poets_syntax.proofs.Replacing.{truth}
-use Rattle.poets_syntax.proofs.Unfolded.{width-unfolded}
+use Rattle.poets_meaning.specs.Marks.{Marks, nullable}
+use Rattle.poets_meaning.specs.Width.{size, wide_at, body_in, width}
+use Rattle.poets_meaning.proofs.Unfolded.{width-unfolded}
+use Rattle.poets_calculus.specs.Residual.{body_of}
 use Rattle.poets_norm.specs.Questions.{operated, questions}
 use Rattle.poets_norm.proofs.Asked.{questions-le}
 use Rattle.poets_norm.proofs.Sizes.{exposed, wide_by-exposed, exposed-normal, exposed-replace, width-normal, width-replace}

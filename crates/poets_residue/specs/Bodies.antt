@@ -9,8 +9,9 @@ use Rattle.poets_syntax.specs.declared.term.Param.{Param}
 use Rattle.poets_syntax.specs.declared.term.Template.{Template}
 use Rattle.poets_syntax.specs.Book.{template_of, book_of}
 use Rattle.poets_syntax.specs.Contract.{Contract, contract_of}
-use Rattle.poets_syntax.specs.Residual.{argument_givens, body_of}
-use Rattle.poets_syntax.specs.Studied.{StudiedBook, marks_of}
+use Rattle.poets_syntax.specs.Givens.{argument_givens}
+use Rattle.poets_meaning.specs.Studied.{StudiedBook, marks_of}
+use Rattle.poets_calculus.specs.Residual.{body_of}
 use Rattle.poets_norm.specs.Asking.{to_ask}
 use Rattle.poets_norm.specs.Questions.{questions}
 

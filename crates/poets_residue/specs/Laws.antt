@@ -4,20 +4,20 @@ use Rattle.poets_value.specs.declared.event.Event.{Event}
 use Rattle.poets_value.specs.Whole.{IsWholeEvent, IsWholeTrace}
 use Rattle.poets_value.specs.declared.value.Name.{Name}
 use Rattle.poets_expr.specs.Expression.{Expression}
-use Rattle.poets_syntax.specs.declared.studied.Mark.{Mark}
 use Rattle.poets_syntax.specs.Contract.{Contract, Failure, App}
 use Rattle.poets_syntax.specs.Plain.{Book}
 use Rattle.poets_syntax.specs.Book.{template_in}
 use Rattle.poets_syntax.specs.Whole.{IsWholeContract, IsWholeBook}
-use Rattle.poets_syntax.specs.Perf.{Perf}
-use Rattle.poets_syntax.specs.May.{May}
-use Rattle.poets_syntax.specs.Marks.{Marks, AreRight}
-use Rattle.poets_syntax.specs.Normal.{normal}
 use Rattle.poets_syntax.specs.WellFormed.{IsWellFormed, IsDeclaredEvent, AreWellFormed}
-use Rattle.poets_syntax.specs.Guarded.{IsGuarded}
-use Rattle.poets_syntax.specs.Residual.{After, after_at, after, body_of, residual_after}
 use Rattle.poets_syntax.specs.Applied.{CountsFit, BodiesCountsFit}
-use Rattle.poets_syntax.specs.Studied.{marks_in, IsStudiedBook}
+use Rattle.poets_meaning.specs.declared.studied.Mark.{Mark}
+use Rattle.poets_meaning.specs.Perf.{Perf}
+use Rattle.poets_meaning.specs.May.{May}
+use Rattle.poets_meaning.specs.Marks.{Marks, AreRight}
+use Rattle.poets_meaning.specs.Guarded.{IsGuarded}
+use Rattle.poets_meaning.specs.Studied.{marks_in, IsStudiedBook}
+use Rattle.poets_calculus.specs.Normal.{normal}
+use Rattle.poets_calculus.specs.Residual.{After, after_at, after, body_of, residual_after}
 use Rattle.poets_residue.specs.Once.{ready_by, ready_at, ready}
 use Rattle.poets_residue.specs.Unfolding.{UnfoldsWithin, IsStudied}
 

@@ -6,13 +6,13 @@ use Rattle.poets_value.specs.declared.value.Name.{Name}
 use Rattle.poets_expr.specs.Expression.{Expression}
 use Rattle.poets_syntax.specs.Contract.{Contract, Success, Failure, Transmit, Plus, Par, Seq, App}
 use Rattle.poets_syntax.specs.Same.{same_contract}
-use Rattle.poets_syntax.specs.Arguments.{arguments}
 use Rattle.poets_syntax.specs.Plain.{Book}
 use Rattle.poets_syntax.specs.Book.{book_of, template_in}
-use Rattle.poets_syntax.specs.Marks.{Marks, nullable}
-use Rattle.poets_syntax.specs.Residual.{body_of}
-use Rattle.poets_syntax.specs.Studied.{StudiedBook, marks_of}
-use Rattle.poets_syntax.specs.Width.{body_in}
+use Rattle.poets_meaning.specs.Arguments.{arguments}
+use Rattle.poets_meaning.specs.Marks.{Marks, nullable}
+use Rattle.poets_meaning.specs.Studied.{StudiedBook, marks_of}
+use Rattle.poets_meaning.specs.Width.{body_in}
+use Rattle.poets_calculus.specs.Residual.{body_of}
 use Rattle.poets_norm.specs.Questions.{operated}
 
 -- the transmits and applications in unguarded positions, where `unfolded` gives those of an application's body

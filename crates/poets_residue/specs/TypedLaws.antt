@@ -5,15 +5,15 @@ use Rattle.poets_value.specs.declared.event.Event.{Event}
 use Rattle.poets_expr.specs.Expression.{Expression}
 use Rattle.poets_expr.specs.Fold.{is_literal}
 use Rattle.poets_syntax.specs.Contract.{Contract, App}
-use Rattle.poets_syntax.specs.Arguments.{arguments}
 use Rattle.poets_syntax.specs.Plain.{Book}
 use Rattle.poets_syntax.specs.Book.{template_in}
-use Rattle.poets_syntax.specs.Marks.{Marks}
-use Rattle.poets_syntax.specs.Normal.{normal}
 use Rattle.poets_syntax.specs.WellFormed.{IsDeclaredEvent}
-use Rattle.poets_syntax.specs.Residual.{after_at, after, residual_after}
 use Rattle.poets_syntax.specs.Typing.{IsTyped, IsTypedBook}
-use Rattle.poets_syntax.specs.Width.{body_in}
+use Rattle.poets_meaning.specs.Arguments.{arguments}
+use Rattle.poets_meaning.specs.Marks.{Marks}
+use Rattle.poets_meaning.specs.Width.{body_in}
+use Rattle.poets_calculus.specs.Normal.{normal}
+use Rattle.poets_calculus.specs.Residual.{after_at, after, residual_after}
 use Rattle.poets_norm.specs.Questions.{operated}
 use Rattle.poets_residue.specs.Once.{ready, asked_of, IsAmong}
 

@@ -3,7 +3,7 @@ ghost use Rattle.std.specs.Prelude.{◌≡◌, ◌+◌, ◌≤◌, IfOk, OnOk, [
 ghost use Rattle.poets_expr.specs.Env.{declared_of, itself};
 ghost use Rattle.poets_expr.specs.Expression.{expression_of};
 ghost use Rattle.poets_expr.specs.Val.{val};
-ghost use Rattle.poets_syntax.specs.Arguments as spec;
+ghost use Rattle.poets_meaning.specs.Arguments as spec;
 ghost use Rattle.poets_norm.specs.Asking.{to_ask};
 ghost use Rattle.poets_norm.specs.Questions.{operated, questions};
 ghost use Rattle.poets_norm.specs.Rows.{Enters};
@@ -12,8 +12,9 @@ ghost use Rattle.poets_residue.specs.Bodies.{unfolded, with_body, AreGivens, Unf
 
 use poets_cons::Arena;
 use poets_expr::{Asks, Decls, Env, Expr, Given, eval};
+use poets_meaning::Studied;
 use poets_norm::enter_normal;
-use poets_syntax::{Param, Studied, Template, subst};
+use poets_syntax::{Param, Template, subst};
 use poets_value::{List, Memory, Name, Ty, Value, push};
 use std::alloc::Global;
 

@@ -2,11 +2,12 @@
 ghost use Rattle.std.specs.Prelude.{◌≡◌, ◌↔◌, IsTrue, []};
 ghost use Rattle.poets_syntax.specs.Book.{book_of};
 ghost use Rattle.poets_syntax.specs.Contract.{contract_of};
-ghost use Rattle.poets_syntax.specs.InStudied.{nullable_in, CountsFitIn};
-ghost use Rattle.poets_syntax.specs.Perf.{Perf};
-ghost use Rattle.poets_syntax.specs.Studied.{marks_of};
+ghost use Rattle.poets_meaning.specs.InStudied.{nullable_in, CountsFitIn};
+ghost use Rattle.poets_meaning.specs.Perf.{Perf};
+ghost use Rattle.poets_meaning.specs.Studied.{marks_of};
 
-use poets_syntax::{Studied, Term};
+use poets_meaning::Studied;
+use poets_syntax::Term;
 use poets_value::Name;
 
 /// Whether the empty trace performs the contract.

@@ -1,8 +1,8 @@
 //! Whether contracts as rows are past the limit of what is kept.
 ghost use Rattle.std.specs.Prelude.{◌≡◌, ◌-◌, ◌+◌, ◌≤◌, ◌<◌, All, IfOk, OnErr, OnOk, length};
-ghost use Rattle.poets_syntax.specs.InStudied.{nullable_in};
-ghost use Rattle.poets_syntax.specs.Spread.{largest};
-ghost use Rattle.poets_syntax.specs.Width.{size, widest};
+ghost use Rattle.poets_meaning.specs.InStudied.{nullable_in};
+ghost use Rattle.poets_meaning.specs.Spread.{largest};
+ghost use Rattle.poets_meaning.specs.Width.{size, widest};
 ghost use Rattle.poets_cons.specs.Row.{row_of};
 ghost use Rattle.poets_cons.specs.Table.{contract_at, contract_of_rows, IsTable};
 ghost use Rattle.poets_residue.specs.Limits.{is_past_limit_in};
@@ -12,7 +12,7 @@ use crate::endings::is_marked;
 use crate::row_widths::{less_args, less_size};
 use indexmap::IndexSet;
 use poets_cons::{Node, Rows, node_at};
-use poets_syntax::{LARGEST, Studied, WIDTH_CUT};
+use poets_meaning::{LARGEST, Studied, WIDTH_CUT};
 use poets_value::Memory;
 use std::alloc::Global;
 

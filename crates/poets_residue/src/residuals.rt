@@ -1,14 +1,16 @@
 //! Residuals.
 ghost use Rattle.std.specs.Prelude.{◌+◌, ◌≤◌};
 ghost use Rattle.poets_syntax.specs.Contract.{contract_of};
-ghost use Rattle.poets_syntax.specs.InStudied.{after_in, width_in, CountsFitIn};
 ghost use Rattle.poets_syntax.specs.Results.{GivesContract};
+ghost use Rattle.poets_meaning.specs.InStudied.{width_in, CountsFitIn};
+ghost use Rattle.poets_calculus.specs.InStudied.{after_in};
 ghost use Rattle.poets_residue.specs.Once.{once_in};
 
 use crate::derivation::residual_rows;
 use poets_cons::{of_term, to_term};
 use poets_expr::Asks;
-use poets_syntax::{Studied, Term};
+use poets_meaning::Studied;
+use poets_syntax::Term;
 use poets_value::{Event, Memory};
 use std::alloc::Global;
 

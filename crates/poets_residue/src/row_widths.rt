@@ -3,13 +3,13 @@ ghost use Rattle.std.specs.Prelude.{◌≡◌, ◌+◌, ◌-◌, ◌≤◌, ◌<
 ghost use Rattle.poets_expr.specs.Expression.{expression_of};
 ghost use Rattle.poets_expr.specs.Size.{nodes_of_all};
 ghost use Rattle.poets_syntax.specs.Contract.{App};
-ghost use Rattle.poets_syntax.specs.InStudied.{nullable_in, width_by_bodies, wide_in, CountsFitIn};
-ghost use Rattle.poets_syntax.specs.Width.{size, widest};
+ghost use Rattle.poets_meaning.specs.InStudied.{nullable_in, width_by_bodies, wide_in, CountsFitIn};
+ghost use Rattle.poets_meaning.specs.Width.{size, widest};
 ghost use Rattle.poets_cons.specs.Table.{contract_at, contract_of_rows, IsTable};
 
 use poets_cons::{Node, Rows, node_at};
 use poets_expr::Expr;
-use poets_syntax::{Studied, WIDTH_CUT};
+use poets_meaning::{Studied, WIDTH_CUT};
 use poets_value::Name;
 
 // What is left of a number when the width of a row is taken off; where something is, also

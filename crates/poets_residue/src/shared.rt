@@ -1,16 +1,16 @@
 //! Contracts as rows that may end, and the joined residuals of their parts.
 ghost use Rattle.std.specs.Prelude.{◌≡◌, ◌<◌, ◌↔◌, IsTrue, length, []};
 ghost use Rattle.poets_syntax.specs.Book.{book_of};
-ghost use Rattle.poets_syntax.specs.InStudied.{nullable_in, CountsFitIn};
-ghost use Rattle.poets_syntax.specs.Perf.{Perf};
+ghost use Rattle.poets_meaning.specs.InStudied.{nullable_in, CountsFitIn};
+ghost use Rattle.poets_meaning.specs.Perf.{Perf};
 ghost use Rattle.poets_norm.specs.Rows.{Enters};
 ghost use Rattle.poets_cons.specs.Table.{contract_at, contract_of_rows, IsTable, Extends};
 ghost use Rattle.poets_residue.specs.code.Sides.{sides_at, LeavesChoices};
 
 use crate::endings::is_marked;
 use poets_cons::{Arena, Node, Rows, node_at};
+use poets_meaning::Studied;
 use poets_norm::joining::{either, par};
-use poets_syntax::Studied;
 use poets_value::Memory;
 
 /// Whether the empty trace performs the contract of the rows.

@@ -1,8 +1,8 @@
 //! Transmissions that take an event or refuse it.
 ghost use Rattle.std.specs.Prelude.{◌≡◌, ◌+◌, ◌≤◌, ◌<◌, length, reverse};
-ghost use Rattle.poets_syntax.specs.Arguments.{arguments};
-ghost use Rattle.poets_syntax.specs.InStudied.{after_in};
-ghost use Rattle.poets_syntax.specs.Residual as spec;
+ghost use Rattle.poets_syntax.specs.Givens as spec;
+ghost use Rattle.poets_meaning.specs.Arguments.{arguments};
+ghost use Rattle.poets_calculus.specs.InStudied.{after_in};
 ghost use Rattle.poets_norm.specs.Questions.{questions};
 ghost use Rattle.poets_norm.specs.Rows.{Enters};
 ghost use Rattle.poets_cons.specs.Table.{contract_at, Extends};
@@ -10,9 +10,10 @@ ghost use Rattle.poets_residue.specs.code.Taking.{holds_of, sending, taken_at};
 
 use poets_cons::{Arena, replaced_at};
 use poets_expr::{Asks, Decls, Env, Expr, Given, eval};
+use poets_meaning::Studied;
 use poets_norm::enter_normal;
 use poets_norm::joining::failure;
-use poets_syntax::{Binders, Studied};
+use poets_syntax::Binders;
 use poets_value::{Event, Memory, Name, Ty, Value};
 use std::alloc::Global;
 

@@ -3,13 +3,13 @@ use Rattle.std.proofs.Common.{◌≡◌, ℕ, suc, ◌+◌, ◌≤◌, List, [],
 use Rattle.std.proofs.KnownBytes.{Appends-nil}
 use Rattle.poets_io.specs.Causes.{Rose}
 use Rattle.poets_lex.specs.Table.{Table}
-use Rattle.poets_call.specs.Calls.{Call, calls_of, history_of}
-use Rattle.poets_call.specs.Declarations.{book_from, reports_of}
-use Rattle.poets_call.specs.Histories.{IsRightHistory}
-use Rattle.poets_call.specs.Plain.{Command, Entry}
-use Rattle.poets_call.specs.Rules as R
-use Rattle.poets_call.specs.Said.{Statement}
-use Rattle.poets_call.specs.declared.rules.Rules.{Rules}
+use Rattle.poets_command.specs.Calls.{Call, calls_of, history_of}
+use Rattle.poets_command.specs.Declarations.{book_from, reports_of}
+use Rattle.poets_command.specs.Plain.{Command, Entry}
+use Rattle.poets_command.specs.Said.{Statement}
+use Rattle.poets_rules.specs.Rules as R
+use Rattle.poets_rules.specs.declared.rules.Rules.{Rules}
+use Rattle.poets_history.specs.Histories.{IsRightHistory}
 use Rattle.poets_clerks.specs.Histories.{HasScriptParts, HasScripts}
 use Rattle.poets_disk.specs.Disks.{Seen}
 use Rattle.poets_journal.specs.Texts.{Texts}

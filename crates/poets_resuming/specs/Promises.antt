@@ -1,6 +1,6 @@
 -- What a run promises that goes on with a journal.
 use Rattle.std.specs.Prelude.{ℕ}
-use Rattle.poets_call.specs.Calls.{history_of}
+use Rattle.poets_command.specs.Calls.{history_of}
 use Rattle.poets_disk.specs.Disks.{Seen}
 use Rattle.poets_writing.specs.Writing.{Change}
 use Rattle.poets_keeping.specs.declared.outcome.KeptOutcome.{KeptOutcome}

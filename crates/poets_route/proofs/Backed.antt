@@ -6,16 +6,17 @@ use Rattle.poets_expr.specs.Expression.{Expression}
 use Rattle.poets_syntax.specs.declared.term.Binders.{Binders}
 use Rattle.poets_syntax.specs.Applied.{CountsFit}
 use Rattle.poets_syntax.specs.Contract.{Contract, Success, Transmit, Par, Seq, App}
-use Rattle.poets_syntax.specs.Marks.{Marks, nullable}
-use Rattle.poets_syntax.specs.Width.{width}
+use Rattle.poets_meaning.specs.Marks.{Marks, nullable}
+use Rattle.poets_meaning.specs.Width.{width}
 use Rattle.poets_residue.proofs.Widths.{width-seq}
 use Rattle.poets_syntax.specs.Book.{template_in}
-use Rattle.poets_syntax.specs.Normal.{normal, par}
 use Rattle.poets_syntax.specs.Plain.{Book, Template}
 use Rattle.poets_syntax.specs.Replace.{replace}
-use Rattle.poets_syntax.specs.Residual.{event_givens, argument_givens, after}
+use Rattle.poets_syntax.specs.Givens.{event_givens, argument_givens}
 use Rattle.poets_syntax.specs.WellFormed.{HaveDeclaredLiterals, IsWellFormed, IsDeclaredEvent}
 use Rattle.poets_syntax.proofs.Givens.{HaveDeclaredNames-arguments, env_of-arguments}
+use Rattle.poets_calculus.specs.Normal.{normal, par}
+use Rattle.poets_calculus.specs.Residual.{after}
 use Rattle.poets_residue.specs.Unfolding.{IsStudied}
 use Rattle.poets_residue.proofs.Equations.{after-some}
 use Rattle.poets_norm.specs.code.Grouping.{beside_parts}

@@ -7,14 +7,16 @@ use Rattle.poets_syntax.specs.declared.term.Binders.{Binders}
 use Rattle.poets_syntax.specs.Contract.{Contract, Success, Transmit, Plus, Par, Seq}
 use Rattle.poets_syntax.specs.Plain.{Book}
 use Rattle.poets_syntax.specs.Book.{taken}
-use Rattle.poets_syntax.specs.Marks.{Marks, nullable}
-use Rattle.poets_syntax.specs.Normal.{plus, par, seq}
 use Rattle.poets_syntax.specs.Replace.{replace, env_of}
-use Rattle.poets_syntax.specs.Residual.{event_givens, is_true, after}
+use Rattle.poets_syntax.specs.Givens.{event_givens}
 use Rattle.poets_syntax.specs.WellFormed.{IsWellFormed, IsDeclaredEvent}
 use Rattle.poets_syntax.proofs.Givens.{HaveDeclaredNames-event}
-use Rattle.poets_syntax.proofs.Nullability.{true_holds}
 use Rattle.poets_syntax.proofs.Replacing.{truth}
+use Rattle.poets_meaning.specs.Marks.{Marks, nullable}
+use Rattle.poets_meaning.specs.Truth.{is_true}
+use Rattle.poets_meaning.proofs.Nullability.{true_holds}
+use Rattle.poets_calculus.specs.Normal.{plus, par, seq}
+use Rattle.poets_calculus.specs.Residual.{after}
 use Rattle.poets_residue.proofs.Equations.{after-transmit, after-plus, after-par, after-seq}
 use Rattle.poets_way.specs.Way.{Way}
 use Rattle.poets_way.specs.Way as W

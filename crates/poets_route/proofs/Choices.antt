@@ -3,7 +3,7 @@ use Rattle.std.proofs.Common.{◌≡◌, ◌<◌, ◌∙◌, Bool, true, false, 
 use Rattle.std.specs.List.{All, Contains}
 use Rattle.std.proofs.lemmas.List.Elements.{All-contains, All-contains_itself, Contains-append_right, Contains-append_cases, Contains-push_cases}
 use Rattle.poets_syntax.specs.Contract.{Contract, Failure, Plus}
-use Rattle.poets_syntax.specs.Normal.{alternatives, distinct, plus}
+use Rattle.poets_calculus.specs.Normal.{alternatives, distinct, plus}
 use Rattle.poets_norm.proofs.Alternatives.{alternatives-distinct_choice}
 use Rattle.poets_norm.proofs.Parts.{All-distinct}
 use Rattle.poets_way.specs.Way.{Way}

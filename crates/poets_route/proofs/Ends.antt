@@ -6,10 +6,10 @@ use Rattle.poets_expr.specs.Val.{val}
 use Rattle.poets_syntax.specs.Contract.{Contract, Success, Plus, Par, Seq, App}
 use Rattle.poets_syntax.specs.Plain.{Book, Template}
 use Rattle.poets_syntax.specs.Book.{template_in, parameter_env}
-use Rattle.poets_syntax.specs.Marks.{Marks, nullable}
-use Rattle.poets_syntax.specs.Perf.{Perf}
-use Rattle.poets_syntax.specs.Width.{width}
-use Rattle.poets_syntax.proofs.Nullability.{either_true, nullable_in, nullable_performed, EachExposed-fits}
+use Rattle.poets_meaning.specs.Marks.{Marks, nullable}
+use Rattle.poets_meaning.specs.Perf.{Perf}
+use Rattle.poets_meaning.specs.Width.{width}
+use Rattle.poets_meaning.proofs.Nullability.{either_true, nullable_in, nullable_performed, EachExposed-fits}
 use Rattle.poets_residue.proofs.Widths.{width-app}
 use Rattle.poets_way.specs.Way.{Way}
 use Rattle.poets_way.specs.Way as W

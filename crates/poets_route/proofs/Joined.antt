@@ -3,11 +3,11 @@ use Rattle.std.proofs.Common.{◌≡◌, ◌↔◌, IsTrue, Bool, false, ◌+◌
 use Rattle.std.specs.List.{Contains}
 use Rattle.poets_expr.specs.Expression.{Expression}
 use Rattle.poets_syntax.specs.declared.term.Binders.{Binders}
-use Rattle.poets_syntax.specs.Alike.{parts}
 use Rattle.poets_syntax.specs.Contract.{Contract, Success, Failure, Transmit, Plus, Par, Seq, App}
-use Rattle.poets_syntax.specs.Normal.{par, seq, send}
-use Rattle.poets_syntax.specs.Width.{size}
-use Rattle.poets_syntax.proofs.Regrouping.{first_part}
+use Rattle.poets_meaning.specs.Width.{size}
+use Rattle.poets_calculus.specs.Alike.{parts}
+use Rattle.poets_calculus.specs.Normal.{par, seq, send}
+use Rattle.poets_calculus.proofs.Regrouping.{first_part}
 use Rattle.poets_norm.specs.Choices.{regrouped}
 use Rattle.poets_norm.specs.code.Grouping.{beside_parts}
 use Rattle.poets_route.proofs.Parted.{beside_two, regrouped_two, par-first, par-last}

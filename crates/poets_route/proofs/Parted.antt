@@ -2,9 +2,9 @@
 use Rattle.std.proofs.Common.{◌≡◌, refl}
 use Rattle.std.proofs.lemmas.List.Sums.{fold-append}
 use Rattle.poets_syntax.specs.Contract.{Contract, Success, Failure, Par}
-use Rattle.poets_syntax.specs.Alike.{parts}
-use Rattle.poets_syntax.specs.Normal.{par}
-use Rattle.poets_syntax.proofs.Regrouping.{regrouped-more}
+use Rattle.poets_calculus.specs.Alike.{parts}
+use Rattle.poets_calculus.specs.Normal.{par}
+use Rattle.poets_calculus.proofs.Regrouping.{regrouped-more}
 use Rattle.poets_norm.specs.Choices.{regrouped}
 use Rattle.poets_norm.specs.code.Grouping.{beside_parts}
 

@@ -7,13 +7,14 @@ use Rattle.poets_syntax.specs.Applied.{CountsFit}
 use Rattle.poets_syntax.specs.Contract.{Contract, Success, Plus, Par, Seq, App}
 use Rattle.poets_syntax.specs.Plain.{Book, Template}
 use Rattle.poets_syntax.specs.Book.{template_in}
-use Rattle.poets_syntax.specs.Marks.{Marks}
-use Rattle.poets_syntax.specs.Normal.{normal, seq}
 use Rattle.poets_syntax.specs.Replace.{replace}
-use Rattle.poets_syntax.specs.Residual.{argument_givens, after}
-use Rattle.poets_syntax.specs.Width.{size}
+use Rattle.poets_syntax.specs.Givens.{argument_givens}
 use Rattle.poets_syntax.specs.WellFormed.{IsWellFormed, IsDeclaredEvent}
 use Rattle.poets_syntax.proofs.Givens.{HaveDeclaredNames-arguments}
+use Rattle.poets_meaning.specs.Marks.{Marks}
+use Rattle.poets_meaning.specs.Width.{size}
+use Rattle.poets_calculus.specs.Normal.{normal, seq}
+use Rattle.poets_calculus.specs.Residual.{after}
 use Rattle.poets_norm.specs.Choices.{regrouped}
 use Rattle.poets_norm.proofs.Counts.{CountsFit-normal, CountsFit-replace}
 use Rattle.poets_norm.proofs.NormalForms.{IsBuilt, built-normal, built_of_normal, normal_of_built}

@@ -4,9 +4,9 @@ use Rattle.poets_value.specs.declared.event.Event.{Event}
 use Rattle.poets_expr.specs.Env.{Env}
 use Rattle.poets_syntax.specs.Contract.{Contract, Par}
 use Rattle.poets_syntax.specs.Plain.{Book}
-use Rattle.poets_syntax.specs.Marks.{Marks}
-use Rattle.poets_syntax.specs.Normal.{normal}
-use Rattle.poets_syntax.proofs.Regrouping.{regrouped-last}
+use Rattle.poets_meaning.specs.Marks.{Marks}
+use Rattle.poets_calculus.specs.Normal.{normal}
+use Rattle.poets_calculus.proofs.Regrouping.{regrouped-last}
 use Rattle.poets_norm.specs.Choices.{regrouped}
 use Rattle.poets_norm.specs.code.Grouping.{beside_parts}
 use Rattle.poets_route.proofs.Parted.{beside_two}

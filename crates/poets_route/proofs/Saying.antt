@@ -13,12 +13,13 @@ use Rattle.poets_syntax.specs.Contract.{Contract, App}
 use Rattle.poets_syntax.specs.Plain.{Book}
 use Rattle.poets_syntax.specs.Book.{values_of, parameter_env}
 use Rattle.poets_syntax.specs.Replace.{replace, env_of}
-use Rattle.poets_syntax.specs.Normal.{folded, params_in}
 use Rattle.poets_syntax.specs.WellFormed.{HaveDeclaredLiterals, IsWellFormed}
-use Rattle.poets_syntax.proofs.Saying.{SaysSame}
-use Rattle.poets_syntax.proofs.Replacing.{SaysSame-replace, Agrees-pairs}
+use Rattle.poets_syntax.proofs.Replacing.{Agrees-pairs}
 use Rattle.poets_syntax.proofs.Givens.{HaveDeclaredNames, AreDeclared-values}
 use Rattle.poets_syntax.proofs.WellFormedness.{BindersAreUndeclared-of}
+use Rattle.poets_meaning.proofs.Saying.{SaysSame}
+use Rattle.poets_meaning.proofs.Replacing.{SaysSame-replace}
+use Rattle.poets_calculus.specs.Normal.{folded, params_in}
 use Rattle.poets_norm.proofs.Counts.{length-folded}
 use Rattle.poets_way.specs.Way.{Way}
 use Rattle.poets_way.specs.Ways.{Ways}

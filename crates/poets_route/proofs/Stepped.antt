@@ -5,9 +5,9 @@ use Rattle.poets_expr.specs.Expression.{Expression}
 use Rattle.poets_syntax.specs.declared.term.Binders.{Binders}
 use Rattle.poets_syntax.specs.Contract.{Contract, Success, Failure, Transmit, Par, Seq, App}
 use Rattle.poets_syntax.specs.Plain.{Book}
-use Rattle.poets_syntax.specs.Marks.{Marks}
-use Rattle.poets_syntax.specs.Normal.{normal}
 use Rattle.poets_syntax.specs.WellFormed.{IsWellFormed}
+use Rattle.poets_meaning.specs.Marks.{Marks}
+use Rattle.poets_calculus.specs.Normal.{normal}
 use Rattle.poets_norm.specs.code.Grouping.{beside_parts}
 use Rattle.poets_way.specs.code.Sides.{repeated}
 use Rattle.poets_way.specs.Trails.{seconds}

@@ -9,11 +9,11 @@ use Rattle.poets_syntax.specs.declared.term.Binders.{Binders}
 use Rattle.poets_syntax.specs.Contract.{Contract, Success, Failure, Transmit, Plus, Par, Seq, App}
 use Rattle.poets_syntax.specs.Plain.{Book}
 use Rattle.poets_syntax.specs.Book.{values_of, taken}
-use Rattle.poets_syntax.specs.Marks.{Marks}
-use Rattle.poets_syntax.specs.Normal.{folded, params_in, normal, par, seq}
 use Rattle.poets_syntax.specs.Replace.{AreUndeclared}
 use Rattle.poets_syntax.specs.WellFormed.{HaveDeclaredLiterals}
 use Rattle.poets_syntax.proofs.Replacing.{truth}
+use Rattle.poets_meaning.specs.Marks.{Marks}
+use Rattle.poets_calculus.specs.Normal.{folded, params_in, normal, par, seq}
 use Rattle.poets_norm.proofs.Meaning.{Keeps-bound}
 use Rattle.poets_way.specs.Way.{Way}
 use Rattle.poets_way.specs.Way as W

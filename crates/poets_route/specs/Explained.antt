@@ -3,9 +3,9 @@ use Rattle.std.specs.Prelude.{List, [], All, Option, Some, None}
 use Rattle.poets_value.specs.declared.event.Event.{Event}
 use Rattle.poets_syntax.specs.Book.{book_of}
 use Rattle.poets_syntax.specs.Contract.{Contract}
-use Rattle.poets_syntax.specs.Perf.{Perf}
-use Rattle.poets_syntax.specs.Studied.{StudiedBook}
 use Rattle.poets_syntax.specs.WellFormed.{IsDeclaredEvent, IsWellFormed}
+use Rattle.poets_meaning.specs.Perf.{Perf}
+use Rattle.poets_meaning.specs.Studied.{StudiedBook}
 use Rattle.poets_way.specs.Way.{Way}
 use Rattle.poets_way.specs.Ways.{Ways}
 

@@ -1,13 +1,14 @@
 //! What a template's body, and what a transmission's continuation, says of values.
 ghost use Rattle.poets_syntax.specs.Contract.{contract_of};
 ghost use Rattle.poets_syntax.specs.Replace.{replace};
-ghost use Rattle.poets_syntax.specs.Residual as spec;
+ghost use Rattle.poets_syntax.specs.Givens as spec;
 ghost use Rattle.poets_syntax.specs.Results.{GivesContract};
 ghost use Rattle.poets_route.specs.code.Under.{body_with};
 
 use poets_expr::{Asks, Expr};
+use poets_meaning::Studied;
 use poets_residue::{argument_givens, event_givens};
-use poets_syntax::{Binders, Studied, Template, Term, subst};
+use poets_syntax::{Binders, Template, Term, subst};
 use poets_value::{Event, Memory};
 use std::alloc::Global;
 

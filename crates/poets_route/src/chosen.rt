@@ -1,7 +1,7 @@
 //! Ways of choices, and the parts that contracts are joined from.
 ghost use Rattle.std.specs.Prelude.{◌≡◌, ◌≢◌, ◌↔◌, ◌<◌, length, IfNone, IfSome, IsTrue};
 ghost use Rattle.poets_syntax.specs.Contract.{contract_of, Failure, Seq, Success};
-ghost use Rattle.poets_syntax.specs.Normal.{par};
+ghost use Rattle.poets_calculus.specs.Normal.{par};
 ghost use Rattle.poets_norm.specs.Choices.{regrouped};
 ghost use Rattle.poets_norm.specs.code.Grouping.{beside_parts};
 ghost use Rattle.poets_way.specs.Trails.{way_at};

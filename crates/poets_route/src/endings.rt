@@ -1,12 +1,13 @@
 //! Ways of the empty trace.
 ghost use Rattle.std.specs.Prelude.{◌≡◌, true};
 ghost use Rattle.poets_syntax.specs.Contract.{contract_of};
-ghost use Rattle.poets_syntax.specs.InStudied.{nullable_in};
+ghost use Rattle.poets_meaning.specs.InStudied.{nullable_in};
 ghost use Rattle.poets_route.specs.code.Making.{Gives};
 ghost use Rattle.poets_route.specs.code.Undone.{EndsIn, IsFormedIn};
 
+use poets_meaning::Studied;
 use poets_residue::may_end;
-use poets_syntax::{Studied, Term};
+use poets_syntax::Term;
 use poets_value::Memory;
 use poets_way::Trails;
 

@@ -1,8 +1,9 @@
 //! Normal forms and residuals, whose evaluations nobody counts.
 ghost use Rattle.std.specs.Prelude.{◌↔◌, IfOk, IsTrue};
 ghost use Rattle.poets_syntax.specs.Contract.{contract_of};
-ghost use Rattle.poets_syntax.specs.InStudied.{after_in, normal_in, CountsFitIn};
 ghost use Rattle.poets_syntax.specs.Results.{GivesContract};
+ghost use Rattle.poets_meaning.specs.InStudied.{CountsFitIn};
+ghost use Rattle.poets_calculus.specs.InStudied.{after_in, normal_in};
 ghost use Rattle.poets_norm.specs.Rows.{GivesRows};
 ghost use Rattle.poets_cons.specs.Table.{contract_of_rows};
 ghost use Rattle.poets_route.specs.code.Choices.{IsAlternative};
@@ -10,9 +11,10 @@ ghost use Rattle.poets_route.specs.code.Choices.{IsAlternative};
 use crate::chosen::has;
 use poets_cons::Rows;
 use poets_expr::Asks;
+use poets_meaning::Studied;
 use poets_norm::{normal, normal_rows};
 use poets_residue::{residual, residual_rows};
-use poets_syntax::{Studied, Term};
+use poets_syntax::Term;
 use poets_value::{Event, Memory};
 use std::alloc::Global;
 

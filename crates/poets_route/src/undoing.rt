@@ -1,7 +1,7 @@
 //! From ways of a normal form to ways of the contract.
 ghost use Rattle.std.specs.Prelude.{◌≡◌, ◌≢◌, ◌<◌, length};
 ghost use Rattle.poets_syntax.specs.Contract.{contract_of, Par, Plus, Seq, Success};
-ghost use Rattle.poets_syntax.specs.InStudied.{normal_in};
+ghost use Rattle.poets_calculus.specs.InStudied.{normal_in};
 ghost use Rattle.poets_norm.specs.code.Grouping.{beside_parts};
 ghost use Rattle.poets_way.specs.Trails.{way_at};
 ghost use Rattle.poets_way.specs.Way.{Nothing};
@@ -14,7 +14,8 @@ use crate::grouping::beside;
 use crate::normalizing::{is_of_normal, normal_of};
 use crate::reading::{both_of, take_of, then_of};
 use crate::sides::{all_of, shares};
-use poets_syntax::{Studied, Term};
+use poets_meaning::Studied;
+use poets_syntax::Term;
 use poets_value::Memory;
 use poets_way::Trails;
 use std::alloc::Global;

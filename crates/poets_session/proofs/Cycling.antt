@@ -8,16 +8,16 @@ use Rattle.poets_value.specs.declared.value.Name.{Name}
 use Rattle.poets_syntax.specs.Plain.{Book}
 use Rattle.poets_syntax.specs.Plain as plain
 use Rattle.poets_syntax.specs.Book.{template_in}
-use Rattle.poets_syntax.specs.Guarded.{IsPath, IsCycle, UnguardedEdge}
+use Rattle.poets_meaning.specs.Guarded.{IsPath, IsCycle, UnguardedEdge}
 use Rattle.poets_guard.specs.FirstCycle.{IsFirstCycle}
 use Rattle.poets_guard.specs.Fault.{IsFaultOf}
 use Rattle.poets_guard.specs.declared.guard.GuardFault.{GuardFault}
 use Rattle.poets_guard.specs.declared.guard.GuardFault.TheVariants as G
-use Rattle.poets_call.specs.Said.{Agents, Kinds, Template, Report, Clerk, Journal, Command, Numbered}
-use Rattle.poets_call.specs.Statements.{statement_of, statements_of}
-use Rattle.poets_call.specs.Declarations.{template_in_statement, book_from}
-use Rattle.poets_call.specs.declared.statement.Statement.{Statement}
-use Rattle.poets_call.specs.Said as said
+use Rattle.poets_command.specs.Said.{Agents, Kinds, Template, Report, Clerk, Journal, Command, Numbered}
+use Rattle.poets_command.specs.Statements.{statement_of, statements_of}
+use Rattle.poets_command.specs.Declarations.{template_in_statement, book_from}
+use Rattle.poets_command.specs.declared.statement.Statement.{Statement}
+use Rattle.poets_command.specs.Said as said
 use Rattle.poets_session.specs.code.Checking.{declares, IsGuardRefusal}
 use Rattle.poets_session.specs.Refusals.{Unguarded, IsTemplateAt}
 use Rattle.poets_session.specs.Causes.{IsCauseOf}

@@ -7,16 +7,16 @@ use Rattle.std.proofs.lemmas.List.Folds.{list_any-append}
 use Rattle.poets_value.specs.declared.value.Name.{Name}
 use Rattle.poets_expr.specs.Env.{same_name}
 use Rattle.poets_syntax.specs.Plain.{Book}
-use Rattle.poets_syntax.specs.Guarded.{IsCycle, UnguardedEdge}
 use Rattle.poets_syntax.specs.Typed.{is_among, check_new}
 use Rattle.poets_syntax.specs.Plain as plain
+use Rattle.poets_meaning.specs.Guarded.{IsCycle, UnguardedEdge}
 use Rattle.poets_guard.specs.FirstCycle.{LiesOnCycle, IsFirstCycle}
 use Rattle.poets_types.proofs.CheckedBooks.{or_else-none, check_new-one}
 use Rattle.poets_types.proofs.Scopes.{same_name_laws}
-use Rattle.poets_call.specs.Said.{Statement, Template}
-use Rattle.poets_call.specs.Declarations.{names_declared, book_from, reports_of}
-use Rattle.poets_call.specs.Plain.{TypeFault}
-use Rattle.poets_call.specs.TypedStatements.{twice_from, mistyped_from, first_of, first_fault}
+use Rattle.poets_command.specs.Said.{Statement, Template}
+use Rattle.poets_command.specs.Declarations.{names_declared, book_from, reports_of}
+use Rattle.poets_command.specs.Plain.{TypeFault}
+use Rattle.poets_command.specs.TypedStatements.{twice_from, mistyped_from, first_of, first_fault}
 use Rattle.poets_session.specs.Refusals.{IsTemplateAt}
 
 -- ---- the first template on a cycle

@@ -14,12 +14,12 @@ use Rattle.poets_expr.specs.Env.{same_name}
 use Rattle.poets_expr.proofs.SameTrees.{name_one}
 use Rattle.poets_syntax.specs.Plain.{Template}
 use Rattle.poets_syntax.specs.Book.{template_in}
-use Rattle.poets_syntax.specs.Guarded.{UnguardedEdge, IsGuarded}
+use Rattle.poets_meaning.specs.Guarded.{UnguardedEdge, IsGuarded}
 use Rattle.poets_guard.specs.FirstCycle.{LiesOnCycle, IsFirstCycle}
-use Rattle.poets_call.specs.Said.{Statement}
-use Rattle.poets_call.specs.Declarations.{template_in_statement, book_from}
-use Rattle.poets_call.specs.Plain.{TypeFault}
-use Rattle.poets_call.specs.TypedStatements.{first_fault}
+use Rattle.poets_command.specs.Said.{Statement}
+use Rattle.poets_command.specs.Declarations.{template_in_statement, book_from}
+use Rattle.poets_command.specs.Plain.{TypeFault}
+use Rattle.poets_command.specs.TypedStatements.{first_fault}
 use Rattle.poets_session.specs.declared.form.Form.{Form}
 use Rattle.poets_session.specs.Pieces.{Piece, pieces_of}
 use Rattle.poets_session.specs.Places.{PlaceFault, place_fault}

@@ -14,8 +14,8 @@ use Rattle.poets_expr.specs.Whole.{IsWholeExpression}
 use Rattle.poets_syntax.specs.declared.term.Binders.{Binders}
 use Rattle.poets_syntax.specs.declared.term.Param.{Param}
 use Rattle.poets_syntax.specs.Contract.{Contract}
-use Rattle.poets_call.specs.Said.{Statement, Clerk, Command, Numbered}
-use Rattle.poets_call.specs.Plain as plain
+use Rattle.poets_command.specs.Said.{Statement, Clerk, Command, Numbered}
+use Rattle.poets_command.specs.Plain as plain
 use Rattle.poets_lex.specs.declared.token.Tok.{Tok}
 use Rattle.poets_lex.specs.declared.token.Tok.TheVariants as K
 use Rattle.poets_lex.specs.declared.token.Token.{Token}

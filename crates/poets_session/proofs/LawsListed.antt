@@ -10,10 +10,10 @@ use Rattle.poets_lex.specs.Table.{Table}
 use Rattle.poets_syntax.specs.Plain.{Book}
 use Rattle.poets_syntax.specs.Book.{template_in}
 use Rattle.poets_syntax.specs.Contract.{Contract}
-use Rattle.poets_syntax.specs.Guarded.{Exposes, UnguardedEdge, IsPath, IsCycle}
 use Rattle.poets_syntax.specs.Plain as plain
-use Rattle.poets_call.specs.Said.{Statement, Template}
-use Rattle.poets_call.specs.Declarations.{book_from}
+use Rattle.poets_meaning.specs.Guarded.{Exposes, UnguardedEdge, IsPath, IsCycle}
+use Rattle.poets_command.specs.Said.{Statement, Template}
+use Rattle.poets_command.specs.Declarations.{book_from}
 use Rattle.poets_print.specs.Laws.{IsListed, CanWriteContract}
 use Rattle.poets_session.specs.declared.form.Form.{Form}
 use Rattle.poets_session.specs.declared.fault.SessionCause.{SessionCause}

@@ -8,7 +8,7 @@ use Rattle.poets_lex.specs.Table.{Table}
 use Rattle.poets_lex.proofs.OneWay.{one-reading, no-reading-at-fault, one-first-fault}
 use Rattle.poets_grammar.specs.Tokens.{toks}
 use Rattle.poets_syntax.specs.Plain.{TypeCause}
-use Rattle.poets_call.specs.Said.{Statement}
+use Rattle.poets_command.specs.Said.{Statement}
 use Rattle.poets_session.specs.declared.form.Form.{Form}
 use Rattle.poets_session.specs.Pieces.{pieces_of}
 use Rattle.poets_session.specs.Sessions.{Text, AreValid, IsReadAs, IsSession}

@@ -10,7 +10,7 @@ use Rattle.poets_grammar.specs.Statements.{IsStatement}
 use Rattle.poets_grammar.specs.StatementReading.{statement}
 use Rattle.poets_grammar.proofs.Steps.{one_answer}
 use Rattle.poets_grammar.proofs.Statements.{statement_complete}
-use Rattle.poets_call.specs.Said.{Statement}
+use Rattle.poets_command.specs.Said.{Statement}
 use Rattle.poets_session.specs.Pieces.{Piece, pieces_of}
 use Rattle.poets_session.specs.Sessions.{Text, IsStatementPiece, IsReadAs}
 use Rattle.poets_session.specs.Refusals.{Refusal, IsUnread, IsStopped}

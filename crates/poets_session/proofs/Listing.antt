@@ -19,12 +19,12 @@ use Rattle.poets_syntax.specs.Book.{template_in}
 use Rattle.poets_syntax.specs.Contract.{Contract, Success, Failure, Transmit, Plus, Par, Seq, App}
 use Rattle.poets_syntax.specs.TypeOf.{Verdict, Passes, Fails, ◌>>=◌, Scope, type_in, same_type, must_be, must_be_number_or_day, unary_type, sum_type, difference_type, equal_type, order_type, binary_type, make_type, if_type, name_type, resource_type, literal_type, type_of}
 use Rattle.poets_syntax.specs.Typed.{is_among, in_use, check_new, names_bound, types_bound, scope_of, check_type, check_args, check_arguments, check_application, check_contract}
-use Rattle.poets_call.specs.Replies.{report_in}
-use Rattle.poets_call.specs.Said.{Statement, Agents, Kinds, Template, Report, Clerk, Journal, Command, Numbered}
-use Rattle.poets_call.specs.Declarations.{names_declared, book_from, reports_of}
-use Rattle.poets_call.specs.Plain.{TypeFault}
-use Rattle.poets_call.specs.TypedStatements.{report_names, check_template, check_key, check_fold, check_report, check_declared, check_event, check_report_arguments, check_command, check_statement, or_else, twice_from, mistyped_from, first_of, first_fault}
-use Rattle.poets_call.specs.Plain as plain
+use Rattle.poets_command.specs.Reports.{report_in}
+use Rattle.poets_command.specs.Said.{Statement, Agents, Kinds, Template, Report, Clerk, Journal, Command, Numbered}
+use Rattle.poets_command.specs.Declarations.{names_declared, book_from, reports_of}
+use Rattle.poets_command.specs.Plain.{TypeFault}
+use Rattle.poets_command.specs.TypedStatements.{report_names, check_template, check_key, check_fold, check_report, check_declared, check_event, check_report_arguments, check_command, check_statement, or_else, twice_from, mistyped_from, first_of, first_fault}
+use Rattle.poets_command.specs.Plain as plain
 use Rattle.poets_print.specs.Laws.{IsListed, CanWrite, CanWriteContract, CanWriteCommand}
 use Rattle.poets_session.specs.Written.{AreListedParameters, IsWrittenExpression, IsWrittenTemplate, IsWrittenReport, IsWritten, IsListedFault}
 

@@ -3,9 +3,9 @@ use Rattle.std.proofs.Common.{◌≡◌, ℕ, suc, ◌+◌, ◌<◌, ◌≤◌, 
 use Rattle.std.proofs.Math.Seq.{take-suc, drop-cons}
 use Rattle.std.proofs.lemmas.List.{map-append, length-map, length-take-le, take_all, drop_all}
 use Rattle.std.proofs.lemmas.List.Sums.{fold-append}
-use Rattle.poets_call.specs.Statements.{statement_of, statements_of}
-use Rattle.poets_call.specs.declared.statement.Statement.{Statement}
-use Rattle.poets_call.specs.Said as said
+use Rattle.poets_command.specs.Statements.{statement_of, statements_of}
+use Rattle.poets_command.specs.declared.statement.Statement.{Statement}
+use Rattle.poets_command.specs.Said as said
 use Rattle.poets_session.specs.declared.form.Form.{Form}
 use Rattle.poets_session.specs.declared.counting.Part.{Part}
 use Rattle.poets_session.specs.declared.counting.Counts.{Counts}

@@ -7,8 +7,8 @@ use Rattle.poets_lex.specs.Table.{Table}
 use Rattle.poets_lex.specs.Lexes.{Lexes, FirstFault}
 use Rattle.poets_grammar.specs.Tokens.{toks}
 use Rattle.poets_syntax.specs.Plain.{TypeCause}
-use Rattle.poets_call.specs.Said.{Statement}
-use Rattle.poets_call.specs.TypedStatements.{first_fault}
+use Rattle.poets_command.specs.Said.{Statement}
+use Rattle.poets_command.specs.TypedStatements.{first_fault}
 use Rattle.poets_session.specs.Pieces.{pieces_of}
 use Rattle.poets_session.specs.Places.{Misplaced, TooMany, place_fault}
 use Rattle.poets_session.specs.code.Counting.{fault_of}

@@ -4,7 +4,7 @@ use Rattle.std.proofs.lemmas.Bool.Decides.{nat_tests}
 use Rattle.std.specs.List.{AllZip}
 use Rattle.std.proofs.lemmas.List.{append_assoc}
 use Rattle.std.proofs.lemmas.Slice.Zip.{all_zipped_more}
-use Rattle.poets_call.specs.Said.{Statement}
+use Rattle.poets_command.specs.Said.{Statement}
 use Rattle.poets_lex.specs.declared.token.Tok.{Tok}
 use Rattle.poets_grammar.specs.Statements.{IsStatement}
 use Rattle.poets_grammar.specs.TooDeep.{IsTooDeep}

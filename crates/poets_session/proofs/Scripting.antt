@@ -8,14 +8,14 @@ use Rattle.std.proofs.lemmas.List.{map-append, length-map, get_or-map}
 use Rattle.std.proofs.lemmas.List.Elements.{All-nil, All-cons}
 use Rattle.std.proofs.lemmas.Bool.Decides.{nat_tests}
 use Rattle.poets_value.specs.Listed.{Listed}
-use Rattle.poets_call.specs.declared.call.Command.{Command as CodeCommand}
-use Rattle.poets_call.specs.Plain as plain
-use Rattle.poets_call.specs.Calls.{command_of}
-use Rattle.poets_call.specs.Said.{Clerk, Command, Numbered}
-use Rattle.poets_call.specs.Statements.{statement_of, statements_of}
-use Rattle.poets_call.specs.declared.statement.Statement.{Statement}
-use Rattle.poets_call.specs.declared.statement.Statement.TheVariants as S
-use Rattle.poets_call.specs.Said as said
+use Rattle.poets_command.specs.declared.call.Command.{Command as CodeCommand}
+use Rattle.poets_command.specs.Plain as plain
+use Rattle.poets_command.specs.Calls.{command_of}
+use Rattle.poets_command.specs.Said.{Clerk, Command, Numbered}
+use Rattle.poets_command.specs.Statements.{statement_of, statements_of}
+use Rattle.poets_command.specs.declared.statement.Statement.{Statement}
+use Rattle.poets_command.specs.declared.statement.Statement.TheVariants as S
+use Rattle.poets_command.specs.Said as said
 use Rattle.poets_session.specs.declared.form.Form.{Form}
 use Rattle.poets_session.specs.Places.{PlaceFault, is_misplaced, is_too_many, place_fault, place_fault_after}
 use Rattle.poets_session.specs.code.Scripts.{HasShortNumber}

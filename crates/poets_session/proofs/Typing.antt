@@ -9,7 +9,7 @@ use Rattle.poets_types.specs.Faults.{fault_of, IsFirstFault}
 use Rattle.poets_session.specs.code.Checking.{IsTypeRefusal}
 use Rattle.poets_session.specs.Refusals.{Mistyped}
 use Rattle.poets_session.specs.Causes.{IsCauseOf, type_cause, cause_by}
-use Rattle.poets_call.specs.Plain as plain
+use Rattle.poets_command.specs.Plain as plain
 
 by_cause : (found : plain.TypeFault) (f : TypeFault) (cause : TypeCause) → f.cause ≡ cause → IfSome (fault_of cause) (λ fault. found ≡ Some (f.statement, fault)) → IsCauseOf (IsTypeRefusal found) (cause_by f cause)
 by_cause found f (T.Twice x) e h = inr (Mistyped f.statement (Twice x), ap (λ c. option_map (Mistyped f.statement) (fault_of c)) e, ap (option_map (λ p. Mistyped p.0 p.1)) h)

@@ -9,7 +9,7 @@ use Rattle.poets_types.specs.declared.cause.TypeFault.{TypeFault}
 use Rattle.poets_types.specs.declared.cause.TypeCause.TheVariants as T
 use Rattle.poets_types.specs.Faults.{fault_of}
 use Rattle.poets_guard.specs.declared.guard.GuardFault.TheVariants as G
-use Rattle.poets_call.specs.Said.{Statement}
+use Rattle.poets_command.specs.Said.{Statement}
 use Rattle.poets_session.specs.Places.{Misplaced, TooMany}
 use Rattle.poets_session.specs.declared.counting.PlaceFault.{PlaceFault}
 use Rattle.poets_session.specs.declared.counting.PlaceFault.TheVariants as P

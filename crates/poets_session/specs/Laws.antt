@@ -3,7 +3,7 @@ use Rattle.std.specs.Prelude.{◌≡◌, ℕ, true, false, List, [], ◌∷◌, 
 use Rattle.poets_value.specs.declared.value.Name.{Name}
 use Rattle.poets_lex.specs.Table.{Table, IsTable}
 use Rattle.poets_lex.specs.declared.token.Tok.{Tok}
-use Rattle.poets_call.specs.Said.{Statement}
+use Rattle.poets_command.specs.Said.{Statement}
 use Rattle.poets_grammar.specs.Statements.{IsStatement}
 use Rattle.poets_session.specs.Places.{Misplaced, part_after, is_misplaced, lacks_journal, place_fault}
 use Rattle.poets_session.specs.Shapes.{HasShape, Begins, GoesWrongAt}

@@ -13,9 +13,9 @@ use Rattle.poets_guard.specs.FirstCycle.{IsFirstCycle}
 use Rattle.poets_grammar.specs.Tokens.{toks}
 use Rattle.poets_grammar.specs.Statements.{IsStatement}
 use Rattle.poets_grammar.specs.TooDeep.{IsTooDeep}
-use Rattle.poets_call.specs.Said.{Statement, Template}
-use Rattle.poets_call.specs.Declarations.{book_from}
-use Rattle.poets_call.specs.TypedStatements.{first_fault}
+use Rattle.poets_command.specs.Said.{Statement, Template}
+use Rattle.poets_command.specs.Declarations.{book_from}
+use Rattle.poets_command.specs.TypedStatements.{first_fault}
 use Rattle.poets_session.specs.Pieces.{Piece, pieces_of}
 use Rattle.poets_session.specs.Places.{PlaceFault, place_fault}
 use Rattle.poets_session.specs.Sessions.{Text, IsStatementPiece, IsReadAs}

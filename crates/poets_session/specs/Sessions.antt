@@ -12,14 +12,14 @@ use Rattle.poets_grammar.specs.Tokens.{toks}
 use Rattle.poets_grammar.specs.Statements.{IsStatement}
 use Rattle.poets_grammar.specs.TooDeep.{IsTooDeep}
 use Rattle.poets_syntax.specs.Book.{book_of}
-use Rattle.poets_syntax.specs.Guarded.{IsGuarded}
+use Rattle.poets_meaning.specs.Guarded.{IsGuarded}
 use Rattle.poets_report.specs.Reports.{report_of}
-use Rattle.poets_call.specs.Calls.{Call, command_of}
-use Rattle.poets_call.specs.declared.call.Command.{Command as CodeCommand}
-use Rattle.poets_call.specs.Said.{Statement, Clerk, Command, Numbered}
-use Rattle.poets_call.specs.Declarations.{book_from, reports_of}
-use Rattle.poets_call.specs.TypedStatements.{first_fault}
-use Rattle.poets_call.specs.Plain as plain
+use Rattle.poets_command.specs.Calls.{Call, command_of}
+use Rattle.poets_command.specs.declared.call.Command.{Command as CodeCommand}
+use Rattle.poets_command.specs.Said.{Statement, Clerk, Command, Numbered}
+use Rattle.poets_command.specs.Declarations.{book_from, reports_of}
+use Rattle.poets_command.specs.TypedStatements.{first_fault}
+use Rattle.poets_command.specs.Plain as plain
 use Rattle.poets_session.specs.Pieces.{Piece, pieces_of}
 use Rattle.poets_session.specs.Places.{place_fault}
 use Rattle.poets_session.specs.declared.form.Form.{Form}

@@ -1,9 +1,9 @@
 -- The shape of a session: its book, and what its form has after it.
 use Rattle.std.specs.Prelude.{◌≡◌, ℕ, suc, Bool, true, false, List, [], ◌∷◌, ◌++◌, length, map, All, IsTrue}
 use Rattle.std.specs.List.{flat_map}
-use Rattle.poets_call.specs.Calls.{Call}
-use Rattle.poets_call.specs.Plain as plain
-use Rattle.poets_call.specs.Said.{Statement, Agents, Kinds, Template, Report, Clerk, Journal, Command, Numbered}
+use Rattle.poets_command.specs.Calls.{Call}
+use Rattle.poets_command.specs.Plain as plain
+use Rattle.poets_command.specs.Said.{Statement, Agents, Kinds, Template, Report, Clerk, Journal, Command, Numbered}
 use Rattle.poets_session.specs.declared.form.Form.{Form}
 use Rattle.poets_session.specs.declared.form.Form.TheVariants as F
 

@@ -9,12 +9,12 @@ use Rattle.poets_syntax.specs.declared.term.Param.{Param}
 use Rattle.poets_syntax.specs.Contract.{Contract}
 use Rattle.poets_syntax.specs.Whole.{IsWholeContract}
 use Rattle.poets_syntax.specs.Plain.{TypeCause, Twice, Unknown, WrongCount, WrongType}
-use Rattle.poets_call.specs.Said.{Statement, Agents, Kinds, Template, Report, Clerk, Journal, Command, Numbered}
+use Rattle.poets_command.specs.Said.{Statement, Agents, Kinds, Template, Report, Clerk, Journal, Command, Numbered}
 use Rattle.poets_lex.specs.Table.{Table}
 use Rattle.poets_lex.specs.declared.token.Tok.{Tok}
 use Rattle.poets_lex.specs.declared.token.Tok.TheVariants as K
-use Rattle.poets_call.specs.Taken.{IsWholeCommand}
-use Rattle.poets_call.specs.Plain as plain
+use Rattle.poets_command.specs.Taken.{IsWholeCommand}
+use Rattle.poets_command.specs.Plain as plain
 use Rattle.poets_print.specs.Laws.{IsListed, CanWrite, CanWriteContract, CanWriteCommand}
 use Rattle.poets_session.specs.Refusals.{Refusal, Mistyped, Unguarded}
 use Rattle.poets_session.specs.Causes.{refusal_of}

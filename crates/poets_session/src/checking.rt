@@ -2,10 +2,10 @@
 ghost use Rattle.std.specs.Prelude.{◌≡◌, None, IfSome, IfNone, IfOk, IfErr};
 ghost use Rattle.poets_syntax.specs.Book.{book_of};
 ghost use Rattle.poets_syntax.specs.Checked.{IsChecked};
-ghost use Rattle.poets_syntax.specs.Guarded.{IsGuarded};
-ghost use Rattle.poets_call.specs.Statements.{statement_of, statements_of};
-ghost use Rattle.poets_call.specs.Declarations.{book_from};
-ghost use Rattle.poets_call.specs.TypedStatements.{first_fault};
+ghost use Rattle.poets_meaning.specs.Guarded.{IsGuarded};
+ghost use Rattle.poets_command.specs.Statements.{statement_of, statements_of};
+ghost use Rattle.poets_command.specs.Declarations.{book_from};
+ghost use Rattle.poets_command.specs.TypedStatements.{first_fault};
 ghost use Rattle.poets_types.specs.Verdicts.{HasReportsOf};
 ghost use Rattle.poets_session.specs.code.Checking.{NoneDeclares, TellsTypes, IsGuardRefusal};
 ghost use Rattle.poets_session.specs.code.Checking as checking;
@@ -13,9 +13,10 @@ ghost use Rattle.poets_session.specs.Refusals.{IsTemplateAt};
 ghost use Rattle.poets_session.specs.Causes.{IsCauseOf, type_cause};
 
 use crate::SessionCause;
-use poets_call::Statement;
+use poets_command::Statement;
 use poets_guard::{GuardFault, study};
-use poets_syntax::{Book, Studied};
+use poets_meaning::Studied;
+use poets_syntax::Book;
 use poets_types::{Checked, TypeCause, TypeFault, check_book};
 use poets_value::Name;
 use std::alloc::Global;

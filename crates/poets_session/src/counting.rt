@@ -1,13 +1,13 @@
 //! Whether each statement may stand in its place, and whether there are too many.
 ghost use Rattle.std.specs.Prelude.{◌≡◌, None, Some, IfErr, OnOk, IfSome};
-ghost use Rattle.poets_call.specs.Statements.{statement_of, statements_of};
+ghost use Rattle.poets_command.specs.Statements.{statement_of, statements_of};
 ghost use Rattle.poets_session.specs.Places.{place_fault};
 ghost use Rattle.poets_session.specs.Places as places;
 ghost use Rattle.poets_session.specs.code.Counting.{part_of, IsNextPart, IsPlaceFault, AreFew, CountsMore, FewIfSome};
 ghost use Rattle.poets_session.specs.code.Counting.{ManyIfNone};
 
 use crate::Form;
-use poets_call::Statement;
+use poets_command::Statement;
 use poets_value::MOST_CLERKS;
 
 const MOST_TEMPLATES: u64 = 256;

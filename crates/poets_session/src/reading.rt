@@ -1,7 +1,7 @@
 //! Reading a text as a session.
 ghost use Rattle.std.specs.Prelude.{◌≡◌, ◌≤◌, length, [], IfOk, IfErr};
 ghost use Rattle.poets_value.specs.Limits.{longest_text};
-ghost use Rattle.poets_call.specs.Statements.{statements_of};
+ghost use Rattle.poets_command.specs.Statements.{statements_of};
 ghost use Rattle.poets_session.specs.Sessions.{IsReadAs, HoldsText};
 ghost use Rattle.poets_session.specs.Refusals.{IsUnreadable};
 ghost use Rattle.poets_session.specs.Causes.{IsFirstFault, IsCauseOf};
@@ -9,7 +9,7 @@ ghost use Rattle.poets_session.specs.Causes.{IsFirstFault, IsCauseOf};
 use crate::splitting::statements;
 use crate::validity::session_of;
 use crate::{Form, Session, SessionCause, SessionFault};
-use poets_call::Statement;
+use poets_command::Statement;
 use poets_lex::{Names, tokens};
 use poets_value::List;
 use std::alloc::Global;

@@ -1,10 +1,10 @@
 //! The commands of a session: the scripts of its clerks, and the calls of its journal.
 ghost use Rattle.std.specs.Prelude.{◌≡◌, IfOk, All};
-ghost use Rattle.poets_call.specs.Statements.{statement_of, statements_of};
+ghost use Rattle.poets_command.specs.Statements.{statement_of, statements_of};
 ghost use Rattle.poets_session.specs.code.Scripts.{HasShortNumber, HasScripts, HasJournal, AddsToScripts};
 ghost use Rattle.poets_session.specs.code.Scripts.{AddsToJournal, command_statement};
 
-use poets_call::{Command, Statement};
+use poets_command::{Command, Statement};
 use poets_value::{List, Memory, push};
 use std::alloc::Global;
 use std::sync::Arc;

@@ -1,7 +1,8 @@
 //! What a session says.
 
-use poets_call::{Command, Rules};
+use poets_command::Command;
 use poets_lex::Names;
+use poets_rules::Rules;
 use poets_value::List;
 use std::sync::Arc;
 

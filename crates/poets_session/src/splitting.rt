@@ -9,7 +9,7 @@ ghost use Rattle.poets_session.specs.code.Splitting.{piece, Says, Say, AreCutInt
 ghost use Rattle.poets_session.specs.code.Splitting.{TellsUnended};
 
 use crate::SessionCause;
-use poets_call::Statement;
+use poets_command::Statement;
 use poets_lex::{Sign, Tok, Token};
 use poets_parse::{SyntaxFault, is_too_deep, statement};
 use poets_value::{List, push};

@@ -1,6 +1,6 @@
 //! Statements as a session.
 ghost use Rattle.std.specs.Prelude.{◌≡◌, IfOk, OnOk, IfErr};
-ghost use Rattle.poets_call.specs.Statements.{statements_of};
+ghost use Rattle.poets_command.specs.Statements.{statements_of};
 ghost use Rattle.poets_session.specs.Sessions.{AreValid, Represents};
 ghost use Rattle.poets_session.specs.Refusals.{AreRefused};
 ghost use Rattle.poets_session.specs.Causes.{IsCauseOf, IsFirstFaultOf};
@@ -10,8 +10,9 @@ use crate::checking::{check_types, study_book};
 use crate::counting::check_places;
 use crate::scripts::{Calls, calls_in};
 use crate::{Form, Session, SessionCause, SessionFault};
-use poets_call::{Rules, Statement};
+use poets_command::Statement;
 use poets_lex::Names;
+use poets_rules::Rules;
 use poets_types::Checked;
 use poets_value::List;
 use std::alloc::Global;

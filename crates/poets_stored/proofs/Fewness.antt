@@ -4,8 +4,8 @@ use Rattle.std.specs.Prelude.{if◌then◌else◌, count_by, sum_by, cond}
 use Rattle.std.proofs.lemmas.Bool.Decides.{nat_tests}
 use Rattle.std.proofs.lemmas.List.Sums.{sum_by-append, sum_by-cons}
 use Rattle.poets_value.specs.Limits.{most_clerks}
-use Rattle.poets_call.specs.Plain as plain
-use Rattle.poets_call.specs.Said.{Statement, Clerk, Command, Numbered}
+use Rattle.poets_command.specs.Plain as plain
+use Rattle.poets_command.specs.Said.{Statement, Clerk, Command, Numbered}
 use Rattle.poets_session.specs.declared.form.Form.{Form}
 use Rattle.poets_session.specs.Places.{PlaceFault, is_clerk, is_command, is_misplaced, is_too_many, most_commands, place_fault, place_fault_after}
 use Rattle.poets_session.specs.Sessions.{scripts_of}

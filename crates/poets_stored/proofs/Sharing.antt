@@ -6,8 +6,8 @@ use Rattle.std.proofs.lemmas.Bool.Decides.{nat_tests}
 use Rattle.std.proofs.lemmas.List.Elements.{All-head, All-tail, All-weaker}
 use Rattle.std.proofs.lemmas.List.Sums.{sum_by-append, sum_by-cons, sum_by-le}
 use mathlib.Core.List.{IsPrefix}
-use Rattle.poets_call.specs.Calls.{Call, own_calls}
-use Rattle.poets_call.specs.Plain.{Command}
+use Rattle.poets_command.specs.Calls.{Call, own_calls}
+use Rattle.poets_command.specs.Plain.{Command}
 
 -- the call's clerk is one of so many
 abbrev pub IsOfClerk : ℕ → Call → Type 0

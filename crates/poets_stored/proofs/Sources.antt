@@ -13,8 +13,8 @@ use Rattle.poets_lex.proofs.Standing.{standing}
 use Rattle.poets_grammar.specs.Tokens.{toks}
 use Rattle.poets_grammar.specs.TooDeep.{IsTooDeep}
 use Rattle.poets_grammar.specs.Statements.{IsCommand, IsStatement}
-use Rattle.poets_call.specs.Plain.{Command}
-use Rattle.poets_call.specs.Said as said
+use Rattle.poets_command.specs.Plain.{Command}
+use Rattle.poets_command.specs.Said as said
 use Rattle.poets_print.specs.Lines.{command_text}
 use Rattle.poets_printed.proofs.ShortCommands.{short_command}
 use Rattle.poets_session.specs.Pieces.{Piece, is_end, with_token, pieces_of}

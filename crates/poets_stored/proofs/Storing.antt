@@ -15,10 +15,10 @@ use Rattle.std.proofs.lemmas.Option.{get_or_from_slice_get, slice_get_within}
 use Rattle.poets_value.specs.Listed.{Listed}
 use Rattle.poets_value.specs.Limits.{longest_text}
 use Rattle.poets_lex.specs.Table.{Table, IsTable}
-use Rattle.poets_call.specs.Calls.{Call, command_of}
-use Rattle.poets_call.specs.Plain.{Command}
-use Rattle.poets_call.specs.Said.{Statement}
-use Rattle.poets_call.specs.declared.call.Command.{Command as CodeCommand}
+use Rattle.poets_command.specs.Calls.{Call, command_of}
+use Rattle.poets_command.specs.Plain.{Command}
+use Rattle.poets_command.specs.Said.{Statement}
+use Rattle.poets_command.specs.declared.call.Command.{Command as CodeCommand}
 use Rattle.poets_print.specs.Lines.{command_text}
 use Rattle.poets_printed.specs.Numbered.{numbered_text}
 use Rattle.poets_printed.proofs.Numbered.{numbered_reads_back}

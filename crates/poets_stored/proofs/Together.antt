@@ -7,9 +7,9 @@ use Rattle.std.proofs.lemmas.List.Sums.{sum_by-cons}
 use mathlib.Core.List.{IsPrefix}
 use Rattle.poets_value.specs.Limits.{longest_text}
 use Rattle.poets_lex.specs.Table.{Table}
-use Rattle.poets_call.specs.Calls.{Call, own_calls}
-use Rattle.poets_call.specs.Plain.{Command}
-use Rattle.poets_call.specs.Said.{Statement}
+use Rattle.poets_command.specs.Calls.{Call, own_calls}
+use Rattle.poets_command.specs.Plain.{Command}
+use Rattle.poets_command.specs.Said.{Statement}
 use Rattle.poets_printed.specs.Numbered.{numbered_text}
 use Rattle.poets_session.specs.declared.form.Form.{Form}
 use Rattle.poets_session.specs.Sessions.{Text, IsSession, scripts_of}

@@ -6,10 +6,10 @@ use Rattle.std.specs.declared.sync.Arc.{Arc}
 use Rattle.poets_value.specs.Limits.{longest_text}
 use Rattle.poets_value.specs.Listed.{Listed}
 use Rattle.poets_lex.specs.Table.{Table}
-use Rattle.poets_call.specs.Calls.{Call}
-use Rattle.poets_call.specs.Plain.{Command}
-use Rattle.poets_call.specs.Said.{Statement}
-use Rattle.poets_call.specs.declared.call.Command.{Command as CodeCommand}
+use Rattle.poets_command.specs.Calls.{Call}
+use Rattle.poets_command.specs.Plain.{Command}
+use Rattle.poets_command.specs.Said.{Statement}
+use Rattle.poets_command.specs.declared.call.Command.{Command as CodeCommand}
 use Rattle.poets_printed.specs.Numbered.{numbered_text}
 use Rattle.poets_session.specs.declared.form.Form.{Form}
 use Rattle.poets_session.specs.declared.session.Session.{Session}

@@ -6,10 +6,10 @@ use Rattle.poets_lex.specs.Lexes.{Lexes}
 use Rattle.poets_grammar.specs.Tokens.{toks}
 use Rattle.poets_grammar.specs.Statements.{IsStatement}
 use Rattle.poets_grammar.specs.TooDeep.{IsTooDeepStored}
-use Rattle.poets_call.specs.Calls.{command_of}
-use Rattle.poets_call.specs.Plain.{Command}
-use Rattle.poets_call.specs.Said.{Numbered}
-use Rattle.poets_call.specs.declared.call.Command.{Command as CodeCommand}
+use Rattle.poets_command.specs.Calls.{command_of}
+use Rattle.poets_command.specs.Plain.{Command}
+use Rattle.poets_command.specs.Said.{Numbered}
+use Rattle.poets_command.specs.declared.call.Command.{Command as CodeCommand}
 use Rattle.poets_print.specs.Laws.{CanWriteCommand}
 use Rattle.poets_printed.specs.Numbered.{numbered_text}
 

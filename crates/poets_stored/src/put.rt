@@ -2,7 +2,7 @@
 ghost use Rattle.std.specs.Prelude.{◌≡◌, IfOk};
 ghost use Rattle.poets_stored.specs.Stored.{HasText, stored_text};
 
-use poets_call::Command;
+use poets_command::Command;
 use poets_journal::Put;
 use poets_lex::Names;
 use poets_print::command_text;

@@ -13,7 +13,7 @@ use Rattle.poets_syntax.specs.declared.term.Param.{Param}
 use Rattle.poets_syntax.specs.Book.{parameter_env}
 use Rattle.poets_syntax.specs.Replace.{binds, without, env_of, AreDeclared}
 use Rattle.poets_syntax.specs.WellFormed.{HaveDeclaredLiterals, IsDeclaredEvent}
-use Rattle.poets_syntax.specs.Residual.{event_givens, argument_givens}
+use Rattle.poets_syntax.specs.Givens.{event_givens, argument_givens}
 use Rattle.poets_syntax.proofs.Replacing.{truth}
 
 -- agents and kinds among the values, also those within resources, are declared as such

@@ -1,21 +1,14 @@
--- A contract whose names were replaced says what it says under their values.
-use Rattle.std.proofs.Common.{◌≡◌, suc, Bool, true, false, ◌||◌, List, [], ◌∷◌, length, map, refl, sym, ◌∙◌, ap, ap₂, Option, Some, None, inl, inr, if◌then◌else◌}
+-- What replacing names does to names and their values.
+use Rattle.std.proofs.Common.{◌≡◌, suc, Bool, true, false, ◌||◌, List, [], ◌∷◌, length, map, refl, sym, ◌∙◌, ap, None, inl, inr, if◌then◌else◌}
 use Rattle.poets_value.specs.declared.value.Name.{Name}
-use Rattle.poets_value.specs.declared.value.Value.TheVariants as V
-use Rattle.poets_value.specs.declared.value.Ty.{Ty}
-use Rattle.poets_value.specs.declared.value.Value.{Value}
 use Rattle.poets_expr.specs.Expression.{Expression}
 use Rattle.poets_expr.specs.Env.{Declared, Env, same_name, value_in}
-use Rattle.poets_expr.specs.Val.{val}
-use Rattle.poets_expr.specs.Subst.{Givens, subst, replaced, literal_of, IsDeclared}
-use Rattle.poets_expr.proofs.ValSubst.{Agrees, val-subst}
+use Rattle.poets_expr.specs.Subst.{Givens, subst, replaced}
 pub use Rattle.poets_expr.proofs.ValSubst.{Agrees-pairs, truth_of as truth}
 use Rattle.poets_expr.proofs.SameTrees.{name_one}
 use Rattle.poets_syntax.specs.declared.term.Binders.{Binders}
-use Rattle.poets_syntax.specs.Contract.{Contract}
 use Rattle.poets_syntax.specs.Book.{BinderValues, bound}
-use Rattle.poets_syntax.specs.Replace.{binds, without, replace, AreUndeclared, BindersAreUndeclared, AreDeclared}
-use Rattle.poets_syntax.proofs.Saying.{SaysSame}
+use Rattle.poets_syntax.specs.Replace.{binds, without, AreUndeclared}
 
 -- one of four tests, or what comes after
 unfoldable pub first_of_four : {A : Type 0} → Bool → Bool → Bool → Bool → A → A → A → A → A → A
@@ -65,17 +58,6 @@ declared_free declared b x f h = go (same_name b.day x) (same_name b.what x) (sa
     go false false true _ i j k l = absurd (k refl)
     go false false false true i j k l = absurd (l refl)
 
--- the literal of a value that stands has that value also below binders
-literal-bound : (declared : Declared) (b : Binders) (v : BinderValues) (env : Env) → AreUndeclared declared b → (o : Option Value) (t : Ty) → IsDeclared declared o →
-    val declared (bound b v env) (literal_of o t) ≡ val declared env (literal_of o t)
-literal-bound declared b v env f None t h = refl
-literal-bound declared b v env f (Some (V.Int n)) t h = refl
-literal-bound declared b v env f (Some (V.Bool n)) t h = refl
-literal-bound declared b v env f (Some (V.Agent x)) t h = bound-free declared b v env x (declared_free declared b x f (λ e. cc))
-literal-bound declared b v env f (Some (V.Kind x)) t h = bound-free declared b v env x (declared_free declared b x f (λ e. cc))
-literal-bound declared b v env f (Some (V.Resource r)) t h = refl
-literal-bound declared b v env f (Some (V.Day d)) t h = refl
-
 -- below binders a name is replaced as outside, unless it is bound
 pub replaced-free : (b : Binders) (given : Givens) (x : Name) → binds b x ≡ false → replaced (without b given) x ≡ replaced given x
 replaced-free b [] x h = refl
@@ -95,53 +77,6 @@ replaced-bound b (p ∷ given) x h =
       | inr e ↦ elim (truth (binds b p.0)) [ inl k ↦ rw k rest | inr k ↦ rw (k, e) rest ]
     ]
 
--- what a name is replaced by has its value also below binders
-replaced-value : (declared : Declared) (b : Binders) (v : BinderValues) (env : Env) → AreUndeclared declared b → (given : Givens) → AreDeclared declared given →
-    (x : Name) → binds b x ≡ false → val declared (bound b v env) (replaced given x) ≡ val declared env (replaced given x)
-replaced-value declared b v env f [] h x k = bound-free declared b v env x k
-replaced-value declared b v env f (p ∷ given) h x k =
-    let rest = replaced-value declared b v env f given h.1 x k in
-    let here = literal-bound declared b v env f p.1.value p.1.ty h.0 in
-    elim (truth (same_name p.0 x)) [ inl e ↦ rw e here | inr e ↦ rw e rest ]
-
--- names keep their values below binders
-Agrees-bound : (declared : Declared) (b : Binders) (v : BinderValues) (env : Env) (given : Givens) (env' : Env) → AreUndeclared declared b → AreDeclared declared given →
-    Agrees declared env given env' → Agrees declared (bound b v env) (without b given) (bound b v env')
-Agrees-bound declared b v env given env' f h agrees x = elim (truth (binds b x)) [
-  | inl k ↦ rw (replaced-bound b given x k) (bound-same declared b v env env' x k)
-  | inr k ↦ rw (replaced-free b given x k) (replaced-value declared b v env f given h x k ∙ agrees x ∙ sym (bound-free declared b v env' x k))
-]
-
-AreDeclared-without : (declared : Declared) (b : Binders) (given : Givens) → AreDeclared declared given → AreDeclared declared (without b given)
-AreDeclared-without declared b [] h = tt
-AreDeclared-without declared b (p ∷ given) h =
-    let rest = AreDeclared-without declared b given h.1 in
-    elim (truth (binds b p.0)) [ inl k ↦ rw k rest | inr k ↦ rw k (h.0, rest) ]
-
-args-alike : (declared : Declared) (env : Env) (given : Givens) (env' : Env) → Agrees declared env given env' →
-    (args : List Expression) → map (val declared env) (map (subst given) args) ≡ map (val declared env') args
-args-alike declared env given env' h [] = refl
-args-alike declared env given env' h (a ∷ args) =
-    ap₂ (λ x xs. x ∷ xs) (val-subst declared env given env' h a) (args-alike declared env given env' h args)
-
 pub args_count : (given : Givens) (args : List Expression) → length (map (subst given) args) ≡ length args
 args_count given [] = refl
 args_count given (a ∷ args) = ap suc (args_count given args)
-
--- where names agree, the replaced contract says what the contract says
-pub SaysSame-replace : (declared : Declared) (c : Contract) (env : Env) (given : Givens) (env' : Env) → BindersAreUndeclared declared c → AreDeclared declared given →
-    Agrees declared env given env' → SaysSame declared env (replace given c) env' c
-SaysSame-replace declared Contract.Success env given env' f h agrees = SaysSame.Success
-SaysSame-replace declared Contract.Failure env given env' f h agrees = SaysSame.Failure
-SaysSame-replace declared (Contract.Transmit b p c) env given env' f h agrees = SaysSame.Transmit
-    (λ v. val-subst declared (bound b v env) (without b given) (bound b v env') (Agrees-bound declared b v env given env' f.0 h agrees) p)
-    (λ v. SaysSame-replace declared c (bound b v env) (without b given) (bound b v env') f.1 (AreDeclared-without declared b given h)
-    (Agrees-bound declared b v env given env' f.0 h agrees))
-SaysSame-replace declared (Contract.Plus c d) env given env' f h agrees =
-    SaysSame.Plus (SaysSame-replace declared c env given env' f.0 h agrees) (SaysSame-replace declared d env given env' f.1 h agrees)
-SaysSame-replace declared (Contract.Par c d) env given env' f h agrees =
-    SaysSame.Par (SaysSame-replace declared c env given env' f.0 h agrees) (SaysSame-replace declared d env given env' f.1 h agrees)
-SaysSame-replace declared (Contract.Seq c d) env given env' f h agrees =
-    SaysSame.Seq (SaysSame-replace declared c env given env' f.0 h agrees) (SaysSame-replace declared d env given env' f.1 h agrees)
-SaysSame-replace declared (Contract.App g args) env given env' f h agrees =
-    SaysSame.App (args_count given args) (args-alike declared env given env' agrees args)

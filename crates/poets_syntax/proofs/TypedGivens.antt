@@ -19,7 +19,7 @@ use Rattle.poets_syntax.specs.Plain.{Book, Template, Twice}
 use Rattle.poets_syntax.specs.Book.{template_in}
 use Rattle.poets_syntax.specs.Replace.{replace}
 use Rattle.poets_syntax.specs.WellFormed.{IsDeclaredEvent}
-use Rattle.poets_syntax.specs.Residual.{event_givens, argument_givens}
+use Rattle.poets_syntax.specs.Givens.{event_givens, argument_givens}
 use Rattle.poets_syntax.specs.TypeOf.{Verdict, Passes, Fails, Scope, type_in, name_type}
 use Rattle.poets_syntax.specs.Typed.{is_among, in_use, check_new, scope_of, check_type, check_args, check_application}
 use Rattle.poets_syntax.specs.code.Passing.{HasType, ContractPasses, BookPasses}

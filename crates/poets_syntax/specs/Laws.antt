@@ -1,78 +1,22 @@
--- The laws of performing, of granted steps, and of replacing names, as statements.
-use Rattle.std.specs.Prelude.{◌≡◌, ℕ, ◌+◌, true, List, [], ◌++◌, length, ◌↔◌}
+-- What is known of typed, well-formed and whole contracts, as statements.
+use Rattle.std.specs.Prelude.{List}
 use Rattle.poets_value.specs.declared.value.Name.{Name}
-use Rattle.poets_value.specs.declared.event.Event.{Event}
-use Rattle.poets_expr.specs.Env.{Declared, Env}
+use Rattle.poets_expr.specs.Env.{Declared}
 use Rattle.poets_expr.specs.Subst.{Givens}
-use Rattle.poets_expr.specs.Fold.{KeepsDeclared}
 use Rattle.poets_expr.specs.Whole.{AreWholeGivens}
 use Rattle.poets_syntax.specs.Contract.{Contract}
 use Rattle.poets_syntax.specs.Plain.{Book}
-use Rattle.poets_syntax.specs.Perf.{Perf}
-use Rattle.poets_syntax.specs.May.{May}
-use Rattle.poets_syntax.specs.Shape.{SameShape}
 use Rattle.poets_syntax.specs.Whole.{IsWholeContract}
-use Rattle.poets_syntax.specs.Applied.{ApplicationsFit}
-use Rattle.poets_syntax.specs.Replace.{replace, env_of, AreDeclared, BindersAreUndeclared}
-use Rattle.poets_syntax.specs.Marks.{Marks, AreRight, Nullable, Hopeful, nullable}
+use Rattle.poets_syntax.specs.Replace.{replace, BindersAreUndeclared}
 use Rattle.poets_syntax.specs.TypeOf.{Scope}
-use Rattle.poets_syntax.specs.Typing.{IsTyped}
+use Rattle.poets_syntax.specs.Typing.{IsTyped, IsTypedBook}
 use Rattle.poets_syntax.specs.WellFormed.{IsWellFormed}
-
--- with no granted step, to be performed perhaps is to be performed
-abbrev pub NothingGranted : Type 0
-NothingGranted = (book : Book) (env : Env) (c : Contract) (s : List Event) → May book env c s 0 ↔ Perf book env c s
-
--- of a trace that performs a contract the last events may be granted steps
-abbrev pub RestGranted : Type 0
-RestGranted = (book : Book) (env : Env) (c : Contract) (s rest : List Event) →
-    Perf book env c (s ++ rest) → May book env c s (length rest)
-
--- what a trace and then granted steps may perform, as many granted steps as both together may perform
-abbrev pub AllGranted : Type 0
-AllGranted = (book : Book) (env : Env) (c : Contract) (s : List Event) (n : ℕ) →
-    May book env c s n → May book env c [] (length s + n)
-
--- what granted steps alone perform depends on no environment
-abbrev pub GrantedAnywhere : Type 0
-GrantedAnywhere = (book : Book) (env env' : Env) (c : Contract) (n : ℕ) → May book env c [] n → May book env' c [] n
-
--- what granted steps alone perform depends on the shape of the contract alone
-abbrev pub GrantedByShape : Type 0
-GrantedByShape = (book : Book) (env env' : Env) (c c' : Contract) (n : ℕ) →
-    SameShape c c' → May book env c [] n ↔ May book env' c' [] n
-
--- whether the empty trace performs a contract depends on its shape alone
-abbrev pub NullableByShape : Type 0
-NullableByShape = (book : Book) (c c' : Contract) → SameShape c c' → Nullable book c ↔ Nullable book c'
-
--- whether some number of granted steps performs a contract depends on its shape alone
-abbrev pub HopefulByShape : Type 0
-HopefulByShape = (book : Book) (c c' : Contract) → SameShape c c' → Hopeful book c ↔ Hopeful book c'
-
--- right marks tell whether the empty trace performs a contract
-abbrev pub NullableByMarks : Type 0
-NullableByMarks = (book : Book) (marks : Marks) (c : Contract) →
-    AreRight book marks → ApplicationsFit book c → (nullable marks c ≡ true) ↔ Nullable book c
+use Rattle.poets_syntax.specs.Applied.{ApplicationsFit, BodiesFit, CountsFit}
 
 -- a well-formed contract binds no declared name
 abbrev pub WellFormedBindsUndeclared : Type 0
 WellFormedBindsUndeclared =
     (declared : Declared) (c : Contract) → IsWellFormed declared c → BindersAreUndeclared declared c
-
--- a contract with its names replaced may be performed as the contract may be where the names have the values that they
--- are replaced by
-abbrev pub ReplacedAlike : Type 0
-ReplacedAlike = (book : Book) (given : Givens) (env : Env) (c : Contract) (s : List Event) (n : ℕ) →
-    AreDeclared book.declared given → KeepsDeclared book.declared env → BindersAreUndeclared book.declared c →
-    May book env (replace given c) s n ↔ May book (env_of given ++ env) c s n
-
--- a contract with its names replaced is performed as the contract is where the names have the values that they are
--- replaced by
-abbrev pub ReplacedPerformed : Type 0
-ReplacedPerformed = (book : Book) (given : Givens) (env : Env) (c : Contract) (s : List Event) →
-    AreDeclared book.declared given → KeepsDeclared book.declared env → BindersAreUndeclared book.declared c →
-    Perf book env (replace given c) s ↔ Perf book (env_of given ++ env) c s
 
 -- a whole contract stays whole where names are replaced by whole values
 abbrev pub ReplacedIsWhole : Type 0
@@ -83,3 +27,21 @@ ReplacedIsWhole =
 abbrev pub TypedIsWellFormed : Type 0
 TypedIsWellFormed = (book : Book) (reports : List Name) (scope : Scope) (c : Contract) →
     IsTyped book reports scope c → IsWellFormed book.declared c
+
+-- each application in a typed contract is of a template with as many parameters
+abbrev pub TypedApplicationsFit : Type 0
+TypedApplicationsFit = (book : Book) (reports : List Name) (scope : Scope) (c : Contract) →
+    IsTyped book reports scope c → ApplicationsFit book c
+
+-- each application in the bodies of a typed book is of a template with as many parameters
+abbrev pub TypedBodiesFit : Type 0
+TypedBodiesFit = (book : Book) (reports : List Name) → IsTypedBook book reports → BodiesFit book
+
+-- where a typed contract applies a template, it is to as many arguments as the template has parameters
+abbrev pub TypedCountsFit : Type 0
+TypedCountsFit = (book : Book) (reports : List Name) (scope : Scope) (c : Contract) →
+    IsTyped book reports scope c → CountsFit book c
+
+-- where each application is of a template with as many parameters, the numbers of arguments fit
+abbrev pub CountsFitWhereKnown : Type 0
+CountsFitWhereKnown = (book : Book) (c : Contract) → ApplicationsFit book c → CountsFit book c

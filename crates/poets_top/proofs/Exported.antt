@@ -22,13 +22,13 @@ use Rattle.poets_report.specs.Reports.{report_of}
 use Rattle.poets_report.specs.declared.report.Report.{Report}
 use Rattle.poets_value.specs.Listed.{Listed}
 use Rattle.poets_lex.specs.Table.{Table}
-use Rattle.poets_call.specs.Declarations.{book_from, reports_of}
-use Rattle.poets_call.specs.Calls.{history_of}
-use Rattle.poets_call.specs.Plain.{Entry}
-use Rattle.poets_call.specs.declared.call.Entry as code
-use Rattle.poets_call.specs.Rules as R
-use Rattle.poets_call.specs.Said.{Statement}
-use Rattle.poets_call.specs.declared.rules.Rules.{Rules}
+use Rattle.poets_command.specs.Declarations.{book_from, reports_of}
+use Rattle.poets_command.specs.Calls.{history_of}
+use Rattle.poets_command.specs.Plain.{Entry}
+use Rattle.poets_command.specs.declared.call.Entry as code
+use Rattle.poets_command.specs.Said.{Statement}
+use Rattle.poets_rules.specs.Rules as R
+use Rattle.poets_rules.specs.declared.rules.Rules.{Rules}
 use Rattle.poets_json.specs.Document.{document_bytes}
 use Rattle.poets_json.specs.Plain.{exported_with}
 use Rattle.poets_top.specs.Exporting.{AreDeclared, IsDocumentLine}

@@ -4,15 +4,15 @@ use Rattle.std.specs.Prelude.{slice_get}
 use Rattle.std.specs.List.{All}
 use Rattle.std.proofs.lemmas.Bool.{eq-eqb, ne_eqb}
 use Rattle.std.proofs.lemmas.List.Elements.{All-head, All-tail, All-map, All-weaker}
-use Rattle.poets_call.specs.Plain.{Command, Entry}
-use Rattle.poets_call.specs.Calls.{Call, calls_of, own_calls}
-use Rattle.poets_call.specs.Declarations.{book_from, reports_of}
-use Rattle.poets_call.specs.declared.rules.Rules.{Rules}
-use Rattle.poets_call.specs.Histories.{IsRightHistory}
-use Rattle.poets_call.specs.Rules as R
-use Rattle.poets_call.specs.Said.{Statement}
-use Rattle.poets_call.proofs.Histories.{one_history}
-use Rattle.poets_call.proofs.OneFrames.{one_frame}
+use Rattle.poets_command.specs.Plain.{Command, Entry}
+use Rattle.poets_command.specs.Calls.{Call, calls_of, own_calls}
+use Rattle.poets_command.specs.Declarations.{book_from, reports_of}
+use Rattle.poets_command.specs.Said.{Statement}
+use Rattle.poets_rules.specs.declared.rules.Rules.{Rules}
+use Rattle.poets_rules.specs.Rules as R
+use Rattle.poets_history.specs.Histories.{IsRightHistory}
+use Rattle.poets_history.proofs.Histories.{one_history}
+use Rattle.poets_history.proofs.OneFrames.{one_frame}
 use Rattle.poets_session.specs.Sessions.{Represents, scripts_of, commands_in, journal_of}
 use Rattle.poets_session.specs.declared.session.Session.{Session}
 use Rattle.poets_machine.specs.Histories.{own_calls as machine_calls}

@@ -8,24 +8,24 @@ use Rattle.poets_value.specs.declared.value.Name.{Name}
 use Rattle.poets_lex.specs.Table.{Table, place_of}
 use Rattle.poets_syntax.specs.Book.{book_of}
 use Rattle.poets_syntax.specs.Contract.{Contract}
-use Rattle.poets_syntax.specs.Perf.{Perf}
-use Rattle.poets_syntax.specs.Residual.{residual_after}
-use Rattle.poets_syntax.specs.Studied.{StudiedBook, IsStudiedBook, marks_of}
 use Rattle.poets_syntax.specs.WellFormed.{IsDeclaredEvent, IsWellFormed}
 use Rattle.poets_syntax.specs.Applied.{CountsFit}
-use Rattle.poets_syntax.proofs.StudiedMarks.{AreRight-studied}
+use Rattle.poets_meaning.specs.Perf.{Perf}
+use Rattle.poets_meaning.specs.Studied.{StudiedBook, IsStudiedBook, marks_of}
+use Rattle.poets_meaning.proofs.StudiedMarks.{AreRight-studied}
+use Rattle.poets_calculus.specs.Residual.{residual_after}
 use Rattle.poets_residue.proofs.Studies.{IsStudied-book}
 use Rattle.poets_open.specs.Next.{next, step_of}
 use Rattle.poets_open.specs.declared.opening.Step.{Step as OpenStep}
 use Rattle.poets_report.specs.Plain.{Report}
-use Rattle.poets_call.specs.declared.rules.Rules.{Rules}
-use Rattle.poets_call.specs.Declarations.{book_from, reports_of}
-use Rattle.poets_call.specs.Frame.{Frame}
-use Rattle.poets_call.specs.Histories.{InFrame}
-use Rattle.poets_call.specs.Ledger.{Ledger, ledger_of, contract_named, trace}
-use Rattle.poets_call.specs.Plain.{Entry}
-use Rattle.poets_call.specs.Rules as R
-use Rattle.poets_call.specs.Said.{Statement}
+use Rattle.poets_command.specs.Declarations.{book_from, reports_of}
+use Rattle.poets_command.specs.Plain.{Entry}
+use Rattle.poets_command.specs.Said.{Statement}
+use Rattle.poets_rules.specs.declared.rules.Rules.{Rules}
+use Rattle.poets_rules.specs.Rules as R
+use Rattle.poets_history.specs.Frame.{Frame}
+use Rattle.poets_history.specs.Histories.{InFrame}
+use Rattle.poets_history.specs.Ledger.{Ledger, ledger_of, contract_named, trace}
 use Rattle.poets_engine.specs.Accounts.{Accounts, IsFormedAccount}
 use Rattle.poets_engine.specs.declared.accounts.Account.{Account}
 use Rattle.poets_engine.proofs.Owed.{residual_performed}

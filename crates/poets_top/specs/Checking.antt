@@ -1,9 +1,9 @@
 -- The word `check`.
 use Rattle.std.specs.Prelude.{◌≡◌, ℕ, List, [], ◌∷◌, ◌++◌, length, codes}
 use Rattle.std.specs.Fmt.{decimal}
-use Rattle.poets_call.specs.Plain.{Entry}
-use Rattle.poets_call.specs.Said.{Statement}
-use Rattle.poets_call.specs.Declarations.{book_from, reports_of}
+use Rattle.poets_command.specs.Plain.{Entry}
+use Rattle.poets_command.specs.Said.{Statement}
+use Rattle.poets_command.specs.Declarations.{book_from, reports_of}
 
 -- `book: templates 2, reports 1`, and LF (10)
 abbrev pub book_line : (templates reports : ℕ) → List ℕ

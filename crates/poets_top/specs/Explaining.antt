@@ -8,20 +8,20 @@ use Rattle.poets_value.specs.declared.event.Event.{Event}
 use Rattle.poets_io.specs.Streams.{GivesAll}
 use Rattle.poets_lex.specs.Table.{Table, place_of}
 use Rattle.poets_syntax.specs.Contract.{Contract}
-use Rattle.poets_syntax.specs.Perf.{Perf}
 use Rattle.poets_syntax.specs.Plain.{Book}
-use Rattle.poets_syntax.specs.Residual.{residual_after}
+use Rattle.poets_meaning.specs.Perf.{Perf}
+use Rattle.poets_calculus.specs.Residual.{residual_after}
 use Rattle.poets_way.specs.Texts.{way_text}
 use Rattle.poets_way.specs.Way.{Way}
 use Rattle.poets_way.specs.Ways.{Ways}
 use Rattle.poets_open.specs.Next.{Step, next}
-use Rattle.poets_call.specs.Declarations.{book_from, reports_of}
-use Rattle.poets_call.specs.Frame.{Frame}
-use Rattle.poets_call.specs.Histories.{InFrame}
-use Rattle.poets_call.specs.Ledger.{Ledger, ledger_of, trace}
-use Rattle.poets_call.specs.Plain.{Entry}
-use Rattle.poets_call.specs.Replies.{IsNamed, TellsWhetherPerformed}
-use Rattle.poets_call.specs.Said.{Statement}
+use Rattle.poets_command.specs.Declarations.{book_from, reports_of}
+use Rattle.poets_command.specs.Plain.{Entry}
+use Rattle.poets_command.specs.Said.{Statement}
+use Rattle.poets_history.specs.Frame.{Frame}
+use Rattle.poets_history.specs.Histories.{InFrame}
+use Rattle.poets_history.specs.Ledger.{Ledger, ledger_of, trace}
+use Rattle.poets_history.specs.Replies.{IsNamed, TellsWhetherPerformed}
 use Rattle.poets_print.specs.Lines.{yes_text}
 use Rattle.poets_print.specs.Texts.{step_text}
 use Rattle.poets_session.specs.declared.form.Form.TheVariants as F

@@ -1,8 +1,8 @@
 -- The laws of runs, as statements.
 use Rattle.std.specs.Prelude.{◌≡◌, List, [], ◌∷◌}
-use Rattle.poets_call.specs.Plain.{Command, Entry}
-use Rattle.poets_call.specs.Calls.{calls_of}
-use Rattle.poets_call.specs.Said.{Statement}
+use Rattle.poets_command.specs.Plain.{Command, Entry}
+use Rattle.poets_command.specs.Calls.{calls_of}
+use Rattle.poets_command.specs.Said.{Statement}
 use Rattle.poets_session.specs.Sessions.{scripts_of}
 use Rattle.poets_top.specs.Scripts.{under_clerk}
 use Rattle.poets_top.specs.Running.{IsHistoryOf}

@@ -1,8 +1,8 @@
 -- What the program's one call promises.
 use Rattle.std.specs.Prelude.{◌≡◌, ℕ, List, Option, String, map, string_bytes}
 use Rattle.std.specs.declared.alloc.Global.{Global}
-use Rattle.poets_call.specs.Plain.{Entry}
-use Rattle.poets_call.specs.Calls.{history_of}
+use Rattle.poets_command.specs.Plain.{Entry}
+use Rattle.poets_command.specs.Calls.{history_of}
 use Rattle.poets_words.specs.Words.{AskFor, IsCommandForm}
 use Rattle.poets_words.specs.declared.mode.Mode.{Mode}
 use Rattle.poets_words.specs.declared.mode.Mode.TheVariants as M

@@ -1,13 +1,13 @@
 //! The word `demo`: eight clerks make the scripts of a text that is made for them.
 ghost use Rattle.std.specs.Prelude.{◌≤◌, IfOk, string_bytes};
 ghost use Rattle.poets_value.specs.Limits.{most_sales};
-ghost use Rattle.poets_call.specs.Calls.{history_of};
+ghost use Rattle.poets_command.specs.Calls.{history_of};
 ghost use Rattle.poets_top.specs.Demonstrating.{IsDemonstrated, IsDemonstration};
 ghost use Rattle.poets_writing.specs.Outcomes.{Writes};
 ghost use Rattle.poets_writing.specs.Writing.{change};
 
-use poets_call::Entry;
 use poets_clerks::Gate;
+use poets_command::Entry;
 use poets_demo::{demo_line, demo_text};
 use poets_io::Sink;
 use poets_making::make_scripts;

@@ -7,7 +7,7 @@ ghost use Rattle.poets_top.specs.code.Exported.{ExportsAfter};
 ghost use Rattle.poets_top.specs.code.Sessions.{WasRead};
 ghost use Rattle.poets_words.specs.declared.mode.Task.TheVariants as T;
 
-use poets_call::Entry;
+use poets_command::Entry;
 use poets_engine::Engine;
 use poets_io::Sink;
 use poets_json::document_text;

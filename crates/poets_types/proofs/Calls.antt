@@ -9,9 +9,9 @@ use Rattle.poets_report.specs.declared.report.Report.{Report}
 use Rattle.poets_report.specs.Reports.{report_of}
 use Rattle.poets_syntax.specs.Book.{book_of}
 use Rattle.std.specs.Prelude.{map}
-use Rattle.poets_call.specs.Calls.{command_of}
-use Rattle.poets_call.specs.declared.call.Command.{Command}
-use Rattle.poets_call.proofs.TypingRules.{command_typed}
+use Rattle.poets_command.specs.Calls.{command_of}
+use Rattle.poets_command.specs.declared.call.Command.{Command}
+use Rattle.poets_command.proofs.TypingRules.{command_typed}
 use Rattle.poets_types.specs.declared.cause.TypeCause.{TypeCause}
 use Rattle.poets_types.specs.Calls.{AreTypedCalls}
 use Rattle.poets_types.specs.Verdicts.{CommandIsTyped, command_verdict}

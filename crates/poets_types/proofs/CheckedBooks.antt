@@ -19,10 +19,10 @@ use Rattle.poets_syntax.specs.Checked.{IsCheckedBook, names_of_templates_and}
 use Rattle.poets_syntax.specs.TypeOf.{Verdict, Passes, Fails, Scope, type_in}
 use Rattle.poets_syntax.specs.Typed.{is_among, in_use, check_new, check_contract, scope_of}
 use Rattle.poets_syntax.specs.code.Passing.{TemplatePasses}
-use Rattle.poets_call.specs.Said.{Statement, Agents, Kinds, Template, Report, Clerk, Journal, Command, Numbered}
-use Rattle.poets_call.specs.Declarations.{agents_and_kinds, declared_by, template_in_statement, book_from, reports_of}
-use Rattle.poets_call.specs.Plain.{TypeFault}
-use Rattle.poets_call.specs.TypedStatements.{report_names, check_template, check_statement, or_else, twice_from, mistyped_from}
+use Rattle.poets_command.specs.Said.{Statement, Agents, Kinds, Template, Report, Clerk, Journal, Command, Numbered}
+use Rattle.poets_command.specs.Declarations.{agents_and_kinds, declared_by, template_in_statement, book_from, reports_of}
+use Rattle.poets_command.specs.Plain.{TypeFault}
+use Rattle.poets_command.specs.TypedStatements.{report_names, check_template, check_statement, or_else, twice_from, mistyped_from}
 use Rattle.poets_syntax.proofs.TypedGivens.{neither}
 use Rattle.poets_syntax.proofs.Typedness.{passed}
 use Rattle.poets_syntax.proofs.TypingRules.{book_typed}

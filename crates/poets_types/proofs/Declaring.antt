@@ -11,10 +11,10 @@ use Rattle.poets_value.specs.declared.value.Ty.{Ty}
 use Rattle.poets_expr.specs.Env.{Declared, same_name}
 use Rattle.poets_syntax.specs.Plain.{Template, Book}
 use Rattle.poets_syntax.specs.TypeOf.{Scope, type_in}
-use Rattle.poets_call.specs.declared.statement.Statement.{Statement}
-use Rattle.poets_call.specs.Statements.{statement_of, statements_of}
-use Rattle.poets_call.specs.Declarations.{agents_and_kinds, declared_by}
-use Rattle.poets_call.specs.Said as said
+use Rattle.poets_command.specs.declared.statement.Statement.{Statement}
+use Rattle.poets_command.specs.Statements.{statement_of, statements_of}
+use Rattle.poets_command.specs.Declarations.{agents_and_kinds, declared_by}
+use Rattle.poets_command.specs.Said as said
 use Rattle.poets_types.proofs.Scopes.{type_in_append}
 use Rattle.poets_types.proofs.Twice.{statements_more}
 

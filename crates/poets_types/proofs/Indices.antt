@@ -11,7 +11,7 @@ use Rattle.poets_syntax.specs.Typed.{is_among}
 use Rattle.poets_syntax.specs.Plain as plain
 use Rattle.poets_report.specs.declared.report.Report.{Report}
 use Rattle.poets_report.specs.Reports.{report_of}
-use Rattle.poets_call.specs.TypedStatements.{report_names}
+use Rattle.poets_command.specs.TypedStatements.{report_names}
 
 no_template : (b : Bool) (k : ℕ) (t : plain.Template) (o : Option ℕ) (r : Option plain.Template) → cond b (Some k) o ≡ None → (o ≡ None → r ≡ None) → (if b then Some t else r) ≡ None
 no_template true k t o r e h = absurd cc

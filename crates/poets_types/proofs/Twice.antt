@@ -5,12 +5,12 @@ use Rattle.std.proofs.lemmas.List.{take_more, drop_more, map-append}
 use Rattle.poets_value.specs.declared.value.Name.{Name}
 use Rattle.poets_syntax.specs.TypeOf.{Verdict}
 use Rattle.poets_syntax.specs.Typed.{is_among, check_new}
-use Rattle.poets_call.specs.declared.statement.Statement.{Statement}
-use Rattle.poets_call.specs.Statements.{statement_of, statements_of}
-use Rattle.poets_call.specs.Declarations.{names_declared}
-use Rattle.poets_call.specs.Plain.{TypeFault}
-use Rattle.poets_call.specs.TypedStatements.{or_else, twice_from}
-use Rattle.poets_call.specs.Said as said
+use Rattle.poets_command.specs.declared.statement.Statement.{Statement}
+use Rattle.poets_command.specs.Statements.{statement_of, statements_of}
+use Rattle.poets_command.specs.Declarations.{names_declared}
+use Rattle.poets_command.specs.Plain.{TypeFault}
+use Rattle.poets_command.specs.TypedStatements.{or_else, twice_from}
+use Rattle.poets_command.specs.Said as said
 use Rattle.poets_types.specs.declared.cause.TypeCause.{TypeCause}
 use Rattle.poets_types.specs.declared.cause.TypeCause.TheVariants as C
 use Rattle.poets_types.specs.Faults.{IsFaultOf, IsFirstFault}

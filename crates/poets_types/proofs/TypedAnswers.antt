@@ -8,10 +8,10 @@ use Rattle.poets_syntax.specs.Typed.{check_contract}
 use Rattle.poets_syntax.specs.Typing.{IsTyped}
 use Rattle.poets_syntax.proofs.TypingRules.{contract_typed}
 use Rattle.poets_report.specs.Plain.{Report}
-use Rattle.poets_call.specs.Plain.{Command}
-use Rattle.poets_call.specs.TypedStatements.{check_command}
-use Rattle.poets_call.specs.Typing.{IsTypedCommand}
-use Rattle.poets_call.proofs.TypingRules.{command_typed}
+use Rattle.poets_command.specs.Plain.{Command}
+use Rattle.poets_command.specs.TypedStatements.{check_command}
+use Rattle.poets_command.specs.Typing.{IsTypedCommand}
+use Rattle.poets_command.proofs.TypingRules.{command_typed}
 use Rattle.poets_types.specs.declared.cause.TypeCause.{TypeCause}
 use Rattle.poets_types.specs.code.Answers.{answer_of}
 use Rattle.poets_types.proofs.Checks.{passes_from_ok}

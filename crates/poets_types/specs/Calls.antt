@@ -6,8 +6,8 @@ use Rattle.std.specs.declared.sync.Arc.{Arc}
 use Rattle.poets_syntax.specs.declared.term.Book.{Book}
 use Rattle.poets_syntax.specs.TypeOf.{Fails}
 use Rattle.poets_report.specs.declared.report.Report.{Report}
-use Rattle.poets_call.specs.declared.call.Command.{Command}
-use Rattle.poets_call.specs.Plain as plain
+use Rattle.poets_command.specs.declared.call.Command.{Command}
+use Rattle.poets_command.specs.Plain as plain
 use Rattle.poets_types.specs.declared.cause.CallFault.{CallFault}
 use Rattle.poets_types.specs.Faults.{fault_of}
 use Rattle.poets_types.specs.Verdicts.{CommandIsTyped, command_verdict}

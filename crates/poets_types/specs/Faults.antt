@@ -5,7 +5,7 @@ use Rattle.poets_syntax.specs.TypeOf.{Verdict, Fails}
 use Rattle.poets_types.specs.declared.cause.TypeCause.{TypeCause}
 use Rattle.poets_types.specs.declared.cause.TypeCause.TheVariants as C
 use Rattle.poets_types.specs.declared.cause.TypeFault.{TypeFault}
-use Rattle.poets_call.specs.Plain as plain
+use Rattle.poets_command.specs.Plain as plain
 
 -- the fault that a cause tells; want of memory tells none
 abbrev pub fault_of : TypeCause → Option plain.TypeCause

@@ -10,12 +10,12 @@ use Rattle.poets_syntax.specs.Typed.{check_contract}
 use Rattle.poets_syntax.specs.Typing.{IsTyped}
 use Rattle.poets_report.specs.declared.report.Report.{Report}
 use Rattle.poets_report.specs.Reports.{report_of}
-use Rattle.poets_call.specs.declared.call.Command.{Command}
-use Rattle.poets_call.specs.Calls.{command_of}
-use Rattle.poets_call.specs.Declarations.{reports_of}
-use Rattle.poets_call.specs.Said.{Statement}
-use Rattle.poets_call.specs.TypedStatements.{report_names, check_command}
-use Rattle.poets_call.specs.Typing.{IsTypedCommand}
+use Rattle.poets_command.specs.declared.call.Command.{Command}
+use Rattle.poets_command.specs.Calls.{command_of}
+use Rattle.poets_command.specs.Declarations.{reports_of}
+use Rattle.poets_command.specs.Said.{Statement}
+use Rattle.poets_command.specs.TypedStatements.{report_names, check_command}
+use Rattle.poets_command.specs.Typing.{IsTypedCommand}
 use Rattle.poets_types.specs.declared.book.Checked.{Checked}
 
 -- the reports are those that the statements declare

@@ -1,10 +1,10 @@
 //! Books of statements.
 ghost use Rattle.std.specs.Prelude.{◌≡◌, None, IfOk, IfErr, map};
 ghost use Rattle.poets_syntax.specs.Book.{template_of, book_of};
-ghost use Rattle.poets_call.specs.Statements.{statement_of, statements_of};
-ghost use Rattle.poets_call.specs.Declarations.{book_from};
-ghost use Rattle.poets_call.specs.TypedStatements.{first_fault};
-ghost use Rattle.poets_call.specs.TypedStatements as spec;
+ghost use Rattle.poets_command.specs.Statements.{statement_of, statements_of};
+ghost use Rattle.poets_command.specs.Declarations.{book_from};
+ghost use Rattle.poets_command.specs.TypedStatements.{first_fault};
+ghost use Rattle.poets_command.specs.TypedStatements as spec;
 ghost use Rattle.poets_types.specs.Faults.{IsFirstFault};
 ghost use Rattle.poets_types.specs.Verdicts.{HasReportsOf, IsCheckedWithReports};
 ghost use Rattle.poets_types.specs.code.Answers.{IsAnswerOf};
@@ -17,7 +17,7 @@ use crate::index::Index;
 use crate::table::enter;
 use crate::template::{check_report, check_template};
 use crate::{TypeCause, TypeFault};
-use poets_call::Statement;
+use poets_command::Statement;
 use poets_expr::Decls;
 use poets_report::Report;
 use poets_syntax::build::copy_params;

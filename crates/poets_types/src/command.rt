@@ -1,8 +1,8 @@
 //! Types of commands, and of contracts by themselves.
 ghost use Rattle.std.specs.Prelude.{◌≡◌, IfOk, IfErr};
 ghost use Rattle.poets_expr.specs.Env.{declared_of};
-ghost use Rattle.poets_call.specs.Calls.{command_of};
-ghost use Rattle.poets_call.specs.TypedStatements as spec;
+ghost use Rattle.poets_command.specs.Calls.{command_of};
+ghost use Rattle.poets_command.specs.TypedStatements as spec;
 ghost use Rattle.poets_types.specs.Faults.{IsFaultOf};
 ghost use Rattle.poets_types.specs.Calls.{AreTypedCalls, IsFirstCallFault};
 ghost use Rattle.poets_types.specs.Verdicts.{CommandIsTyped, TermIsTyped, command_verdict, term_verdict};
@@ -14,7 +14,7 @@ use crate::expression::{must_be, name_type};
 use crate::index::Index;
 use crate::scope::Scope;
 use crate::{CallFault, TypeCause};
-use poets_call::{Command, named_report};
+use poets_command::{Command, named_report};
 use poets_expr::{Decls, Expr};
 use poets_report::Report;
 use poets_syntax::{Book, Term};

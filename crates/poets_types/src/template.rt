@@ -3,7 +3,7 @@ ghost use Rattle.std.specs.Prelude.{◌≡◌, option_map};
 ghost use Rattle.poets_expr.specs.Expression.{expression_of};
 ghost use Rattle.poets_syntax.specs.Book.{template_of};
 ghost use Rattle.poets_report.specs.Reports.{report_of};
-ghost use Rattle.poets_call.specs.TypedStatements as spec;
+ghost use Rattle.poets_command.specs.TypedStatements as spec;
 ghost use Rattle.poets_types.specs.code.Answers.{answer_of, IsAnswerOf};
 ghost use Rattle.poets_types.specs.code.Checks.{in_book, step_verdict, under};
 ghost use Rattle.poets_types.specs.code.Scopes.{names_in};

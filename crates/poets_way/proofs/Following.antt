@@ -8,8 +8,8 @@ use Rattle.poets_expr.specs.Val.{val}
 use Rattle.poets_syntax.specs.Contract.{Contract, Success, Transmit, Plus, Par, Seq, App}
 use Rattle.poets_syntax.specs.Plain.{Book}
 use Rattle.poets_syntax.specs.Book.{template_in, parameter_env, taken}
-use Rattle.poets_syntax.specs.Residual.{is_true}
-use Rattle.poets_syntax.proofs.Nullability.{true_holds}
+use Rattle.poets_meaning.specs.Truth.{is_true}
+use Rattle.poets_meaning.proofs.Nullability.{true_holds}
 use Rattle.poets_way.specs.Moves.{Move, moves_of}
 use Rattle.poets_way.specs.Moves as M
 use Rattle.poets_way.specs.Way.{Way}

@@ -13,7 +13,7 @@ use Rattle.poets_syntax.specs.declared.term.Binders.{Binders}
 use Rattle.poets_syntax.specs.Contract.{Contract, Transmit, Plus, Par, Seq, App, contract_of}
 use Rattle.poets_syntax.specs.Plain.{Book, Template}
 use Rattle.poets_syntax.specs.Book.{parameter_env, template_in, taken}
-use Rattle.poets_syntax.specs.Residual.{is_true}
+use Rattle.poets_meaning.specs.Truth.{is_true}
 use Rattle.poets_way.specs.Moves.{Move, move_of}
 use Rattle.poets_way.specs.Moves as M
 use Rattle.poets_way.specs.Ways.{first_of, second_of}

@@ -6,8 +6,8 @@ use Rattle.poets_value.specs.declared.event.Event.{Event}
 use Rattle.poets_expr.specs.Env.{Env}
 use Rattle.poets_syntax.specs.Contract.{Contract, Seq}
 use Rattle.poets_syntax.specs.Plain.{Book}
-use Rattle.poets_syntax.specs.Between.{Between}
-use Rattle.poets_syntax.specs.Perf.{Perf}
+use Rattle.poets_meaning.specs.Between.{Between}
+use Rattle.poets_meaning.specs.Perf.{Perf}
 use Rattle.poets_way.specs.Way.{Way}
 use Rattle.poets_way.specs.Way as W
 use Rattle.poets_way.specs.Ways.{Ways, first_of, second_of}

@@ -9,7 +9,7 @@ use Rattle.poets_syntax.specs.declared.term.Binders.{Binders}
 use Rattle.poets_syntax.specs.Contract.{Contract, Success, Transmit, Plus, Par, Seq, App}
 use Rattle.poets_syntax.specs.Plain.{Book, Template}
 use Rattle.poets_syntax.specs.Book.{template_in, parameter_env, taken}
-use Rattle.poets_syntax.specs.Perf.{Holds}
+use Rattle.poets_meaning.specs.Perf.{Holds}
 use Rattle.poets_way.specs.Way.{Way}
 use Rattle.poets_way.specs.Way as W
 

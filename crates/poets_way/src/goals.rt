@@ -8,7 +8,8 @@ ghost use Rattle.poets_way.specs.code.Goals.{Adds, AddsBoth, AreSharedWith, Foll
 
 use crate::parts::{bind, copied, holds, parameters};
 use poets_expr::{Env, Expr};
-use poets_syntax::{Binders, Studied, Term};
+use poets_meaning::Studied;
+use poets_syntax::{Binders, Term};
 use poets_value::{Event, List, Memory, Name, Value, push};
 use std::alloc::Global;
 

@@ -9,7 +9,8 @@ ghost use Rattle.poets_way.specs.code.Goals.{AreSharedWith, Follows};
 use crate::goals::{Goal, Open};
 use crate::parts::{part, turned};
 use crate::way::{Move, Way};
-use poets_syntax::{Studied, Term};
+use poets_meaning::Studied;
+use poets_syntax::Term;
 use poets_value::{Event, List, Memory};
 use std::alloc::Global;
 

@@ -6,9 +6,9 @@ use Rattle.std.specs.Io.KnownBytes.{Appends}
 use Rattle.std.proofs.KnownBytes.{Appends-trans, Appends-nil}
 use Rattle.poets_io.specs.Streams.{AppendsPart}
 use Rattle.poets_lex.specs.Table.{Table}
-use Rattle.poets_call.specs.declared.call.Entry.{Entry}
-use Rattle.poets_call.specs.Calls.{entry_of, history_of}
-use Rattle.poets_call.specs.Plain as plain
+use Rattle.poets_command.specs.declared.call.Entry.{Entry}
+use Rattle.poets_command.specs.Calls.{entry_of, history_of}
+use Rattle.poets_command.specs.Plain as plain
 use Rattle.poets_print.specs.Lines.{line_text, lines_from, history_text}
 use Rattle.poets_writing.specs.Outcomes.{lines_after}
 

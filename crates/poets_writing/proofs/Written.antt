@@ -3,7 +3,7 @@ use Rattle.std.proofs.Common.{◌≡◌, ◌≢◌, ℕ, List, [], sym, subst, �
 use Rattle.std.specs.Io.KnownBytes.{Appends}
 use Rattle.poets_io.specs.Streams.{AppendsPart}
 use Rattle.poets_lex.specs.Table.{Table}
-use Rattle.poets_call.specs.Plain.{Entry}
+use Rattle.poets_command.specs.Plain.{Entry}
 use Rattle.poets_print.specs.Lines.{history_text}
 use Rattle.poets_writing.specs.Writing.{Stream, HasFailed, IsWritten}
 

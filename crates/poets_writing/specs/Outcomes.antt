@@ -3,9 +3,9 @@ use Rattle.std.specs.Prelude.{◌≡◌, ◌≢◌, ◌⊎◌, ℕ, ◌+◌, Lis
 use Rattle.std.specs.Io.KnownBytes.{Appends}
 use Rattle.poets_io.specs.Streams.{AppendsPart}
 use Rattle.poets_lex.specs.Table.{Table}
-use Rattle.poets_call.specs.declared.call.Entry as code
-use Rattle.poets_call.specs.Calls.{history_of}
-use Rattle.poets_call.specs.Plain.{Entry}
+use Rattle.poets_command.specs.declared.call.Entry as code
+use Rattle.poets_command.specs.Calls.{history_of}
+use Rattle.poets_command.specs.Plain.{Entry}
 use Rattle.poets_print.specs.Lines.{history_text, lines_from}
 use Rattle.poets_writing.specs.Writing.{Change, HasFailed, IsWritten}
 use Rattle.poets_writing.specs.declared.outcome.Outcome.{Outcome}

@@ -3,13 +3,13 @@ ghost use Rattle.std.specs.Prelude.{◌≡◌, ◌+◌, ◌^◌, ◌≤◌, ◌<
 ghost use Rattle.std.specs.Io.KnownBytes.{Appends};
 ghost use Rattle.poets_io.specs.Causes.{Rose};
 ghost use Rattle.poets_io.specs.Streams.{AppendsPart};
-ghost use Rattle.poets_call.specs.Calls.{history_of};
+ghost use Rattle.poets_command.specs.Calls.{history_of};
 ghost use Rattle.poets_writing.specs.Outcomes.{WritesHistory, WritesLine, lines_of, lines_after};
 ghost use Rattle.poets_writing.specs.Writing.{change};
 ghost use Rattle.poets_writing.specs.declared.writing.WriteFault.TheVariants as F;
 
 use crate::outcome::{DONE, NO_MEMORY, Outcome, WRITE_FAULT, without_history};
-use poets_call::Entry;
+use poets_command::Entry;
 use poets_io::{Failed, Sink, write_all};
 use poets_lex::Names;
 use poets_print::line_text;

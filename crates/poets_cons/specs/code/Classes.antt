@@ -2,9 +2,9 @@
 use Rattle.std.specs.Prelude.{◌≡◌, ◌<◌, ◌≤◌, ℕ, Bool, Option, Some}
 use Rattle.std.specs.Prelude.{List, [], ◌∷◌, ◌++◌, length, map, slice_get}
 use Rattle.std.specs.List.{AllByRecursion, IsDistinct}
-use Rattle.poets_syntax.specs.Alike.{Alike}
 use Rattle.poets_syntax.specs.Contract.{Contract, Failure}
-use Rattle.poets_syntax.specs.Normal.{side_by_side}
+use Rattle.poets_calculus.specs.Alike.{Alike}
+use Rattle.poets_calculus.specs.Normal.{side_by_side}
 use Rattle.poets_cons.specs.contracts.shape.ShapePartialEq.TheImpl as shape_eq
 use Rattle.poets_cons.specs.declared.classes.Classes.{Classes}
 use Rattle.poets_cons.specs.declared.node.Node.{Node}

@@ -6,8 +6,8 @@ use Rattle.poets_syntax.specs.declared.term.Term.{Term}
 use Rattle.poets_cons.specs.declared.node.Node.{Node}
 use Rattle.poets_cons.specs.Table.{contract_of_rows}
 use Rattle.poets_table.specs.TableView.{RowView}
-use Rattle.poets_call.specs.declared.rules.Rules.{Rules}
-use Rattle.poets_call.specs.Ledger.{Ledger}
+use Rattle.poets_rules.specs.declared.rules.Rules.{Rules}
+use Rattle.poets_history.specs.Ledger.{Ledger}
 use Rattle.poets_engine.specs.Accounts.{Accounts, IsFormedAccount}
 use Rattle.poets_engine.specs.Rows.{IsLedger}
 use Rattle.poets_engine.specs.Store.{StoreView}

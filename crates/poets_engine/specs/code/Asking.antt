@@ -1,7 +1,7 @@
 -- How many evaluations a transmission takes.
 use Rattle.std.specs.Prelude.{ℕ, ◌+◌, ◌*◌, length}
 use Rattle.poets_value.specs.declared.value.Name.{Name}
-use Rattle.poets_call.specs.declared.rules.Rules.{Rules}
+use Rattle.poets_rules.specs.declared.rules.Rules.{Rules}
 use Rattle.poets_engine.specs.Evaluations.{asked_owed}
 use Rattle.poets_engine.specs.Store.{StoreView}
 

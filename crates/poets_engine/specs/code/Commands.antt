@@ -8,7 +8,7 @@ use Rattle.poets_expr.specs.declared.expr.Expr.{Expr}
 use Rattle.poets_expr.specs.Expression.{expression_of}
 use Rattle.poets_syntax.specs.Contract.{contract_of}
 use Rattle.poets_syntax.specs.declared.term.Term.{Term}
-use Rattle.poets_call.specs.Plain.{Command}
+use Rattle.poets_command.specs.Plain.{Command}
 
 -- the command to register the contract under the name
 abbrev pub registration_of : Name → Arc Term Global → Command

@@ -7,7 +7,7 @@ use Rattle.poets_value.specs.Listed.{Listed}
 use Rattle.poets_value.specs.declared.value.Value.{Value}
 use Rattle.poets_expr.specs.declared.env.Decls.{Decls}
 use Rattle.poets_report.specs.declared.report.Report.{Report}
-use Rattle.poets_call.specs.declared.call.Folio.{Folio}
+use Rattle.poets_command.specs.declared.call.Folio.{Folio}
 use Rattle.poets_folio.specs.Rows.{HasRowsOf}
 use Rattle.poets_folio.specs.declared.folio.Part.{Part}
 

@@ -8,8 +8,8 @@ use Rattle.poets_expr.specs.declared.env.Decls.{Decls}
 use Rattle.poets_expr.specs.Env.{declared_of}
 use Rattle.poets_report.specs.declared.report.Report.{Report}
 use Rattle.poets_report.specs.Plain as plain
-use Rattle.poets_call.specs.declared.rules.Rules.{Rules}
-use Rattle.poets_call.specs.Rules.{book_of_rules}
+use Rattle.poets_rules.specs.declared.rules.Rules.{Rules}
+use Rattle.poets_rules.specs.Rules.{book_of_rules}
 use Rattle.poets_engine.specs.Copies.{AreReports, IsReport}
 
 -- the declared names are those of the rules

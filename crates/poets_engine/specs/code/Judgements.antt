@@ -7,16 +7,16 @@ use Rattle.poets_syntax.specs.declared.term.Term.{Term}
 use Rattle.poets_syntax.specs.Applied.{CountsFit}
 use Rattle.poets_syntax.specs.Plain.{Book}
 use Rattle.poets_syntax.specs.Book.{book_of}
-use Rattle.poets_syntax.specs.Studied.{StudiedBook, marks_of}
-use Rattle.poets_syntax.specs.Residual.{after}
+use Rattle.poets_meaning.specs.Studied.{StudiedBook, marks_of}
+use Rattle.poets_calculus.specs.Residual.{after}
 use Rattle.poets_cons.specs.declared.node.Node.{Node}
 use Rattle.poets_cons.specs.Table.{contract_of_rows}
 use Rattle.poets_table.specs.TableView.{RowView, row_view}
 use Rattle.poets_table.specs.declared.table.Row.{Row}
-use Rattle.poets_call.specs.Plain.{Reply}
-use Rattle.poets_call.specs.declared.call.Reply.{Reply as CodeReply}
-use Rattle.poets_call.specs.Calls.{reply_of}
-use Rattle.poets_call.specs.Ledger.{late_day}
+use Rattle.poets_command.specs.Plain.{Reply}
+use Rattle.poets_command.specs.declared.call.Reply.{Reply as CodeReply}
+use Rattle.poets_command.specs.Calls.{reply_of}
+use Rattle.poets_history.specs.Ledger.{late_day}
 use Rattle.poets_residue.specs.Limits.{is_past_limit_in}
 use Rattle.poets_engine.specs.declared.judging.Decision.{Decision}
 use Rattle.poets_engine.specs.declared.judging.Decision.TheVariants as D

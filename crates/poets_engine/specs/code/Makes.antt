@@ -1,21 +1,21 @@
 -- What it is to make a command.
 use Rattle.std.specs.Prelude.{◌≡◌, false, List}
-use Rattle.poets_call.specs.declared.rules.Rules.{Rules}
-use Rattle.poets_call.specs.Rules.{book_of_rules, reports_of_rules}
+use Rattle.poets_rules.specs.declared.rules.Rules.{Rules}
+use Rattle.poets_rules.specs.Rules.{book_of_rules, reports_of_rules}
 use Rattle.poets_value.specs.declared.value.Name.{Name}
 use Rattle.poets_expr.specs.Expression.{Expression}
-use Rattle.poets_call.specs.Plain.{Command, Reply}
-use Rattle.poets_call.specs.declared.call.Reply.{Reply as CodeReply}
-use Rattle.poets_call.specs.Calls.{reply_of}
-use Rattle.poets_call.specs.Ledger.{Ledger, with_entry}
-use Rattle.poets_call.specs.Histories.{RepliesIn}
+use Rattle.poets_command.specs.Plain.{Command, Reply}
+use Rattle.poets_command.specs.declared.call.Reply.{Reply as CodeReply}
+use Rattle.poets_command.specs.Calls.{reply_of}
+use Rattle.poets_history.specs.Ledger.{Ledger, with_entry}
+use Rattle.poets_history.specs.Histories.{RepliesIn}
 use Rattle.poets_engine.specs.Store.{StoreView}
 use Rattle.poets_engine.specs.Works.{HoldsPortfolio}
 use Rattle.poets_engine.specs.declared.kept.FolioWork.{FolioWork}
 use Rattle.poets_engine.specs.declared.kept.Body.{Body}
 use Rattle.poets_engine.specs.declared.kept.Body.TheVariants.{Done, Folio}
 use Rattle.poets_engine.specs.Rows.{IsLedger}
-use Rattle.poets_call.specs.Ledger.{is_accepted}
+use Rattle.poets_history.specs.Ledger.{is_accepted}
 
 -- the command was made: its reply is the one after the ledger of what was kept, what is kept then is that of the ledger
 -- with the entry, and a refusal or a look leaves it

@@ -8,14 +8,14 @@ use Rattle.poets_value.specs.declared.event.Event.{Event}
 use Rattle.poets_syntax.specs.Applied.{CountsFit}
 use Rattle.poets_syntax.specs.Book.{book_of}
 use Rattle.poets_syntax.specs.Contract.{Contract}
-use Rattle.poets_syntax.specs.Residual.{after}
-use Rattle.poets_syntax.specs.Studied.{StudiedBook, marks_of}
+use Rattle.poets_meaning.specs.Studied.{StudiedBook, marks_of}
+use Rattle.poets_calculus.specs.Residual.{after}
 use Rattle.poets_cons.specs.declared.node.Node.{Node}
 use Rattle.poets_cons.specs.Table.{contract_of_rows}
 use Rattle.poets_table.specs.Pieces.{joined}
 use Rattle.poets_table.specs.TableView.{values_of}
-use Rattle.poets_call.specs.Plain.{Reply}
-use Rattle.poets_call.specs.Calls.{reply_of}
+use Rattle.poets_command.specs.Plain.{Reply}
+use Rattle.poets_command.specs.Calls.{reply_of}
 use Rattle.poets_engine.specs.declared.withdrawal.Renewal.{Renewal}
 use Rattle.poets_engine.specs.declared.withdrawal.Renewal.TheVariants as R
 use Rattle.poets_engine.specs.Evaluations.{asked_in}

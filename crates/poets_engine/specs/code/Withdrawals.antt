@@ -1,8 +1,8 @@
 -- What a withdrawal stands on.
 use Rattle.std.specs.Prelude.{ℕ, zero, suc, List, Option, Some, None, length, nat_lt, if◌then◌else◌}
 use Rattle.poets_value.specs.declared.event.Event.{Event}
-use Rattle.poets_call.specs.declared.rules.Rules.{Rules}
-use Rattle.poets_call.specs.Ledger.{Ledger}
+use Rattle.poets_rules.specs.declared.rules.Rules.{Rules}
+use Rattle.poets_history.specs.Ledger.{Ledger}
 use Rattle.poets_engine.specs.Store.{StoreView}
 use Rattle.poets_engine.specs.Rows.{IsLedger}
 

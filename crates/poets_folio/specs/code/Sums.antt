@@ -4,8 +4,8 @@ use Rattle.poets_value.specs.declared.value.Name.{Name}
 use Rattle.poets_value.specs.declared.value.Value.{Value}
 use Rattle.poets_report.specs.Answers.{answer_of}
 use Rattle.poets_report.specs.declared.report.Answer.{Answer}
-use Rattle.poets_call.specs.Calls.{folio_row_of}
-use Rattle.poets_call.specs.Replies.{added, if_whole}
+use Rattle.poets_command.specs.Calls.{folio_row_of}
+use Rattle.poets_command.specs.Totals.{added, if_whole}
 
 -- the exact sum of the rows, which is none where a row is undefined or no whole number, or the sum is none of the
 -- language

@@ -7,8 +7,8 @@ use Rattle.poets_syntax.specs.declared.term.Book.{Book as TheBook}
 use Rattle.poets_syntax.specs.Book.{book_of}
 use Rattle.poets_syntax.specs.Contract.{Contract, Success, Failure, Transmit, Plus, Par, Seq, App}
 use Rattle.poets_syntax.specs.Plain.{Book}
-use Rattle.poets_syntax.specs.May.{May}
-use Rattle.poets_syntax.specs.Marks.{BodySatisfies}
+use Rattle.poets_meaning.specs.May.{May}
+use Rattle.poets_meaning.specs.Marks.{BodySatisfies}
 
 -- whether a contract may end, where `says` tells it of templates; where steps are granted, after transmits too
 abbrev pub ends : (granted : Bool) → (says : Name → Bool) → Contract → Bool

@@ -11,7 +11,7 @@ use Rattle.poets_syntax.specs.declared.term.Book.{Book}
 use Rattle.poets_syntax.specs.declared.term.Term.{Term}
 use Rattle.poets_syntax.specs.Book.{book_of, template_in}
 use Rattle.poets_syntax.specs.Typed.{is_among}
-use Rattle.poets_syntax.specs.Width.{size, cut}
+use Rattle.poets_meaning.specs.Width.{size, cut}
 use Rattle.poets_guard.specs.declared.graph.Node.{Node}
 use Rattle.poets_guard.specs.code.Endings.{ends}
 

@@ -8,7 +8,7 @@ use Rattle.poets_value.specs.Listed.{Listed}
 use Rattle.poets_value.specs.Names.{name_cmp}
 use Rattle.poets_syntax.specs.declared.term.Book.{Book}
 use Rattle.poets_syntax.specs.declared.term.Template.{Template}
-use Rattle.poets_syntax.specs.declared.studied.Mark.{Mark}
+use Rattle.poets_meaning.specs.declared.studied.Mark.{Mark}
 use Rattle.poets_guard.specs.declared.graph.Node.{Node}
 use Rattle.poets_guard.specs.code.Walks.{HasWidth}
 

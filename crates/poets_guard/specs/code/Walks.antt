@@ -5,9 +5,9 @@ use Rattle.std.specs.BTreeSet.{BTreeSet, contains}
 use Rattle.poets_value.specs.declared.value.Name.{Name}
 use Rattle.poets_value.specs.Names.{name_cmp}
 use Rattle.poets_syntax.specs.declared.term.Template.{Template}
-use Rattle.poets_syntax.specs.Guarded.{IsPath, IsCycle}
+use Rattle.poets_meaning.specs.Guarded.{IsPath, IsCycle}
 use Rattle.poets_guard.specs.declared.graph.Node.{Node}
-use Rattle.poets_syntax.specs.Width.{cut}
+use Rattle.poets_meaning.specs.Width.{cut}
 use Rattle.poets_guard.specs.FirstCycle.{IsFirstOf, LiesOnCycle}
 use Rattle.poets_guard.specs.code.Graph.{HasEdge}
 

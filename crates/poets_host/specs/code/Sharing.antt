@@ -4,9 +4,9 @@ use Rattle.std.specs.declared.alloc.Global.{Global}
 use Rattle.std.specs.declared.sync.Arc.{Arc}
 use Rattle.std.specs.Arc.{arc_value}
 use mathlib.Core.List.{IsPrefix}
-use Rattle.poets_call.specs.declared.call.Command.{Command}
-use Rattle.poets_call.specs.declared.call.Reply.{Reply}
-use Rattle.poets_call.specs.declared.rules.Rules.{Rules}
+use Rattle.poets_command.specs.declared.call.Command.{Command}
+use Rattle.poets_command.specs.declared.call.Reply.{Reply}
+use Rattle.poets_rules.specs.declared.rules.Rules.{Rules}
 use Rattle.poets_engine.specs.State.{State, plain_calls}
 use Rattle.poets_engine.specs.declared.kept.Kept.{Kept}
 use Rattle.poets_turn.specs.Clerks.{IsClerkIn, IsFresh, calls, front, number}

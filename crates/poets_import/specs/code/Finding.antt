@@ -7,9 +7,9 @@ use Rattle.poets_value.specs.Civil.{IsDayNumber}
 use Rattle.poets_expr.specs.Env.{Declared}
 use Rattle.poets_lex.specs.Table.{Table}
 use Rattle.poets_literals.specs.Declared.{IsPlaced}
-use Rattle.poets_call.specs.Plain as plain
-use Rattle.poets_call.specs.Calls.{folio_row_of}
-use Rattle.poets_call.specs.declared.call.Folio as code
+use Rattle.poets_command.specs.Plain as plain
+use Rattle.poets_command.specs.Calls.{folio_row_of}
+use Rattle.poets_command.specs.declared.call.Folio as code
 use Rattle.poets_books.specs.Replies.{kind_text}
 use Rattle.poets_json.specs.Document.{folio_data, list_data, part_data, reply_data, total_members}
 use Rattle.poets_syntax.specs.Contract.{Contract}

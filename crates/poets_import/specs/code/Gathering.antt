@@ -10,9 +10,9 @@ use Rattle.poets_expr.specs.Env.{declared_of}
 use Rattle.poets_syntax.specs.Book.{template_of}
 use Rattle.poets_syntax.specs.TypeOf.{Scope, type_in}
 use Rattle.poets_report.specs.Reports.{report_of}
-use Rattle.poets_call.specs.Said.{Statement}
-use Rattle.poets_call.specs.Declarations.{agents_and_kinds, declared_by, report_in_statement, reports_of}
-use Rattle.poets_call.specs.Declarations.{template_in_statement}
+use Rattle.poets_command.specs.Said.{Statement}
+use Rattle.poets_command.specs.Declarations.{agents_and_kinds, declared_by, report_in_statement, reports_of}
+use Rattle.poets_command.specs.Declarations.{template_in_statement}
 use Rattle.poets_import.specs.declared.book.Declared.{Declared}
 
 -- the names are declared with these types, each where it was not declared

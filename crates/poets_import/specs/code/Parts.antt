@@ -12,8 +12,8 @@ use Rattle.poets_syntax.specs.Contract.{contract_of}
 use Rattle.poets_report.specs.Reports.{report_of}
 use Rattle.poets_books.specs.Books.{book_texts}
 use Rattle.poets_json.specs.Document.{entry_data, list_data}
-use Rattle.poets_call.specs.Calls.{command_of}
-use Rattle.poets_call.specs.Plain as plain
+use Rattle.poets_command.specs.Calls.{command_of}
+use Rattle.poets_command.specs.Plain as plain
 use Rattle.poets_import.specs.code.Finding.{IsTold, ShowsOwed, owed_of}
 use Rattle.poets_import.specs.code.Spoken.{Said}
 use Rattle.poets_import.specs.declared.book.Declared as code

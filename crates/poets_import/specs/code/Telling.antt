@@ -9,7 +9,7 @@ use Rattle.poets_value.specs.Civil.{day_text}
 use Rattle.poets_syntax.specs.Contract.{Contract}
 use Rattle.poets_report.specs.Plain.{Answer}
 use Rattle.poets_lex.specs.Table.{Table}
-use Rattle.poets_call.specs.Plain.{Reply}
+use Rattle.poets_command.specs.Plain.{Reply}
 use Rattle.poets_print.specs.Texts.{name_text}
 use Rattle.poets_json.specs.Document.{answer_data, answered_data, late_data, no_contract_data}
 use Rattle.poets_import.specs.code.Members.{number_at, truth_at}

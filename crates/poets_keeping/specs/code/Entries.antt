@@ -1,9 +1,9 @@
 -- The entries of calls that were made.
 use Rattle.std.specs.Prelude.{◌≡◌, ℕ, List, Option, Some}
-use Rattle.poets_call.specs.Calls.{history_of}
-use Rattle.poets_call.specs.declared.call.Command.{Command}
-use Rattle.poets_call.specs.declared.call.Entry as code
-use Rattle.poets_call.specs.declared.call.Reply.{Reply}
+use Rattle.poets_command.specs.Calls.{history_of}
+use Rattle.poets_command.specs.declared.call.Command.{Command}
+use Rattle.poets_command.specs.declared.call.Entry as code
+use Rattle.poets_command.specs.declared.call.Reply.{Reply}
 use Rattle.poets_making.specs.Noted.{entries_of}
 use Rattle.poets_value.specs.Listed.{Listed}
 

@@ -1,7 +1,7 @@
 -- Alternatives of choices.
 use Rattle.std.specs.Prelude.{ℕ, Bool, List, if◌then◌else◌}
 use Rattle.poets_syntax.specs.Contract.{Contract, Plus}
-use Rattle.poets_syntax.specs.Normal.{alternatives}
+use Rattle.poets_calculus.specs.Normal.{alternatives}
 use Rattle.poets_cons.specs.declared.node.Node.{Node}
 use Rattle.poets_cons.specs.Table.{contract_at}
 use Rattle.poets_norm.specs.Choices.{holds_alike}

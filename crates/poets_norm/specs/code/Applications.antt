@@ -11,7 +11,7 @@ use Rattle.poets_expr.specs.Expression.{Expression, expression_of}
 use Rattle.poets_expr.specs.Fold.{fold_closed}
 use Rattle.poets_syntax.specs.declared.term.Param.{Param}
 use Rattle.poets_syntax.specs.Contract.{Contract, App, Failure}
-use Rattle.poets_syntax.specs.Normal.{folded}
+use Rattle.poets_calculus.specs.Normal.{folded}
 use Rattle.poets_norm.specs.Questions.{operated, questions}
 
 -- 1 for an argument that has to be asked: one that is neither a literal nor a name

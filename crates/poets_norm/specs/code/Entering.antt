@@ -2,9 +2,9 @@
 use Rattle.std.specs.Prelude.{◌+◌, ◌≤◌, ℕ, List}
 use Rattle.poets_syntax.specs.declared.term.Term.{Term}
 use Rattle.poets_syntax.specs.Contract.{Contract, contract_of}
-use Rattle.poets_syntax.specs.InStudied.{normal_in}
-use Rattle.poets_syntax.specs.Normal.{par}
-use Rattle.poets_syntax.specs.Studied.{StudiedBook}
+use Rattle.poets_meaning.specs.Studied.{StudiedBook}
+use Rattle.poets_calculus.specs.InStudied.{normal_in}
+use Rattle.poets_calculus.specs.Normal.{par}
 use Rattle.poets_cons.specs.declared.node.Node.{Node}
 use Rattle.poets_cons.specs.Table.{contract_at, Stands}
 use Rattle.poets_norm.specs.Questions.{questions}

@@ -1,7 +1,7 @@
 -- Parallel parts grouped to the left.
 use Rattle.std.specs.Prelude.{fold}
-use Rattle.poets_syntax.specs.Alike.{parts}
 use Rattle.poets_syntax.specs.Contract.{Contract, Par}
+use Rattle.poets_calculus.specs.Alike.{parts}
 use Rattle.poets_norm.specs.Choices.{regrouped}
 
 -- a contract with the parts of another joined to it by `||`, from the left

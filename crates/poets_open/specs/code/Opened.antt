@@ -5,7 +5,7 @@ use Rattle.poets_expr.specs.Expression.{Expression}
 use Rattle.poets_syntax.specs.declared.term.Binders.{Binders}
 use Rattle.poets_syntax.specs.Book.{book_of}
 use Rattle.poets_syntax.specs.Contract.{Contract}
-use Rattle.poets_syntax.specs.Studied.{StudiedBook, marks_of}
+use Rattle.poets_meaning.specs.Studied.{StudiedBook, marks_of}
 use Rattle.poets_residue.specs.Once.{ready}
 use Rattle.poets_open.specs.Next.{Step, step_of, same_step, steps_in}
 use Rattle.poets_open.specs.declared.opening.Step.{Step as OpenStep}

@@ -6,9 +6,9 @@ use Rattle.poets_expr.specs.Expression.{expression_of}
 use Rattle.poets_syntax.specs.declared.term.Term.{Term}
 use Rattle.poets_syntax.specs.Contract.{contract_of}
 use Rattle.poets_report.specs.declared.report.Answer.{Answer}
-use Rattle.poets_call.specs.declared.call.Folio.{Folio}
-use Rattle.poets_call.specs.Calls.{folio_row_of}
-use Rattle.poets_call.specs.Plain.{Reply}
+use Rattle.poets_command.specs.declared.call.Folio.{Folio}
+use Rattle.poets_command.specs.Calls.{folio_row_of}
+use Rattle.poets_command.specs.Plain.{Reply}
 use Rattle.poets_lex.specs.Table.{Table}
 use Rattle.poets_print.specs.Texts.{name_text, bracketed, behind_commas, listed, expression_text, contract_text}
 use Rattle.poets_print.specs.Lines.{part_text, reply_text}

@@ -12,13 +12,13 @@ use Rattle.poets_lex.specs.Table.{Table, Extends}
 use Rattle.poets_grammar.specs.Statements.{IsStatement}
 use Rattle.poets_grammar.specs.Tokens.{toks}
 use Rattle.poets_grammar.specs.TooDeep.{IsTooDeepStored}
-use Rattle.poets_call.specs.declared.call.Command as code
-use Rattle.poets_call.specs.declared.rules.Rules.{Rules}
-use Rattle.poets_call.specs.Calls.{Call, command_of}
-use Rattle.poets_call.specs.Plain.{Command}
-use Rattle.poets_call.specs.Rules.{book_of_rules, reports_of_rules}
-use Rattle.poets_call.specs.Said.{Statement, Numbered}
-use Rattle.poets_call.specs.Typing.{IsTypedCommand}
+use Rattle.poets_command.specs.declared.call.Command as code
+use Rattle.poets_command.specs.Calls.{Call, command_of}
+use Rattle.poets_command.specs.Plain.{Command}
+use Rattle.poets_command.specs.Said.{Statement, Numbered}
+use Rattle.poets_command.specs.Typing.{IsTypedCommand}
+use Rattle.poets_rules.specs.declared.rules.Rules.{Rules}
+use Rattle.poets_rules.specs.Rules.{book_of_rules, reports_of_rules}
 use Rattle.poets_session.specs.Sessions.{calls_in}
 use Rattle.poets_recover.specs.Stored.{AreCalls, length_of_all, most_stored}
 use Rattle.poets_recover.specs.declared.fault.RecoverFault.{RecoverFault}

@@ -4,8 +4,8 @@ use Rattle.std.specs.List.{list_any}
 use Rattle.poets_syntax.specs.Book.{book_of}
 use Rattle.poets_syntax.specs.Contract.{Contract, Failure}
 use Rattle.poets_syntax.specs.Same.{same_contract}
-use Rattle.poets_syntax.specs.Spread.{own_count, exposed, body_width}
-use Rattle.poets_syntax.specs.Studied.{StudiedBook, marks_of}
+use Rattle.poets_meaning.specs.Spread.{own_count, exposed, body_width}
+use Rattle.poets_meaning.specs.Studied.{StudiedBook, marks_of}
 use Rattle.poets_cons.specs.declared.node.Node.{Node}
 use Rattle.poets_cons.specs.Row.{Row, contract_by}
 use Rattle.poets_cons.specs.Table.{rows_of, contract_at}

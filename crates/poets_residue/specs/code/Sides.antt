@@ -2,9 +2,9 @@
 use Rattle.std.specs.Prelude.{ℕ, List}
 use Rattle.poets_value.specs.declared.event.Event.{Event}
 use Rattle.poets_syntax.specs.Contract.{Contract}
-use Rattle.poets_syntax.specs.InStudied.{after_in}
-use Rattle.poets_syntax.specs.Normal.{par, plus}
-use Rattle.poets_syntax.specs.Studied.{StudiedBook}
+use Rattle.poets_meaning.specs.Studied.{StudiedBook}
+use Rattle.poets_calculus.specs.InStudied.{after_in}
+use Rattle.poets_calculus.specs.Normal.{par, plus}
 use Rattle.poets_norm.specs.Choices.{IsDistinctChoice}
 use Rattle.poets_norm.specs.Rows.{joined_at}
 use Rattle.poets_cons.specs.declared.node.Node.{Node}

@@ -9,10 +9,11 @@ use Rattle.poets_expr.specs.Val.{val}
 use Rattle.poets_syntax.specs.declared.term.Binders.{Binders}
 use Rattle.poets_syntax.specs.Book.{taken}
 use Rattle.poets_syntax.specs.Contract.{Contract, Transmit}
-use Rattle.poets_syntax.specs.InStudied.{normal_in}
 use Rattle.poets_syntax.specs.Replace.{replace}
-use Rattle.poets_syntax.specs.Residual.{event_givens, is_true}
-use Rattle.poets_syntax.specs.Studied.{StudiedBook}
+use Rattle.poets_syntax.specs.Givens.{event_givens}
+use Rattle.poets_meaning.specs.Truth.{is_true}
+use Rattle.poets_meaning.specs.Studied.{StudiedBook}
+use Rattle.poets_calculus.specs.InStudied.{normal_in}
 use Rattle.poets_cons.specs.declared.node.Node.{Node}
 use Rattle.poets_cons.specs.Table.{contract_at}
 

@@ -1,7 +1,7 @@
 -- How the parts of a run end that goes on with a journal, by the sessions of the code.
 use Rattle.std.specs.Prelude.{ℕ, List}
-use Rattle.poets_call.specs.Calls.{history_of}
-use Rattle.poets_call.specs.Said.{Statement}
+use Rattle.poets_command.specs.Calls.{history_of}
+use Rattle.poets_command.specs.Said.{Statement}
 use Rattle.poets_disk.specs.Disks.{Seen}
 use Rattle.poets_journal.specs.Texts.{Texts}
 use Rattle.poets_session.specs.declared.form.Form.TheVariants as F

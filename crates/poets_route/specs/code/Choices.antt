@@ -3,8 +3,8 @@ use Rattle.std.specs.Prelude.{◌≡◌, List, Contains}
 use Rattle.poets_value.specs.declared.event.Event.{Event}
 use Rattle.poets_expr.specs.Env.{Env}
 use Rattle.poets_syntax.specs.Contract.{Contract, Seq}
-use Rattle.poets_syntax.specs.Normal.{alternatives}
 use Rattle.poets_syntax.specs.Plain.{Book}
+use Rattle.poets_calculus.specs.Normal.{alternatives}
 use Rattle.poets_norm.specs.code.Grouping.{beside_parts}
 use Rattle.poets_way.specs.Way.{Way}
 use Rattle.poets_way.specs.Ways.{Ways}

@@ -5,10 +5,10 @@ use Rattle.poets_value.specs.declared.event.Event.{Event}
 use Rattle.poets_syntax.specs.Book.{book_of}
 use Rattle.poets_syntax.specs.Contract.{Contract}
 use Rattle.poets_syntax.specs.Plain.{Book}
-use Rattle.poets_syntax.specs.Marks.{Marks}
-use Rattle.poets_syntax.specs.Perf.{Perf}
-use Rattle.poets_syntax.specs.Residual.{after}
-use Rattle.poets_syntax.specs.Studied.{StudiedBook, marks_of}
+use Rattle.poets_meaning.specs.Marks.{Marks}
+use Rattle.poets_meaning.specs.Perf.{Perf}
+use Rattle.poets_meaning.specs.Studied.{StudiedBook, marks_of}
+use Rattle.poets_calculus.specs.Residual.{after}
 use Rattle.poets_cons.specs.declared.node.Node.{Node}
 use Rattle.poets_cons.specs.Table.{contract_of_rows}
 use Rattle.poets_way.specs.Trails.{TrailsView}

@@ -6,8 +6,8 @@ use Rattle.poets_syntax.specs.declared.term.Template.{Template}
 use Rattle.poets_syntax.specs.Book.{book_of}
 use Rattle.poets_syntax.specs.Contract.{Contract, contract_of}
 use Rattle.poets_syntax.specs.Replace.{replace}
-use Rattle.poets_syntax.specs.Residual.{argument_givens}
-use Rattle.poets_syntax.specs.Studied.{StudiedBook}
+use Rattle.poets_syntax.specs.Givens.{argument_givens}
+use Rattle.poets_meaning.specs.Studied.{StudiedBook}
 
 -- the template's body with its parameters replaced
 abbrev pub body_with : StudiedBook → Template → List Expr → Contract

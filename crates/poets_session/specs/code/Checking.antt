@@ -3,12 +3,12 @@ use Rattle.std.specs.Prelude.{◌≡◌, ℕ, Bool, false, List, All, Some, opti
 use Rattle.poets_value.specs.declared.value.Name.{Name}
 use Rattle.poets_expr.specs.Env.{same_name}
 use Rattle.poets_guard.specs.FirstCycle.{IsFirstCycle}
-use Rattle.poets_call.specs.declared.statement.Statement.{Statement as CodeStatement}
-use Rattle.poets_call.specs.Statements.{statement_of}
-use Rattle.poets_call.specs.Said.{Statement, Template}
-use Rattle.poets_call.specs.Declarations.{book_from}
-use Rattle.poets_call.specs.TypedStatements.{first_fault}
-use Rattle.poets_call.specs.Plain.{TypeFault}
+use Rattle.poets_command.specs.declared.statement.Statement.{Statement as CodeStatement}
+use Rattle.poets_command.specs.Statements.{statement_of}
+use Rattle.poets_command.specs.Said.{Statement, Template}
+use Rattle.poets_command.specs.Declarations.{book_from}
+use Rattle.poets_command.specs.TypedStatements.{first_fault}
+use Rattle.poets_command.specs.Plain.{TypeFault}
 use Rattle.poets_session.specs.Refusals.{Refusal, Mistyped, Unguarded, IsTemplateAt}
 use Rattle.poets_session.specs.Causes.{IsCauseOf}
 use Rattle.poets_session.specs.declared.fault.SessionCause.{SessionCause}

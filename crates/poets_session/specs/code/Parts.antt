@@ -2,8 +2,8 @@
 use Rattle.std.specs.Prelude.{◌≡◌, List, map}
 use Rattle.poets_syntax.specs.Book.{book_of}
 use Rattle.poets_report.specs.Reports.{report_of}
-use Rattle.poets_call.specs.Said.{Statement}
-use Rattle.poets_call.specs.Declarations.{book_from, reports_of}
+use Rattle.poets_command.specs.Said.{Statement}
+use Rattle.poets_command.specs.Declarations.{book_from, reports_of}
 use Rattle.poets_session.specs.Sessions.{commands_in, calls_in, scripts_of, journal_of}
 use Rattle.poets_session.specs.declared.validity.Parts.{Parts}
 

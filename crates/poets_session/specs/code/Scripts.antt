@@ -3,9 +3,9 @@ use Rattle.std.specs.Prelude.{⊤, ◌≡◌, ◌<◌, ◌^◌, List, [], ◌∷
 use Rattle.std.specs.Arc.{arc_value}
 use Rattle.std.specs.declared.alloc.Global.{Global}
 use Rattle.std.specs.declared.sync.Arc.{Arc}
-use Rattle.poets_call.specs.Calls.{command_of}
-use Rattle.poets_call.specs.declared.call.Command.{Command as CodeCommand}
-use Rattle.poets_call.specs.Said.{Statement, Command, Numbered}
+use Rattle.poets_command.specs.Calls.{command_of}
+use Rattle.poets_command.specs.declared.call.Command.{Command as CodeCommand}
+use Rattle.poets_command.specs.Said.{Statement, Command, Numbered}
 use Rattle.poets_session.specs.Sessions.{commands_in, calls_in, scripts_of, journal_of, numbered_call}
 use Rattle.poets_session.specs.declared.scripts.Calls.{Calls}
 

@@ -6,9 +6,9 @@ use Rattle.poets_lex.specs.declared.token.Tok.{Tok}
 use Rattle.poets_lex.specs.declared.token.Token.{Token}
 use Rattle.poets_grammar.specs.Tokens.{toks}
 use Rattle.poets_parse.specs.declared.fault.SyntaxFault.{SyntaxFault}
-use Rattle.poets_call.specs.Said.{Statement}
-use Rattle.poets_call.specs.Statements.{statement_of, statements_of}
-use Rattle.poets_call.specs.declared.statement.Statement.{Statement as CodeStatement}
+use Rattle.poets_command.specs.Said.{Statement}
+use Rattle.poets_command.specs.Statements.{statement_of, statements_of}
+use Rattle.poets_command.specs.declared.statement.Statement.{Statement as CodeStatement}
 use Rattle.poets_session.specs.Pieces.{Piece, pieces_of}
 use Rattle.poets_session.specs.Sessions.{IsStatementPiece}
 use Rattle.poets_session.specs.Refusals.{IsUnread}

@@ -1,7 +1,7 @@
 -- Which answers are written to a sink, by its change and the outcome.
 use Rattle.std.specs.Prelude.{List}
-use Rattle.poets_call.specs.Calls.{history_of}
-use Rattle.poets_call.specs.Said.{Statement}
+use Rattle.poets_command.specs.Calls.{history_of}
+use Rattle.poets_command.specs.Said.{Statement}
 use Rattle.poets_session.specs.Sessions.{Text}
 use Rattle.poets_session.specs.declared.session.Session.{Session}
 use Rattle.poets_words.specs.declared.mode.Task.{Task}

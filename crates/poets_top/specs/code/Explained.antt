@@ -3,14 +3,14 @@ use Rattle.std.specs.Prelude.{◌≡◌, ℕ, Bool, IsTrue, ◌↔◌, List, [],
 use Rattle.std.specs.declared.alloc.Global.{Global}
 use Rattle.poets_syntax.specs.Book.{book_of}
 use Rattle.poets_syntax.specs.Contract.{contract_of}
-use Rattle.poets_syntax.specs.Perf.{Perf}
-use Rattle.poets_syntax.specs.Studied.{StudiedBook, IsStudiedBook}
+use Rattle.poets_meaning.specs.Perf.{Perf}
+use Rattle.poets_meaning.specs.Studied.{StudiedBook, IsStudiedBook}
 use Rattle.poets_open.specs.Next.{next_in}
 use Rattle.poets_lex.specs.Table.{Table}
-use Rattle.poets_call.specs.Histories.{InFrame}
-use Rattle.poets_call.specs.Ledger.{ledger_of}
-use Rattle.poets_call.specs.Plain.{Entry}
-use Rattle.poets_call.specs.Rules.{book_of_rules, reports_of_rules}
+use Rattle.poets_command.specs.Plain.{Entry}
+use Rattle.poets_rules.specs.Rules.{book_of_rules, reports_of_rules}
+use Rattle.poets_history.specs.Histories.{InFrame}
+use Rattle.poets_history.specs.Ledger.{ledger_of}
 use Rattle.poets_engine.specs.State.{State}
 use Rattle.poets_engine.specs.declared.accounts.Account.{Account}
 use Rattle.poets_top.specs.Explaining.{Explains, TellsWay, contract_line, next_lines}

@@ -2,9 +2,9 @@
 use Rattle.std.specs.Prelude.{ℕ, List}
 use Rattle.poets_value.specs.Listed.{Listed}
 use Rattle.poets_lex.specs.Table.{Table}
-use Rattle.poets_call.specs.Calls.{history_of}
-use Rattle.poets_call.specs.Rules.{book_of_rules, reports_of_rules}
-use Rattle.poets_call.specs.declared.call.Entry as code
+use Rattle.poets_command.specs.Calls.{history_of}
+use Rattle.poets_command.specs.declared.call.Entry as code
+use Rattle.poets_rules.specs.Rules.{book_of_rules, reports_of_rules}
 use Rattle.poets_engine.specs.State.{State}
 use Rattle.poets_top.specs.Exporting.{IsDocumentLine}
 

@@ -1,7 +1,7 @@
 -- Sessions that were read.
 use Rattle.std.specs.Prelude.{◌≡◌, List, Result, IfOk, String, string_bytes}
 use Rattle.std.specs.declared.alloc.Global.{Global}
-use Rattle.poets_call.specs.Said.{Statement}
+use Rattle.poets_command.specs.Said.{Statement}
 use Rattle.poets_session.specs.declared.form.Form.{Form}
 use Rattle.poets_session.specs.declared.session.Session.{Session}
 use Rattle.poets_session.specs.Sessions.{Text, IsSession, Represents}

@@ -13,12 +13,12 @@ use Rattle.poets_syntax.specs.TypeOf as T
 use Rattle.poets_syntax.specs.Typed.{check_new, check_type, types_bound}
 use Rattle.poets_report.specs.declared.report.Report.{Report}
 use Rattle.poets_report.specs.Reports.{report_of}
-use Rattle.poets_call.specs.declared.statement.Statement.{Statement}
-use Rattle.poets_call.specs.Statements.{statements_of}
-use Rattle.poets_call.specs.Replies.{report_in}
-use Rattle.poets_call.specs.Plain.{TypeFault}
-use Rattle.poets_call.specs.Plain as plain
-use Rattle.poets_call.specs.TypedStatements.{check_report_arguments, mistyped_from}
+use Rattle.poets_command.specs.declared.statement.Statement.{Statement}
+use Rattle.poets_command.specs.Statements.{statements_of}
+use Rattle.poets_command.specs.Reports.{report_in}
+use Rattle.poets_command.specs.Plain.{TypeFault}
+use Rattle.poets_command.specs.Plain as plain
+use Rattle.poets_command.specs.TypedStatements.{check_report_arguments, mistyped_from}
 use Rattle.poets_types.specs.declared.index.Index.{Index}
 use Rattle.poets_types.specs.declared.scope.Scope.{Scope}
 use Rattle.poets_types.specs.code.Indices.{book_in, reports_in, used_in}

@@ -5,7 +5,7 @@ use Rattle.poets_syntax.specs.Plain.{Book}
 use Rattle.poets_syntax.specs.Book.{book_of}
 use Rattle.poets_syntax.specs.Typed.{in_use}
 use Rattle.poets_report.specs.Reports.{report_of}
-use Rattle.poets_call.specs.TypedStatements.{report_names}
+use Rattle.poets_command.specs.TypedStatements.{report_names}
 use Rattle.poets_types.specs.declared.index.Index.{Index}
 
 -- the book

@@ -15,7 +15,7 @@ use Rattle.poets_syntax.specs.declared.term.Param.{Param}
 use Rattle.poets_syntax.specs.Book.{parameter_env, taken, template_in}
 use Rattle.poets_syntax.specs.Contract.{Contract, Success, Transmit, Plus, Par, Seq, App, contract_of}
 use Rattle.poets_syntax.specs.Plain.{Book, Template}
-use Rattle.poets_syntax.specs.Residual.{is_true}
+use Rattle.poets_meaning.specs.Truth.{is_true}
 use Rattle.poets_way.specs.Moves.{Move, moves_of}
 use Rattle.poets_way.specs.Moves as M
 use Rattle.poets_way.specs.Way.{Way}

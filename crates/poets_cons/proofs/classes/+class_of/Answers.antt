@@ -1,7 +1,7 @@
 use Rattle.std.proofs.Common.{arith, length, refl, sym, subst}
 use Rattle.std.proofs.lemmas.List.{length-map}
 use Rattle.poets_syntax.specs.Contract as C
-use Rattle.poets_syntax.specs.Alike.{Alike}
+use Rattle.poets_calculus.specs.Alike.{Alike}
 use Rattle.poets_cons.specs.declared.classes.Classes.{Classes}
 use Rattle.poets_cons.specs.Notes.{noted}
 use Rattle.poets_cons.specs.Table.{contract_at}

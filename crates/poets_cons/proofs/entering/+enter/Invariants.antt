@@ -1,6 +1,6 @@
 use Rattle.std.proofs.Common.{◌+◌, ◌*◌}
 use Rattle.poets_syntax.specs.Contract.{contract_of}
-use Rattle.poets_syntax.specs.Width.{size}
+use Rattle.poets_meaning.specs.Width.{size}
 use Rattle.poets_cons.proofs.entering.+enter.Given as goal
 
 abbrev pub decreases-enter : goal.decreases-enter

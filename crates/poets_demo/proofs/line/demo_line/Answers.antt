@@ -2,7 +2,7 @@ use Rattle.std.proofs.Common.{◌≡◌, append_assoc, arith, length, of_z, stri
 use Rattle.std.specs.Int.{w128}
 use Rattle.std.proofs.lemmas.Int.{ints, to_z-of_z}
 use Rattle.std.proofs.lemmas.List.{length-map}
-use Rattle.poets_call.specs.Calls.{entry_of, history_of}
+use Rattle.poets_command.specs.Calls.{entry_of, history_of}
 use Rattle.poets_demo.proofs.Lines.{line_of, line_of_history}
 use Rattle.poets_demo.proofs.line.demo_line.Goals as goal
 

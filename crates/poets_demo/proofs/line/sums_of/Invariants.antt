@@ -1,6 +1,6 @@
 use Rattle.std.proofs.Common.{◌≡◌, ◌*◌, ◌^◌, ◌≤ℤ◌, pos, take}
 use Rattle.std.specs.Prelude.{neg_ℤ}
-use Rattle.poets_call.specs.Calls.{history_of}
+use Rattle.poets_command.specs.Calls.{history_of}
 use Rattle.poets_demo.specs.Line.{count_replies, is_ended, is_recorded, is_refused, is_registered, paid}
 use Rattle.poets_demo.proofs.line.sums_of.Given as goal
 

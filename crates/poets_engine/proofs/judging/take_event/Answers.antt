@@ -1,7 +1,7 @@
 use Rattle.std.proofs.Common.{length, subst, sym}
 use Rattle.poets_syntax.specs.Applied.{CountsFit}
 use Rattle.poets_syntax.specs.Book.{book_of}
-use Rattle.poets_syntax.specs.Studied.{marks_of}
+use Rattle.poets_meaning.specs.Studied.{marks_of}
 use Rattle.poets_cons.specs.Table.{contract_of_rows}
 use Rattle.poets_residue.proofs.Kept.{CountsFit-after_at}
 use Rattle.poets_residue.proofs.Studies.{IsStudied-book}

@@ -1,8 +1,8 @@
 use Rattle.std.proofs.Common.{[], ◌∙◌, ap, subst, sym}
 use Rattle.std.specs.Prelude.{IsTrue, ◌↔◌}
-use Rattle.poets_syntax.specs.Perf.{Perf}
+use Rattle.poets_meaning.specs.Perf.{Perf}
 use Rattle.poets_cons.specs.Table.{contract_of_rows}
-use Rattle.poets_call.specs.Rules.{book_of_rules}
+use Rattle.poets_rules.specs.Rules.{book_of_rules}
 use Rattle.poets_syntax.specs.Contract.{contract_of}
 use Rattle.poets_table.specs.TableView.{row_view}
 use Rattle.poets_engine.proofs.Showing.{show_found}

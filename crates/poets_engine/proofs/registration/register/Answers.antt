@@ -2,13 +2,13 @@ use Rattle.std.proofs.Common.{sym, ◌∙◌, subst, ap}
 use Rattle.std.specs.Arc.{arc_value}
 use Rattle.poets_syntax.specs.Applied.{CountsFit}
 use Rattle.poets_syntax.specs.Contract.{contract_of}
-use Rattle.poets_syntax.specs.Studied.{marks_of}
-use Rattle.poets_syntax.specs.Normal.{normal}
+use Rattle.poets_meaning.specs.Studied.{marks_of}
+use Rattle.poets_calculus.specs.Normal.{normal}
 use Rattle.poets_cons.specs.Table.{contract_of_rows}
 use Rattle.poets_norm.proofs.Counts.{CountsFit-normal}
-use Rattle.poets_call.specs.Calls.{reply_of}
-use Rattle.poets_call.specs.Rules.{book_of_rules, reports_of_rules}
-use Rattle.poets_call.proofs.TypedCommands.{typed_registration}
+use Rattle.poets_command.specs.Calls.{reply_of}
+use Rattle.poets_command.proofs.TypedCommands.{typed_registration}
+use Rattle.poets_rules.specs.Rules.{book_of_rules, reports_of_rules}
 use Rattle.poets_engine.specs.code.Judgements.{judgement_of}
 use Rattle.poets_engine.proofs.Registering.{register_refused, register_kept}
 use Rattle.poets_engine.proofs.registration.register.Goals as goal

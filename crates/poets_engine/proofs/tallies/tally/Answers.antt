@@ -4,8 +4,8 @@ use Rattle.poets_expr.specs.Expression.{expression_of}
 use Rattle.poets_expr.specs.Val.{val}
 use Rattle.poets_report.specs.Reports.{report_of}
 use Rattle.poets_report.specs.Answers.{IsAnswer, answer_of}
-use Rattle.poets_call.specs.Rules.{book_of_rules, reports_of_rules}
-use Rattle.poets_call.proofs.TypedCommands.{typed_report}
+use Rattle.poets_command.proofs.TypedCommands.{typed_report}
+use Rattle.poets_rules.specs.Rules.{book_of_rules, reports_of_rules}
 use Rattle.poets_engine.proofs.Tallying.{tally_made, values_by}
 use Rattle.poets_engine.proofs.tallies.tally.Goals as goal
 

@@ -3,14 +3,14 @@ use Rattle.std.proofs.lemmas.Result.{IfOk-weaker}
 use Rattle.poets_value.specs.declared.event.Event.{Event}
 use Rattle.poets_syntax.specs.Book.{book_of}
 use Rattle.poets_syntax.specs.Contract.{Contract}
-use Rattle.poets_syntax.specs.Residual.{after}
-use Rattle.poets_syntax.specs.Studied.{StudiedBook, marks_of}
 use Rattle.poets_syntax.specs.declared.term.Term.{Term}
+use Rattle.poets_meaning.specs.Studied.{StudiedBook, marks_of}
+use Rattle.poets_calculus.specs.Residual.{after}
 use Rattle.poets_cons.specs.declared.node.Node.{Node}
 use Rattle.poets_cons.specs.Table.{contract_of_rows}
 use Rattle.poets_table.specs.TableView.{RowView, row_view}
-use Rattle.poets_call.specs.Plain.{Reply}
-use Rattle.poets_call.specs.Ledger.{late_day}
+use Rattle.poets_command.specs.Plain.{Reply}
+use Rattle.poets_history.specs.Ledger.{late_day}
 use Rattle.poets_engine.specs.code.Judgements.{judgement_by, judge, unless_over, IsJudgementBy}
 use Rattle.poets_engine.proofs.transmission.decide.Goals as goal
 

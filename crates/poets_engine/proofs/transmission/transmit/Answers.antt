@@ -4,11 +4,11 @@ use Rattle.poets_table.specs.TableView.{row_view}
 use Rattle.std.proofs.Common.{[]}
 use Rattle.std.specs.Arc.{arc_value}
 use Rattle.std.specs.Prelude.{IsTrue, ◌↔◌}
-use Rattle.poets_syntax.specs.Perf.{Perf}
+use Rattle.poets_meaning.specs.Perf.{Perf}
 use Rattle.poets_cons.specs.Table.{contract_of_rows}
-use Rattle.poets_call.specs.Rules.{book_of_rules}
-use Rattle.poets_call.specs.Plain.{Command, Reply}
-use Rattle.poets_call.specs.Calls.{reply_of}
+use Rattle.poets_command.specs.Plain.{Command, Reply}
+use Rattle.poets_command.specs.Calls.{reply_of}
+use Rattle.poets_rules.specs.Rules.{book_of_rules}
 use Rattle.poets_engine.specs.code.Judgements.{judgement_of}
 use Rattle.poets_engine.specs.code.Makes.{Makes}
 use Rattle.poets_engine.specs.code.Changes.{RecordsEvent}

@@ -2,8 +2,8 @@ use Rattle.std.proofs.Common.{◌≡◌, [], Some, sym, ap, ◌∙◌, subst, ma
 use Rattle.poets_expr.specs.Env.{declared_of}
 use Rattle.poets_expr.specs.Expression.{expression_of}
 use Rattle.poets_expr.specs.Val.{val}
-use Rattle.poets_call.specs.Rules.{book_of_rules, reports_of_rules}
-use Rattle.poets_call.proofs.TypedCommands.{typed_report}
+use Rattle.poets_command.proofs.TypedCommands.{typed_report}
+use Rattle.poets_rules.specs.Rules.{book_of_rules, reports_of_rules}
 use Rattle.poets_engine.specs.code.Changes.{AddsWatch}
 use Rattle.poets_engine.proofs.Tallying.{watch_made, values_by}
 use Rattle.poets_engine.proofs.watching.watch.Goals as goal

@@ -2,11 +2,11 @@ use Rattle.std.proofs.Common.{◌≤◌, ◌+◌, sym, ◌∙◌, ap, subst, ari
 use Rattle.std.proofs.lemmas.List.{take_all}
 use Rattle.std.specs.Arc.{arc_value}
 use Rattle.poets_syntax.specs.Book.{book_of}
-use Rattle.poets_syntax.specs.Residual.{after}
-use Rattle.poets_syntax.specs.Studied.{marks_of}
+use Rattle.poets_meaning.specs.Studied.{marks_of}
+use Rattle.poets_calculus.specs.Residual.{after}
 use Rattle.poets_cons.specs.Table.{contract_of_rows}
-use Rattle.poets_call.specs.Plain.{Reply}
-use Rattle.poets_call.specs.Calls.{reply_of}
+use Rattle.poets_command.specs.Plain.{Reply}
+use Rattle.poets_command.specs.Calls.{reply_of}
 use Rattle.poets_engine.specs.Evaluations.{asked_in}
 use Rattle.poets_engine.specs.code.Judgements.{KeptFits, judge, judgement_of}
 use Rattle.poets_engine.specs.code.Renewals.{by_events}

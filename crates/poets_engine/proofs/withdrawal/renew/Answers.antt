@@ -6,7 +6,7 @@ use Rattle.poets_syntax.specs.Book.{book_of}
 use Rattle.poets_cons.specs.Table.{contract_of_rows}
 use Rattle.poets_table.specs.Pieces.{joined}
 use Rattle.poets_table.specs.TableView.{values_of}
-use Rattle.poets_call.specs.Calls.{reply_of}
+use Rattle.poets_command.specs.Calls.{reply_of}
 use Rattle.poets_engine.specs.code.Judgements.{KeptFits, Owed, judgement_of}
 use Rattle.poets_engine.specs.code.Renewals.{HaveFirst, asked_along, by_events, owed_at}
 use Rattle.poets_engine.proofs.Points.{between, between-none, between-all, mapped_at}

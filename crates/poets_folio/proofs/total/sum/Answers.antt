@@ -2,7 +2,7 @@ use Rattle.std.proofs.Common.{◌≡◌, ◌∙◌, ◌+◌, ◌+ℤ◌, ap, ap�
 use Rattle.std.specs.Prelude.{option_map}
 use Rattle.std.specs.Int.{w128}
 use Rattle.std.proofs.lemmas.Int.{ints, to_z-of_z}
-use Rattle.poets_call.specs.Replies.{if_whole}
+use Rattle.poets_command.specs.Totals.{if_whole}
 use Rattle.poets_folio.proofs.Sums.{sum_from, sum_stops, sum_more}
 use Rattle.poets_folio.proofs.total.sum.Goals as goal
 

@@ -1,7 +1,7 @@
 use Rattle.std.proofs.Common.{◌≡◌, ◌*◌, ◌^◌, take, map, fold, Some, pos, ◌≤ℤ◌}
 use Rattle.std.specs.Prelude.{neg_ℤ}
-use Rattle.poets_call.specs.Calls.{folio_row_of}
-use Rattle.poets_call.specs.Replies.{added}
+use Rattle.poets_command.specs.Calls.{folio_row_of}
+use Rattle.poets_command.specs.Totals.{added}
 use Rattle.poets_folio.proofs.total.sum.Given as goal
 
 abbrev pub invariant-loop-row : goal.invariant-loop-row

@@ -2,7 +2,7 @@ use Rattle.std.proofs.Common.{◌≡◌, ◌+◌, ◌-◌, ℕ, true, length, ta
 use Rattle.std.specs.Prelude.{sum_by}
 use Rattle.poets_value.specs.declared.value.Name.{Name}
 use Rattle.poets_syntax.specs.Typed.{is_among}
-use Rattle.poets_syntax.specs.Width.{cut}
+use Rattle.poets_meaning.specs.Width.{cut}
 use Rattle.poets_guard.specs.code.Walks.{PathsEnd, IsWidthOf, HaveWidths, HaveSameNames}
 use Rattle.poets_guard.proofs.widths.+width.Given as goal
 

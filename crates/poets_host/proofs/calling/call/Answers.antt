@@ -1,8 +1,8 @@
 use Rattle.std.proofs.Common.{inr, refl}
 use Rattle.std.proofs.lemmas.Result.{IfOk-weaker}
 use Rattle.std.specs.Arc.{arc_value}
-use Rattle.poets_call.specs.Calls.{command_of, reply_of}
-use Rattle.poets_call.specs.Rules.{book_of_rules, reports_of_rules}
+use Rattle.poets_command.specs.Calls.{command_of, reply_of}
+use Rattle.poets_rules.specs.Rules.{book_of_rules, reports_of_rules}
 use Rattle.poets_engine.specs.State.{Fulfils, plain_calls}
 use Rattle.poets_host.proofs.Following.{call_more, in_ok, keeps_all, on_err, unchanged}
 use Rattle.poets_host.proofs.calling.call.Goals as goal

@@ -1,9 +1,9 @@
 use borrow.Enum.Total.{values_d}
 use Rattle.std.proofs.Common.{◌≡◌, ◌∙◌, subst, sym}
-use Rattle.poets_call.specs.Calls.{reply_of}
-use Rattle.poets_call.specs.Ledger.{is_accepted}
+use Rattle.poets_command.specs.Calls.{reply_of}
+use Rattle.poets_history.specs.Ledger.{is_accepted}
 use Rattle.poets_engine.specs.contracts.kept.Body.{enum}
-use Rattle.poets_call.specs.declared.call.Command.TheVariants as C
+use Rattle.poets_command.specs.declared.call.Command.TheVariants as C
 use Rattle.poets_host.proofs.Following.{call_more}
 use Rattle.poets_host.proofs.Recording.{delivery_recorded, delivery_refused, no_delivery}
 use Rattle.poets_host.proofs.delivery.deliver.Goals as goal

@@ -1,5 +1,5 @@
 use Rattle.std.proofs.Common.{◌∙◌, ap}
-use Rattle.poets_call.specs.Rules.{book_of_rules, reports_of_rules}
+use Rattle.poets_rules.specs.Rules.{book_of_rules, reports_of_rules}
 use Rattle.poets_session.proofs.LawsFitting.{read_written}
 use Rattle.poets_making.proofs.Taking.{whole_rules}
 use Rattle.poets_host.proofs.opening.open.Goals as goal

@@ -1,7 +1,7 @@
 use borrow.Enum.Total.{values_d}
 use Rattle.std.proofs.Common.{[], subst, sym}
-use Rattle.poets_call.specs.Calls.{reply_of}
-use Rattle.poets_call.specs.Plain.{Tally}
+use Rattle.poets_command.specs.Calls.{reply_of}
+use Rattle.poets_command.specs.Plain.{Tally}
 use Rattle.poets_engine.specs.contracts.kept.Body.{enum}
 use Rattle.poets_host.specs.Calls.{IsReplyAfter}
 use Rattle.poets_host.proofs.Recording.{no_tally, tally_asks, tally_keeps, tally_right}

@@ -1,7 +1,7 @@
 use Rattle.std.proofs.Common.{map}
 use Rattle.std.proofs.lemmas.Result.{err_from_is_err_and}
 use Rattle.serde_json.specs.View.{view}
-use Rattle.poets_call.specs.Calls.{folio_row_of}
+use Rattle.poets_command.specs.Calls.{folio_row_of}
 use Rattle.poets_import.specs.code.Finding.{folio_as_data, folio_of}
 use Rattle.poets_import.proofs.AnswerRows.{other_folio, parts_of_value, total_of_value}
 use Rattle.poets_import.proofs.Unsaid.{finds_handed}

@@ -4,7 +4,7 @@ use Rattle.std.proofs.lemmas.List.Elements.{All-push}
 use Rattle.std.proofs.lemmas.Result.{err_from_is_err_and}
 use Rattle.serde_json.specs.View.{view}
 use Rattle.poets_expr.specs.Env.{declared_of}
-use Rattle.poets_call.specs.Calls.{folio_row_of}
+use Rattle.poets_command.specs.Calls.{folio_row_of}
 use Rattle.poets_json.specs.Document.{part_data}
 use Rattle.poets_import.specs.code.Finding.{IsPart}
 use Rattle.poets_import.specs.declared.fault.Unread.TheVariants as U

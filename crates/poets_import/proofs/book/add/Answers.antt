@@ -2,8 +2,8 @@ use Rattle.std.proofs.Common.{List, ap, map, refl, sym, ◌∙◌}
 use Rattle.std.proofs.lemmas.Result.{IfOk-weaker}
 use Rattle.poets_value.specs.declared.value.Name.{Name}
 use Rattle.poets_value.specs.declared.value.Ty.TheVariants as T
-use Rattle.poets_call.specs.Declarations.{agents_and_kinds, report_in_statement, template_in_statement}
-use Rattle.poets_call.specs.Statements.{statement_of}
+use Rattle.poets_command.specs.Declarations.{agents_and_kinds, report_in_statement, template_in_statement}
+use Rattle.poets_command.specs.Statements.{statement_of}
 use Rattle.poets_import.specs.code.Gathering.{Adds, Declares}
 use Rattle.poets_import.proofs.Gatherings.{adds_names}
 use Rattle.poets_import.proofs.book.add.Goals as goal

@@ -2,7 +2,7 @@ use Rattle.std.proofs.Common.{List, Err, ap, map, sym, subst, ◌∙◌}
 use Rattle.serde_json.specs.Data.{Data}
 use Rattle.serde_json.specs.View.{view}
 use Rattle.std.proofs.lemmas.Result.{IfOk-weaker}
-use Rattle.poets_call.specs.Statements.{statements_of}
+use Rattle.poets_command.specs.Statements.{statements_of}
 use Rattle.poets_import.specs.code.Spoken.{AreRead, IsBookSaid, IsSentence}
 use Rattle.poets_import.proofs.Texts.{array_is, array_items}
 use Rattle.poets_import.proofs.book.book_in.Goals as goal

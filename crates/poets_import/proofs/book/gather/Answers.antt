@@ -1,7 +1,7 @@
 use Rattle.std.proofs.Common.{◌++◌, ◌∷◌, [], List, sym, subst}
 use Rattle.std.proofs.lemmas.List.{map-append}
-use Rattle.poets_call.specs.Said.{Statement}
-use Rattle.poets_call.specs.Statements.{statement_of, statements_of}
+use Rattle.poets_command.specs.Said.{Statement}
+use Rattle.poets_command.specs.Statements.{statement_of, statements_of}
 use Rattle.poets_import.specs.code.Gathering.{IsDeclaredBy}
 use Rattle.poets_import.proofs.Gatherings.{declared_more}
 use Rattle.poets_import.proofs.book.gather.Goals as goal

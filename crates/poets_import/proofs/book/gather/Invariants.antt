@@ -1,4 +1,4 @@
-use Rattle.poets_call.specs.Statements.{statements_of}
+use Rattle.poets_command.specs.Statements.{statements_of}
 use Rattle.poets_import.specs.code.Gathering.{IsDeclaredBy}
 use Rattle.poets_import.proofs.book.gather.Given as goal
 

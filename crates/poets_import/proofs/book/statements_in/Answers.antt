@@ -1,7 +1,7 @@
 use Rattle.std.proofs.Common.{Err, ap}
 use Rattle.std.proofs.lemmas.Result.{err_from_is_err_and}
 use Rattle.poets_lex.proofs.Readings.{Extends-then}
-use Rattle.poets_call.specs.Statements.{statement_of, statements_of}
+use Rattle.poets_command.specs.Statements.{statement_of, statements_of}
 use Rattle.poets_import.specs.code.Spoken.{IsSentence}
 use Rattle.poets_import.proofs.OneWay.{next_read, next_unread, nothing_read, one_sentence_read}
 use Rattle.poets_import.proofs.SaidReplies.{extends_itself}

@@ -1,7 +1,7 @@
 use Rattle.std.proofs.Common.{map, take}
 use Rattle.serde_json.specs.View.{view}
 use Rattle.poets_lex.specs.Table.{Extends}
-use Rattle.poets_call.specs.Statements.{statements_of}
+use Rattle.poets_command.specs.Statements.{statements_of}
 use Rattle.poets_import.specs.code.Spoken.{AreRead, IsSentence}
 use Rattle.poets_import.proofs.book.statements_in.Given as goal
 

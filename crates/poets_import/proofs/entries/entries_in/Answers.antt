@@ -4,7 +4,7 @@ use Rattle.std.proofs.lemmas.Iterator.Consumers.{YieldsList-turn}
 use Rattle.std.proofs.lemmas.List.{map-append}
 use Rattle.std.proofs.lemmas.Result.{err_from_is_err_and}
 use Rattle.poets_expr.specs.Env.{declared_of}
-use Rattle.poets_call.specs.Calls.{entry_of, history_of}
+use Rattle.poets_command.specs.Calls.{entry_of, history_of}
 use Rattle.poets_json.specs.Document.{entry_data}
 use Rattle.poets_import.specs.code.Parts.{data_of, said_of}
 use Rattle.poets_import.specs.declared.fault.Unread.TheVariants as U

@@ -1,7 +1,7 @@
 use Rattle.std.proofs.Common.{◌≡◌, map}
 use Rattle.std.specs.List.{AllZip}
 use Rattle.poets_expr.specs.Env.{declared_of}
-use Rattle.poets_call.specs.Calls.{history_of}
+use Rattle.poets_command.specs.Calls.{history_of}
 use Rattle.poets_json.specs.Document.{entry_data}
 use Rattle.poets_import.specs.code.Parts.{IsFoundEntry, data_of, said_of}
 use Rattle.poets_import.proofs.entries.entries_in.Given as goal

@@ -2,7 +2,7 @@ use Rattle.std.proofs.Common.{◌≤◌, ap, sym, subst, ◌∙◌}
 use Rattle.serde_json.specs.Data.{Data, depth}
 use Rattle.serde_json.specs.Read.{max_depth}
 use Rattle.serde_json.specs.Written.{has_float}
-use Rattle.poets_call.specs.Calls.{entry_of}
+use Rattle.poets_command.specs.Calls.{entry_of}
 use Rattle.poets_json.proofs.NoFloats.{no_float_entry}
 use Rattle.poets_import.proofs.Depths.{depth_entry}
 use Rattle.poets_import.proofs.entries.is_value_of.Goals as goal

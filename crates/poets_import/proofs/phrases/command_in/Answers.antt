@@ -1,6 +1,6 @@
 use Rattle.std.proofs.Common.{Err, ap}
 use Rattle.std.proofs.lemmas.Result.{err_from_is_err_and}
-use Rattle.poets_call.specs.Said.{Command}
+use Rattle.poets_command.specs.Said.{Command}
 use Rattle.poets_import.proofs.OneWay.{one_said_sentence}
 use Rattle.poets_import.proofs.Unsaid.{handed_on}
 use Rattle.poets_import.proofs.phrases.command_in.Goals as goal

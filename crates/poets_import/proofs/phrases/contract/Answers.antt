@@ -2,7 +2,7 @@ use Rattle.std.proofs.Common.{ap, ◌∙◌}
 use Rattle.std.proofs.lemmas.Result.{IfOk-weaker}
 use Rattle.poets_grammar.specs.Tokens.{toks}
 use Rattle.poets_syntax.specs.Contract.{contract_of}
-use Rattle.poets_call.specs.Statements.{statement_of}
+use Rattle.poets_command.specs.Statements.{statement_of}
 use Rattle.poets_import.specs.Phrases.{Owed, Say}
 use Rattle.poets_import.specs.code.Spoken.{Registers}
 use Rattle.poets_import.proofs.OneWay.{owed_registers, owed_said}

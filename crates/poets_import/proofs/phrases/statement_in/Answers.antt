@@ -1,7 +1,7 @@
 use Rattle.std.proofs.Common.{List, sym, subst}
 use Rattle.std.proofs.lemmas.Result.{IfOk-weaker}
 use Rattle.poets_lex.specs.declared.token.Token.{Token}
-use Rattle.poets_call.specs.Statements.{statement_of}
+use Rattle.poets_command.specs.Statements.{statement_of}
 use Rattle.poets_grammar.specs.Tokens.{AreNatural, toks}
 use Rattle.poets_grammar.proofs.Lexed.{read_natural}
 use Rattle.poets_import.specs.Phrases.{AreSentence, Says, Sentence}

@@ -3,8 +3,8 @@ use Rattle.std.proofs.lemmas.Result.{err_from_is_err_and}
 use Rattle.serde_json.specs.View.{view}
 use Rattle.poets_expr.specs.Env.{declared_of}
 use Rattle.poets_syntax.specs.Contract.{contract_of}
-use Rattle.poets_call.specs.Calls.{folio_row_of, reply_of}
-use Rattle.poets_call.specs.Plain.{Reply}
+use Rattle.poets_command.specs.Calls.{folio_row_of, reply_of}
+use Rattle.poets_command.specs.Plain.{Reply}
 use Rattle.poets_books.specs.Replies.{kind_text}
 use Rattle.poets_json.specs.Document.{reply_data}
 use Rattle.poets_import.specs.code.Finding.{Finds, IsToldWith}

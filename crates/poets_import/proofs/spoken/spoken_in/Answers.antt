@@ -1,7 +1,7 @@
 use Rattle.std.proofs.Common.{ℕ, List, Err, ap, sym, subst}
 use Rattle.std.proofs.lemmas.Result.{err_from_is_err_and}
 use Rattle.serde_json.specs.Data.{Data}
-use Rattle.poets_call.specs.Said.{Command}
+use Rattle.poets_command.specs.Said.{Command}
 use Rattle.poets_lex.specs.Table.{Table}
 use Rattle.serde_json.specs.View.{view}
 use Rattle.poets_import.specs.Phrases.{Says, Sentence}

@@ -1,5 +1,5 @@
 use Rattle.std.proofs.Common.{map, take}
-use Rattle.poets_call.specs.Calls.{folio_row_of}
+use Rattle.poets_command.specs.Calls.{folio_row_of}
 use Rattle.poets_json.specs.Document.{part_data}
 use Rattle.poets_json.specs.code.Values.{AreOf}
 use Rattle.poets_json.proofs.answers.parts_json.Given as goal

@@ -1,6 +1,6 @@
 use Rattle.std.proofs.Common.{ap, ◌∙◌}
 use Rattle.poets_lex.specs.Table.{texts_of}
-use Rattle.poets_call.specs.Calls.{history_of}
+use Rattle.poets_command.specs.Calls.{history_of}
 use Rattle.poets_json.specs.Plain.{exported_with}
 use Rattle.poets_json.proofs.Texts.{put_document}
 use Rattle.poets_json.proofs.export.document_text.Goals as goal

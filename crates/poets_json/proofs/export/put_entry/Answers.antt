@@ -1,6 +1,6 @@
 use Rattle.std.proofs.Common.{ap, ◌∙◌}
 use Rattle.serde_json.specs.Written.{has_float}
-use Rattle.poets_call.specs.Calls.{entry_of}
+use Rattle.poets_command.specs.Calls.{entry_of}
 use Rattle.poets_json.proofs.NoFloats.{no_float_entry}
 use Rattle.poets_json.proofs.export.put_entry.Goals as goal
 

@@ -1,5 +1,5 @@
 use Rattle.std.proofs.Common.{ap, subst, rules}
-use Rattle.poets_call.specs.Calls.{history_of}
+use Rattle.poets_command.specs.Calls.{history_of}
 use Rattle.poets_session.specs.declared.form.Form.TheVariants as F
 use Rattle.poets_writing.specs.Writing.{stream}
 use Rattle.poets_keeping.specs.code.Ended.{WasRead}

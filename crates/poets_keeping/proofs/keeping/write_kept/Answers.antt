@@ -1,5 +1,5 @@
 use Rattle.std.proofs.Common.{List, take, subst}
-use Rattle.poets_call.specs.declared.call.Entry.{Entry}
+use Rattle.poets_command.specs.declared.call.Entry.{Entry}
 use Rattle.poets_writing.specs.Outcomes.{lines_after}
 use Rattle.poets_writing.specs.Writing.{change}
 use Rattle.poets_keeping.specs.Writing.{WritesAs}

@@ -1,6 +1,6 @@
 use Rattle.std.proofs.Common.{◌≡◌, ◌≤◌, Err, refl, sym, ◌∙◌, ap, subst, arith}
 use Rattle.poets_io.specs.Causes.{Rose}
-use Rattle.poets_call.specs.Calls.{history_of}
+use Rattle.poets_command.specs.Calls.{history_of}
 use Rattle.poets_journal.specs.Journals.{texts_of}
 use Rattle.poets_journal.specs.Starts.{disk_of}
 use Rattle.poets_writing.specs.Writing.{stream}

@@ -1,7 +1,7 @@
 use Rattle.std.proofs.Common.{◌≡◌, refl, sym, ◌∙◌, ap, subst, length, arith, map}
 use Rattle.std.proofs.lemmas.List.{length-map}
 use Rattle.poets_lex.proofs.Readings.{reading-length}
-use Rattle.poets_call.specs.Calls.{history_of}
+use Rattle.poets_command.specs.Calls.{history_of}
 use Rattle.poets_session.proofs.LawsFitting.{read_written}
 use Rattle.poets_making.proofs.Taking.{whole_rules}
 use Rattle.poets_journal.specs.Journals.{texts_of}

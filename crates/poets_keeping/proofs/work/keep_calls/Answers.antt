@@ -2,14 +2,14 @@ use denote.Param.Send.{sendable}
 use Rattle.std.proofs.Common.{◌≡◌, ℕ, ◌≤◌, List, ◌++◌, length, drop, refl, ◌∙◌, ap, subst, sym}
 use Rattle.std.specs.Prelude.{IfSome}
 use Rattle.std.proofs.lemmas.List.{drop_at}
-use Rattle.poets_call.specs.declared.call.Command.{Command}
-use Rattle.poets_call.specs.declared.rules.Rules.{Rules}
-use Rattle.poets_call.specs.Rules.{book_of_rules, reports_of_rules}
+use Rattle.poets_command.specs.declared.call.Command.{Command}
+use Rattle.poets_rules.specs.declared.rules.Rules.{Rules}
+use Rattle.poets_rules.specs.Rules.{book_of_rules, reports_of_rules}
 use Rattle.poets_clerks.specs.Histories.{AreReplies}
 use Rattle.poets_journal.specs.Keeping.{IsKept, texts_by}
 use Rattle.poets_onward.specs.Frames.{OnwardFrameOf}
 use Rattle.poets_stored.specs.Stored.{stored_text}
-use Rattle.poets_call.proofs.Crossing.{command_send, command_sync, reply_send}
+use Rattle.poets_command.proofs.Crossing.{command_send, command_sync, reply_send}
 use Rattle.poets_engine.proofs.Crossing.{engine_send, kept_send}
 use Rattle.poets_session.specs.Sessions.{commands_in}
 use Rattle.poets_onward.proofs.onward.Onward.TheSendSync as onward

@@ -1,5 +1,5 @@
 use Rattle.std.proofs.Common.{◌+◌, Err, refl, ap}
-use Rattle.poets_call.specs.Calls.{history_of}
+use Rattle.poets_command.specs.Calls.{history_of}
 use Rattle.poets_keeping.specs.Writing.{EndsWriting}
 use Rattle.poets_keeping.proofs.writing.write_entries.Goals as goal
 

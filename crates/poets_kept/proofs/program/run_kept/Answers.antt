@@ -1,6 +1,6 @@
 use Rattle.std.proofs.Common.{sym, ◌∙◌, ap, subst, inl, inr, arith, map}
 use Rattle.std.specs.Prelude.{string_bytes}
-use Rattle.poets_call.specs.Calls.{history_of}
+use Rattle.poets_command.specs.Calls.{history_of}
 use Rattle.poets_top.specs.Demonstrating.{HasDemonstrated}
 use Rattle.poets_top.specs.Explaining.{HasExplained}
 use Rattle.poets_top.specs.Exporting.{HasExported}

@@ -1,5 +1,5 @@
 use Rattle.std.proofs.Common.{◌≡◌, map}
-use Rattle.poets_call.specs.Calls.{history_of}
+use Rattle.poets_command.specs.Calls.{history_of}
 use Rattle.poets_making.proofs.Entries.{noted}
 use Rattle.poets_making.proofs.sharing.entries_of.Given as goal
 

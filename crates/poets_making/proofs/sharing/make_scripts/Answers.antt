@@ -2,9 +2,9 @@ use denote.Param.Send.{sendable}
 use Rattle.std.proofs.Common.{◌∙◌, ap}
 use Rattle.std.proofs.lemmas.Result.{IfOk-weaker}
 use Rattle.poets_value.specs.Listed.{Listed}
-use Rattle.poets_call.specs.declared.call.Entry.{Entry}
+use Rattle.poets_command.specs.declared.call.Entry.{Entry}
 use Rattle.poets_engine.specs.State.{commands_of}
-use Rattle.poets_call.proofs.Crossing.{command_send, command_sync, reply_send}
+use Rattle.poets_command.proofs.Crossing.{command_send, command_sync, reply_send}
 use Rattle.poets_engine.proofs.Crossing.{engine_send, kept_send}
 use Rattle.poets_making.proofs.Entries.{no_scripts, right_entered, right_none, scripts_entered}
 use Rattle.poets_making.proofs.sharing.make_scripts.Goals as goal

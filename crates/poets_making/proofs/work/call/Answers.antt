@@ -1,6 +1,6 @@
 use Rattle.std.proofs.Common.{refl}
 use Rattle.std.specs.Arc.{arc_value}
-use Rattle.poets_call.specs.declared.call.Entry.{Entry}
+use Rattle.poets_command.specs.declared.call.Entry.{Entry}
 use Rattle.poets_making.proofs.Noting.{AreNoted-entry, if_ok}
 use Rattle.poets_making.proofs.work.call.Goals as goal
 

@@ -1,7 +1,7 @@
 use Rattle.std.proofs.Common.{[], refl, sym, ◌∙◌, ap, subst}
-use Rattle.poets_call.specs.Calls.{calls_of, history_of}
-use Rattle.poets_call.specs.Rules.{book_of_rules, reports_of_rules}
-use Rattle.poets_call.specs.Histories.{IsLegal}
+use Rattle.poets_command.specs.Calls.{calls_of, history_of}
+use Rattle.poets_rules.specs.Rules.{book_of_rules, reports_of_rules}
+use Rattle.poets_history.specs.Histories.{IsLegal}
 use Rattle.poets_making.specs.Noted.{AreNoted}
 use Rattle.poets_making.proofs.Making.{calls_more}
 use Rattle.poets_making.proofs.Noting.{AreNoted-none}

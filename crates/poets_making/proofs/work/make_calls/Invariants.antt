@@ -1,5 +1,5 @@
 use Rattle.std.proofs.Common.{◌≡◌, take}
-use Rattle.poets_call.specs.Calls.{calls_of, history_of}
+use Rattle.poets_command.specs.Calls.{calls_of, history_of}
 use Rattle.poets_session.specs.Sessions.{calls_in}
 use Rattle.poets_making.specs.Noted.{AreNoted}
 use Rattle.poets_making.proofs.work.make_calls.Given as goal

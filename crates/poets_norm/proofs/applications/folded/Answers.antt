@@ -3,7 +3,7 @@ use Rattle.std.proofs.Math.ListN.{drop_of_length-le}
 use Rattle.poets_expr.specs.Env.{Declared, declared_of}
 use Rattle.poets_expr.specs.Expression.{expression_of}
 use Rattle.poets_syntax.specs.declared.term.Param.{Param}
-use Rattle.poets_syntax.specs.Normal.{folded}
+use Rattle.poets_calculus.specs.Normal.{folded}
 use Rattle.poets_norm.proofs.applications.folded.Goals as goal
 
 folded-none : (declared : Declared) (params : List Param) → folded declared params [] ≡ []

@@ -1,7 +1,7 @@
 use Rattle.std.proofs.Common.{◌≡◌, ◌+◌, ◌≤◌, ◌++◌, map, drop, sum_by}
 use Rattle.poets_expr.specs.Env.{declared_of}
 use Rattle.poets_expr.specs.Expression.{expression_of}
-use Rattle.poets_syntax.specs.Normal.{folded}
+use Rattle.poets_calculus.specs.Normal.{folded}
 use Rattle.poets_norm.specs.Questions.{operated}
 use Rattle.poets_norm.proofs.applications.folded.Given as goal
 

@@ -1,6 +1,6 @@
 use Rattle.std.proofs.Common.{◌≡◌, ◌∙◌, ◌<◌, ap, length, arith}
 use Rattle.poets_syntax.specs.Contract.{Plus}
-use Rattle.poets_syntax.specs.Normal.{plus}
+use Rattle.poets_calculus.specs.Normal.{plus}
 use Rattle.poets_cons.specs.Row.{row_of, contract_by}
 use Rattle.poets_cons.specs.Table.{contract_at, Stands}
 use Rattle.poets_cons.proofs.Reaching.{one_ok}

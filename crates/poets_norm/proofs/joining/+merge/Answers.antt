@@ -1,7 +1,7 @@
 -- The second choice is taken apart from its end, while the first is still as it was.
 use Rattle.std.proofs.Common.{rules, ◌≡◌, ◌∙◌, ◌<◌, sym, ap, subst, length, if◌then◌else◌, arith}
 use Rattle.poets_syntax.specs.Contract.{Plus}
-use Rattle.poets_syntax.specs.Normal.{plus}
+use Rattle.poets_calculus.specs.Normal.{plus}
 use Rattle.poets_cons.specs.Table.{contract_at, contract_of_node, Stands, Extends}
 use Rattle.poets_cons.proofs.Reaching.{one_ok}
 use Rattle.poets_cons.proofs.Standing.{extends_twice}

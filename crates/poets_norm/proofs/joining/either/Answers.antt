@@ -1,5 +1,5 @@
 use Rattle.std.proofs.Common.{sym, subst}
-use Rattle.poets_syntax.specs.Normal.{plus}
+use Rattle.poets_calculus.specs.Normal.{plus}
 use Rattle.poets_norm.specs.Choices.{IsDistinctChoice}
 use Rattle.poets_cons.specs.Table.{contract_at, Stands}
 use Rattle.poets_cons.proofs.Reaching.{one_ok}

@@ -1,5 +1,5 @@
 use Rattle.std.proofs.Common.{[], refl}
-use Rattle.poets_syntax.specs.Normal.{normal}
+use Rattle.poets_calculus.specs.Normal.{normal}
 use Rattle.poets_norm.proofs.Hope.{IsFailureOrHopeful-normal, failure_is_hopeless, hopeless_is_failure}
 use Rattle.poets_norm.proofs.Meaning.{normal_in, normal_out}
 use Rattle.poets_norm.proofs.laws.normal_hopeless.Goals as goal

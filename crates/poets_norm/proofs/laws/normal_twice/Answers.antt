@@ -1,4 +1,4 @@
-use Rattle.poets_syntax.specs.Normal.{normal}
+use Rattle.poets_calculus.specs.Normal.{normal}
 use Rattle.poets_norm.proofs.NormalForms.{built-normal, normal_of_built}
 use Rattle.poets_norm.proofs.laws.normal_twice.Goals as goal
 

@@ -1,6 +1,6 @@
-use Rattle.poets_syntax.specs.Normal.{normal}
 use Rattle.poets_syntax.proofs.TypedReplacing.{KeepsTypes-undeclared}
 use Rattle.poets_syntax.proofs.TypingRules.{contract_typed, contract_passes}
+use Rattle.poets_calculus.specs.Normal.{normal}
 use Rattle.poets_norm.proofs.TypedNormals.{ContractPasses-normal}
 use Rattle.poets_norm.proofs.laws.normal_typed.Goals as goal
 

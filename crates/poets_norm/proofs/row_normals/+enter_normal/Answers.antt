@@ -1,14 +1,14 @@
 use Rattle.std.proofs.Common.{◌≡◌, ℕ, ◌+◌, ◌≤◌, arith, map, sym, ◌∙◌, ap, ap₂, subst, sum_by}
 use Rattle.std.proofs.lemmas.Result.{IfOk-weaker}
 use Rattle.poets_expr.specs.Expression.{expression_of}
-use Rattle.poets_syntax.specs.Arguments.{arguments}
 use Rattle.poets_syntax.specs.Book.{book_of}
 use Rattle.poets_syntax.specs.declared.term.Term.{Term}
 use Rattle.poets_syntax.specs.Contract.{Contract, Par, contract_of}
-use Rattle.poets_syntax.specs.InStudied.{normal_in}
-use Rattle.poets_syntax.specs.Normal.{plus, par, normal}
-use Rattle.poets_syntax.specs.Studied.{StudiedBook, marks_of}
-use Rattle.poets_syntax.specs.Width.{size}
+use Rattle.poets_meaning.specs.Arguments.{arguments}
+use Rattle.poets_meaning.specs.Studied.{StudiedBook, marks_of}
+use Rattle.poets_meaning.specs.Width.{size}
+use Rattle.poets_calculus.specs.InStudied.{normal_in}
+use Rattle.poets_calculus.specs.Normal.{plus, par, normal}
 use Rattle.poets_cons.specs.Table.{contract_at, Stands}
 use Rattle.poets_cons.proofs.Reaching.{one_ok}
 use Rattle.poets_cons.proofs.Standing.{contract_at-later, extends_twice, stands_later}

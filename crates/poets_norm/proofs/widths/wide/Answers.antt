@@ -1,7 +1,7 @@
 use Rattle.std.proofs.Common.{sym, ◌∙◌, ap}
 use Rattle.poets_syntax.specs.Book.{book_of}
 use Rattle.poets_syntax.specs.Contract.{contract_of}
-use Rattle.poets_syntax.specs.Width.{cut}
+use Rattle.poets_meaning.specs.Width.{cut}
 use Rattle.poets_norm.proofs.StudiedBooks.{width-studied}
 use Rattle.poets_norm.proofs.widths.wide.Goals as goal
 

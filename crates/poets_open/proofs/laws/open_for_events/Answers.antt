@@ -1,5 +1,5 @@
 use Rattle.std.proofs.Common.{◌∙◌, sym}
-use Rattle.poets_syntax.specs.Residual.{residual_after}
+use Rattle.poets_calculus.specs.Residual.{residual_after}
 use Rattle.poets_residue.proofs.Traces.{residual_after-more, trace_formed, trace_fit, trace_normal}
 use Rattle.poets_open.proofs.OpenForEvents.{goes_on, taken_on}
 use Rattle.poets_open.proofs.laws.open_for_events.Goals as goal

@@ -4,8 +4,8 @@ use Rattle.poets_expr.specs.Expression.{expression_of}
 use Rattle.poets_syntax.specs.Applied.{CountsFit}
 use Rattle.poets_syntax.specs.Book.{book_of, template_of}
 use Rattle.poets_syntax.specs.Contract.{contract_of, Seq, App}
-use Rattle.poets_syntax.specs.Perf.{Perf}
-use Rattle.poets_syntax.specs.Studied.{marks_of}
+use Rattle.poets_meaning.specs.Perf.{Perf}
+use Rattle.poets_meaning.specs.Studied.{marks_of}
 use Rattle.poets_open.specs.Next.{step_of}
 use Rattle.poets_open.specs.code.Opened.{added_all, opened_in}
 use Rattle.poets_open.proofs.Opened.{plus_listed, par_listed, over_listed, going_listed, over_narrower, told, none_listed, body_listed, body_fits, body_narrower}

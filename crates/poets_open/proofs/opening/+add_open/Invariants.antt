@@ -1,7 +1,7 @@
 use Rattle.poets_syntax.specs.Book.{book_of}
 use Rattle.poets_syntax.specs.Contract.{contract_of}
-use Rattle.poets_syntax.specs.Studied.{marks_of}
-use Rattle.poets_syntax.specs.Width.{width}
+use Rattle.poets_meaning.specs.Studied.{marks_of}
+use Rattle.poets_meaning.specs.Width.{width}
 use Rattle.poets_open.proofs.opening.+add_open.Given as goal
 
 abbrev pub decreases-add_open : goal.decreases-add_open

@@ -1,6 +1,6 @@
 use Rattle.std.proofs.Common.{◌≡◌, refl, sym, ◌∙◌, ap, Err}
 use Rattle.std.proofs.lemmas.Result.{IfErr-weaker}
-use Rattle.poets_call.specs.Calls.{history_of}
+use Rattle.poets_command.specs.Calls.{history_of}
 use Rattle.poets_writing.specs.Writing.{change}
 use Rattle.poets_writing.proofs.Written.{IsWritten-line, IsWritten-nothing}
 use Rattle.poets_opening.specs.Limits.{too_long_text}

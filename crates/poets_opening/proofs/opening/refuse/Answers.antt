@@ -1,5 +1,5 @@
 use Rattle.std.proofs.Common.{Some, refl, sym, ◌∙◌, ap}
-use Rattle.poets_call.specs.Calls.{history_of}
+use Rattle.poets_command.specs.Calls.{history_of}
 use Rattle.poets_writing.proofs.Written.{IsWritten-line, IsWritten-nothing}
 use Rattle.poets_opening.specs.Unread.{RefusesSource}
 use Rattle.poets_opening.proofs.Refusing.{refuses_fault}

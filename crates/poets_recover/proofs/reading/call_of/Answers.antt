@@ -2,9 +2,9 @@ use Rattle.std.proofs.Common.{Err, sym, ap, subst, ◌∙◌, arith}
 use Rattle.std.proofs.lemmas.Result.{err_from_is_err_and}
 use Rattle.poets_grammar.specs.Statements.{IsStatement}
 use Rattle.poets_grammar.specs.Tokens.{toks}
-use Rattle.poets_call.specs.Calls.{command_of}
-use Rattle.poets_call.specs.Said.{Numbered}
-use Rattle.poets_call.specs.Statements.{statement_of}
+use Rattle.poets_command.specs.Calls.{command_of}
+use Rattle.poets_command.specs.Said.{Numbered}
+use Rattle.poets_command.specs.Statements.{statement_of}
 use Rattle.poets_recover.proofs.Saying.{handed_on, none-unnumbered, none-unread}
 use Rattle.poets_recover.proofs.reading.call_of.Goals as goal
 

@@ -2,7 +2,7 @@ use Rattle.std.proofs.Common.{◌≡◌, ◌+◌, ◌≤◌, length, drop, map, 
 use Rattle.std.specs.Prelude.{sum_by}
 use Rattle.poets_expr.specs.Env.{declared_of}
 use Rattle.poets_expr.specs.Expression.{expression_of}
-use Rattle.poets_syntax.specs.Residual.{argument_givens}
+use Rattle.poets_syntax.specs.Givens.{argument_givens}
 use Rattle.poets_norm.specs.Questions.{operated}
 use Rattle.poets_residue.proofs.bodies.argument_givens.Given as goal
 

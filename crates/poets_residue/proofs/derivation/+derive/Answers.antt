@@ -4,9 +4,9 @@ use Rattle.poets_expr.specs.Expression.{expression_of}
 use Rattle.poets_syntax.specs.Applied.{CountsFit}
 use Rattle.poets_syntax.specs.Book.{template_of, book_of}
 use Rattle.poets_syntax.specs.Contract.{Contract, Failure, Transmit, Plus, Par, Seq}
-use Rattle.poets_syntax.specs.Residual.{after}
-use Rattle.poets_syntax.specs.Studied.{marks_of}
-use Rattle.poets_syntax.specs.Width.{width}
+use Rattle.poets_meaning.specs.Studied.{marks_of}
+use Rattle.poets_meaning.specs.Width.{width}
+use Rattle.poets_calculus.specs.Residual.{after}
 use Rattle.poets_cons.specs.Notes.{noted}
 use Rattle.poets_cons.specs.Table.{contract_at}
 use Rattle.poets_cons.proofs.Standing.{extends_not, extends_twice}

@@ -1,9 +1,9 @@
 use Rattle.std.proofs.Common.{◌∙◌, [], refl, sym}
 use Rattle.poets_syntax.specs.Book.{book_of}
 use Rattle.poets_syntax.specs.Contract.{contract_of}
-use Rattle.poets_syntax.specs.Studied.{marks_of}
-use Rattle.poets_syntax.proofs.Nullability.{nullable_in, nullable_performed, EachExposed-fits}
-use Rattle.poets_syntax.proofs.StudiedMarks.{AreRight-studied}
+use Rattle.poets_meaning.specs.Studied.{marks_of}
+use Rattle.poets_meaning.proofs.Nullability.{nullable_in, nullable_performed, EachExposed-fits}
+use Rattle.poets_meaning.proofs.StudiedMarks.{AreRight-studied}
 use Rattle.poets_residue.proofs.endings.may_end.Goals as goal
 
 pub returns : goal.returns

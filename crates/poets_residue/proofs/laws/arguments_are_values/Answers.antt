@@ -1,6 +1,6 @@
 use Rattle.std.proofs.Common.{[], length}
-use Rattle.poets_syntax.specs.Residual.{residual_after}
 use Rattle.poets_syntax.proofs.TypingRules.{contract_passes, book_passes}
+use Rattle.poets_calculus.specs.Residual.{residual_after}
 use Rattle.poets_residue.proofs.ReadyArguments.{operated-literals, asked_of-literals, ready_literals}
 use Rattle.poets_residue.proofs.Traces.{trace_normal}
 use Rattle.poets_residue.proofs.TypedResiduals.{ContractPasses-residual_after}

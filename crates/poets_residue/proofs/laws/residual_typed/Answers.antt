@@ -1,6 +1,6 @@
 use Rattle.std.proofs.Common.{[], length}
-use Rattle.poets_syntax.specs.Residual.{after_at, after, residual_after}
 use Rattle.poets_syntax.proofs.TypingRules.{contract_typed, contract_passes, book_passes}
+use Rattle.poets_calculus.specs.Residual.{after_at, after, residual_after}
 use Rattle.poets_residue.proofs.TypedResiduals.{ContractPasses-after_at, ContractPasses-residual_after}
 use Rattle.poets_residue.proofs.laws.residual_typed.Goals as goal
 

@@ -1,4 +1,4 @@
-use Rattle.poets_syntax.specs.Residual.{after_at}
+use Rattle.poets_calculus.specs.Residual.{after_at}
 use Rattle.poets_norm.proofs.NormalForms.{normal_of_built, built_of_normal}
 use Rattle.poets_residue.proofs.Kept.{IsWellFormed-after_at, CountsFit-after_at, built-after_at}
 use Rattle.poets_residue.proofs.Relation.{IsWellFormed-After}

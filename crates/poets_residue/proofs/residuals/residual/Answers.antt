@@ -1,8 +1,8 @@
 use Rattle.std.proofs.Common.{◌∙◌, ap, sym, subst}
 use Rattle.poets_syntax.specs.Applied.{CountsFit}
 use Rattle.poets_syntax.specs.Book.{book_of}
-use Rattle.poets_syntax.specs.Residual.{after}
-use Rattle.poets_syntax.specs.Studied.{marks_of}
+use Rattle.poets_meaning.specs.Studied.{marks_of}
+use Rattle.poets_calculus.specs.Residual.{after}
 use Rattle.poets_residue.proofs.residuals.residual.Goals as goal
 
 pub residual_rows-requires : goal.residual_rows-requires

@@ -1,5 +1,5 @@
 use Rattle.std.proofs.Common.{arith}
-use Rattle.poets_syntax.proofs.Counting.{nodes_of_more}
+use Rattle.poets_meaning.proofs.Counting.{nodes_of_more}
 use Rattle.poets_residue.proofs.row_widths.less_args.Goals as goal
 
 pub loop-arg-preserved : goal.loop-arg-preserved

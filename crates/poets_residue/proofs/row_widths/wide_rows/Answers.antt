@@ -1,7 +1,7 @@
 use Rattle.std.proofs.Common.{◌≡◌, ◌∙◌, ap, arith}
 use Rattle.poets_syntax.specs.Book.{book_of, template_in}
-use Rattle.poets_syntax.specs.Studied.{marks_of}
-use Rattle.poets_syntax.specs.Width.{body_in, wide_by, width}
+use Rattle.poets_meaning.specs.Studied.{marks_of}
+use Rattle.poets_meaning.specs.Width.{body_in, wide_by, width}
 use Rattle.poets_norm.proofs.StudiedBooks.{width-studied}
 use Rattle.poets_cons.specs.Table.{contract_at, contract_of_rows}
 use Rattle.poets_residue.proofs.row_widths.wide_rows.Goals as goal

@@ -1,5 +1,5 @@
 use Rattle.std.proofs.Common.{◌≡◌, ◌∙◌, ap₂, subst}
-use Rattle.poets_syntax.specs.Normal.{plus, par}
+use Rattle.poets_calculus.specs.Normal.{plus, par}
 use Rattle.poets_cons.specs.Table.{contract_at, Stands}
 use Rattle.poets_cons.proofs.Reaching.{one_ok}
 use Rattle.poets_cons.proofs.Standing.{contract_at-later}

@@ -1,6 +1,6 @@
 use Rattle.std.proofs.Common.{arith, ap, ◌∙◌}
-use Rattle.poets_syntax.specs.Arguments.{arguments}
-use Rattle.poets_syntax.proofs.Arguments.{arguments-replace}
+use Rattle.poets_meaning.specs.Arguments.{arguments}
+use Rattle.poets_meaning.proofs.Arguments.{arguments-replace}
 use Rattle.poets_norm.specs.Questions.{questions}
 use Rattle.poets_norm.proofs.Asked.{questions-replace}
 use Rattle.poets_cons.specs.Table.{contract_at}

@@ -3,8 +3,8 @@ use Rattle.poets_expr.specs.Env.{declared_of}
 use Rattle.poets_expr.specs.Expression.{expression_of}
 use Rattle.poets_expr.specs.Val.{val}
 use Rattle.poets_syntax.specs.Book.{book_of, taken}
-use Rattle.poets_syntax.specs.Residual.{is_true}
-use Rattle.poets_syntax.specs.Studied.{marks_of}
+use Rattle.poets_meaning.specs.Truth.{is_true}
+use Rattle.poets_meaning.specs.Studied.{marks_of}
 use Rattle.poets_cons.specs.Table.{contract_at}
 use Rattle.poets_residue.proofs.Equations.{after-transmit}
 use Rattle.poets_residue.proofs.transmits.transmit_at.Goals as goal

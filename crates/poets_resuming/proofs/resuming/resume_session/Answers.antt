@@ -1,5 +1,5 @@
 use Rattle.std.proofs.Common.{◌≤◌, Err, [], arith, refl, sym, ◌∙◌, ap, subst}
-use Rattle.poets_call.specs.Calls.{history_of}
+use Rattle.poets_command.specs.Calls.{history_of}
 use Rattle.poets_disk.specs.Disks.{GoesOn}
 use Rattle.poets_disk.proofs.Moments.{goes_on}
 use Rattle.poets_journal.specs.Starts.{disk_of}

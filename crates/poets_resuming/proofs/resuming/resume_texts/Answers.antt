@@ -1,8 +1,8 @@
 use Rattle.std.proofs.Common.{[], All, arith, refl, sym, ◌∙◌, ap, subst}
 use Rattle.poets_lex.proofs.Readings.{reading-length}
-use Rattle.poets_call.specs.Calls.{Call, calls_of, history_of}
-use Rattle.poets_call.specs.Rules.{book_of_rules, reports_of_rules}
-use Rattle.poets_call.specs.Typing.{IsTypedCommand}
+use Rattle.poets_command.specs.Calls.{Call, calls_of, history_of}
+use Rattle.poets_command.specs.Typing.{IsTypedCommand}
+use Rattle.poets_rules.specs.Rules.{book_of_rules, reports_of_rules}
 use Rattle.poets_journal.specs.Journals.{texts_of}
 use Rattle.poets_making.specs.Noted.{AreScriptsTaken}
 use Rattle.poets_making.proofs.Fewness.{scripts_few-held}

@@ -2,10 +2,10 @@ use Rattle.std.proofs.Common.{rules, ◌≡◌, [], ◌∷◌, true, false, refl
 use Rattle.poets_expr.specs.Expression.{expression_of}
 use Rattle.poets_syntax.specs.Book.{book_of, template_of}
 use Rattle.poets_syntax.specs.Contract.{contract_of, Success, App, Plus, Par, Seq}
-use Rattle.poets_syntax.specs.Normal.{normal}
-use Rattle.poets_syntax.specs.Studied.{marks_of}
-use Rattle.poets_syntax.specs.Width.{width}
-use Rattle.poets_syntax.proofs.Nullability.{nullable_in, nullable_performed, EachExposed-fits}
+use Rattle.poets_meaning.specs.Studied.{marks_of}
+use Rattle.poets_meaning.specs.Width.{width}
+use Rattle.poets_meaning.proofs.Nullability.{nullable_in, nullable_performed, EachExposed-fits}
+use Rattle.poets_calculus.specs.Normal.{normal}
 use Rattle.poets_residue.proofs.Widths.{body-smaller, width-first, width-plus, width-par}
 use Rattle.poets_way.specs.Way.{Way}
 use Rattle.poets_way.specs.Way as W

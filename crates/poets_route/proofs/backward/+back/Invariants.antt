@@ -2,9 +2,9 @@ use Rattle.std.proofs.Common.{◌+◌, ◌*◌, map}
 use Rattle.poets_expr.specs.Expression.{expression_of}
 use Rattle.poets_syntax.specs.Book.{book_of}
 use Rattle.poets_syntax.specs.Contract.{contract_of, App, Par, Plus, Seq}
-use Rattle.poets_syntax.specs.Normal.{normal}
-use Rattle.poets_syntax.specs.Studied.{marks_of}
-use Rattle.poets_syntax.specs.Width.{width}
+use Rattle.poets_meaning.specs.Studied.{marks_of}
+use Rattle.poets_meaning.specs.Width.{width}
+use Rattle.poets_calculus.specs.Normal.{normal}
 use Rattle.poets_route.proofs.backward.+back.Given as goal
 
 abbrev pub decreases-back : goal.decreases-back

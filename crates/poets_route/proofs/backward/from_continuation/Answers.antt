@@ -1,7 +1,7 @@
 use Rattle.std.proofs.Common.{sym, subst}
 use Rattle.poets_syntax.specs.Book.{book_of}
 use Rattle.poets_syntax.specs.Contract.{contract_of}
-use Rattle.poets_syntax.specs.Residual.{event_givens}
+use Rattle.poets_syntax.specs.Givens.{event_givens}
 use Rattle.poets_syntax.specs.WellFormed.{IsWellFormed}
 use Rattle.poets_syntax.proofs.Givens.{HaveDeclaredNames-event}
 use Rattle.poets_syntax.proofs.WellFormedness.{IsWellFormed-replace}

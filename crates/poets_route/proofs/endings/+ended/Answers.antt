@@ -2,8 +2,8 @@ use Rattle.std.proofs.Common.{rules, ◌<◌, sym, ap, map, arith}
 use Rattle.poets_expr.specs.Expression.{expression_of}
 use Rattle.poets_syntax.specs.Book.{book_of, template_of}
 use Rattle.poets_syntax.specs.Contract.{contract_of}
-use Rattle.poets_syntax.specs.Studied.{marks_of}
-use Rattle.poets_syntax.specs.Width.{width}
+use Rattle.poets_meaning.specs.Studied.{marks_of}
+use Rattle.poets_meaning.specs.Width.{width}
 use Rattle.poets_residue.proofs.Widths.{width-plus}
 use Rattle.poets_way.specs.Trails.{way_at, sides_at}
 use Rattle.poets_way.specs.declared.node.Node.TheVariants as N

@@ -1,9 +1,9 @@
 use Rattle.std.proofs.Common.{[], refl, sym, subst}
 use Rattle.poets_syntax.specs.Book.{book_of}
 use Rattle.poets_syntax.specs.Contract.{contract_of}
-use Rattle.poets_syntax.specs.Perf.{Perf}
-use Rattle.poets_syntax.specs.Studied.{marks_of}
-use Rattle.poets_syntax.proofs.Granting.{May-Perf, Perf-May}
+use Rattle.poets_meaning.specs.Perf.{Perf}
+use Rattle.poets_meaning.specs.Studied.{marks_of}
+use Rattle.poets_meaning.proofs.Granting.{May-Perf, Perf-May}
 use Rattle.poets_cons.specs.Table.{contract_of_rows}
 use Rattle.poets_norm.proofs.Meaning.{normal_in}
 use Rattle.poets_residue.proofs.Studies.{IsStudied-book}

@@ -1,8 +1,8 @@
 use Rattle.std.proofs.Common.{[], append-nil, sym, subst}
 use Rattle.poets_syntax.specs.Applied.{CountsFit}
 use Rattle.poets_syntax.specs.Book.{book_of}
-use Rattle.poets_syntax.specs.Perf.{Perf}
-use Rattle.poets_syntax.specs.Studied.{marks_of}
+use Rattle.poets_meaning.specs.Perf.{Perf}
+use Rattle.poets_meaning.specs.Studied.{marks_of}
 use Rattle.poets_cons.specs.Table.{contract_of_rows}
 use Rattle.poets_way.specs.Trails.{way_at}
 use Rattle.poets_way.specs.Ways.{Ways}

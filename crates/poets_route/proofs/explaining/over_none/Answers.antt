@@ -1,8 +1,8 @@
 use Rattle.std.proofs.Common.{◌≡◌, true, refl, sym, subst}
 use Rattle.poets_syntax.specs.Book.{book_of}
-use Rattle.poets_syntax.specs.Marks.{nullable}
-use Rattle.poets_syntax.specs.Studied.{marks_of}
-use Rattle.poets_syntax.proofs.Nullability.{nullable_in}
+use Rattle.poets_meaning.specs.Marks.{nullable}
+use Rattle.poets_meaning.specs.Studied.{marks_of}
+use Rattle.poets_meaning.proofs.Nullability.{nullable_in}
 use Rattle.poets_route.proofs.explaining.over_none.Goals as goal
 
 pub ended-requires-clause-ends : goal.ended-requires-clause-ends

@@ -1,5 +1,5 @@
 use Rattle.poets_syntax.specs.Book.{book_of}
-use Rattle.poets_syntax.specs.Studied.{marks_of}
+use Rattle.poets_meaning.specs.Studied.{marks_of}
 use Rattle.poets_cons.specs.Table.{contract_of_rows}
 use Rattle.poets_way.specs.Trails.{way_at}
 use Rattle.poets_route.specs.code.Making.{Makes}

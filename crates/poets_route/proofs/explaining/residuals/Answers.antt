@@ -2,8 +2,8 @@ use Rattle.std.proofs.Common.{◌≡◌, arith, [], ◌∷◌, length, length-ap
 use Rattle.std.specs.List.{slice_get}
 use Rattle.poets_syntax.specs.Applied.{CountsFit}
 use Rattle.poets_syntax.specs.Book.{book_of}
-use Rattle.poets_syntax.specs.Residual.{after}
-use Rattle.poets_syntax.specs.Studied.{marks_of}
+use Rattle.poets_meaning.specs.Studied.{marks_of}
+use Rattle.poets_calculus.specs.Residual.{after}
 use Rattle.poets_cons.specs.Table.{contract_of_rows}
 use Rattle.poets_route.proofs.Through.{fit_through, residuals_more, through_next}
 use Rattle.poets_route.proofs.explaining.residuals.Goals as goal

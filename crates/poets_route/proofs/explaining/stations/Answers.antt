@@ -1,7 +1,7 @@
 use Rattle.std.proofs.Common.{◌≡◌, ◌+◌, ◌-◌, ◌*◌, ◌≤◌, arith, min, [], ◌∷◌, length, length-append, take, drop, sym, ap, subst, ◌∙◌}
 use Rattle.poets_syntax.specs.Applied.{CountsFit}
 use Rattle.poets_syntax.specs.Book.{book_of}
-use Rattle.poets_syntax.specs.Studied.{marks_of}
+use Rattle.poets_meaning.specs.Studied.{marks_of}
 use Rattle.poets_cons.specs.Table.{contract_of_rows}
 use Rattle.poets_route.specs.declared.explaining.TheConstants.{PIECE}
 use Rattle.poets_route.specs.code.Through.{through, AreStations}

@@ -2,7 +2,7 @@ use Rattle.std.proofs.Common.{◌-◌, length, take, drop, sym, ap, subst, ◌�
 use Rattle.std.proofs.lemmas.List.{take_all, take_rest}
 use Rattle.poets_syntax.specs.Applied.{CountsFit}
 use Rattle.poets_syntax.specs.Book.{book_of}
-use Rattle.poets_syntax.specs.Studied.{marks_of}
+use Rattle.poets_meaning.specs.Studied.{marks_of}
 use Rattle.poets_cons.specs.Table.{contract_of_rows}
 use Rattle.poets_route.specs.code.Through.{through}
 use Rattle.poets_route.proofs.Through.{drop_next, fit_through, fits_next}

@@ -2,8 +2,8 @@ use Rattle.std.proofs.Common.{rules, ◌≡◌, refl, sym, ap, ◌∙◌, ◌+�
 use Rattle.poets_expr.specs.Expression.{expression_of}
 use Rattle.poets_syntax.specs.Book.{book_of}
 use Rattle.poets_syntax.specs.Contract.{contract_of, Success, Plus, Par, Seq}
-use Rattle.poets_syntax.specs.Studied.{marks_of}
-use Rattle.poets_syntax.specs.Width.{size}
+use Rattle.poets_meaning.specs.Studied.{marks_of}
+use Rattle.poets_meaning.specs.Width.{size}
 use Rattle.poets_norm.specs.code.Grouping.{beside_parts}
 use Rattle.poets_way.specs.Way.{Way}
 use Rattle.poets_way.specs.Way as W

@@ -1,6 +1,6 @@
 use Rattle.std.proofs.Common.{◌+◌, ◌*◌}
 use Rattle.poets_syntax.specs.Contract.{contract_of, Par, Plus, Seq}
-use Rattle.poets_syntax.specs.Width.{size}
+use Rattle.poets_meaning.specs.Width.{size}
 use Rattle.poets_route.proofs.undoing.+undone.Given as goal
 
 abbrev pub decreases-undone : goal.decreases-undone

@@ -1,6 +1,6 @@
 use Rattle.std.proofs.Common.{sym, subst}
-use Rattle.poets_call.specs.Statements.{statements_of}
-use Rattle.poets_call.specs.TypedStatements.{first_fault}
+use Rattle.poets_command.specs.Statements.{statements_of}
+use Rattle.poets_command.specs.TypedStatements.{first_fault}
 use Rattle.poets_session.specs.code.Checking.{IsTypeRefusal}
 use Rattle.poets_session.specs.Causes.{IsCauseOf}
 use Rattle.poets_session.proofs.Typing.{type_told}

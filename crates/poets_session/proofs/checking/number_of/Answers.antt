@@ -1,8 +1,8 @@
 use Rattle.std.proofs.Common.{◌≡◌, All, false, sym, subst}
 use Rattle.std.proofs.lemmas.List.{take_all}
 use Rattle.std.proofs.lemmas.List.Elements.{All-nil, All-more}
-use Rattle.poets_call.specs.Statements.{statement_of}
-use Rattle.poets_call.specs.declared.statement.Statement.{Statement}
+use Rattle.poets_command.specs.Statements.{statement_of}
+use Rattle.poets_command.specs.declared.statement.Statement.{Statement}
 use Rattle.poets_session.specs.code.Checking.{declares}
 use Rattle.poets_session.proofs.Cycling.{template_at}
 use Rattle.poets_session.proofs.checking.number_of.Goals as goal

@@ -1,6 +1,6 @@
 use Rattle.std.proofs.Common.{◌≡◌, All, false, take}
-use Rattle.poets_call.specs.Statements.{statement_of}
-use Rattle.poets_call.specs.declared.statement.Statement.{Statement}
+use Rattle.poets_command.specs.Statements.{statement_of}
+use Rattle.poets_command.specs.declared.statement.Statement.{Statement}
 use Rattle.poets_session.specs.code.Checking.{declares}
 use Rattle.poets_session.proofs.checking.number_of.Given as goal
 

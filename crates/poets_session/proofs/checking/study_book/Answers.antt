@@ -1,6 +1,6 @@
 use Rattle.poets_syntax.specs.Book.{book_of}
-use Rattle.poets_call.specs.Statements.{statements_of}
-use Rattle.poets_call.specs.Declarations.{book_from}
+use Rattle.poets_command.specs.Statements.{statements_of}
+use Rattle.poets_command.specs.Declarations.{book_from}
 use Rattle.poets_session.proofs.Cycling.{cycle_declared, cycle_told, unguarded_cycle}
 use Rattle.poets_session.proofs.checking.study_book.Goals as goal
 

@@ -1,5 +1,5 @@
 use Rattle.std.proofs.Common.{◌+◌, Some, refl, ap, ◌∙◌, arith, take, drop}
-use Rattle.poets_call.specs.Statements.{statement_of, statements_of}
+use Rattle.poets_command.specs.Statements.{statement_of, statements_of}
 use Rattle.poets_session.specs.Places.{Misplaced, TooMany}
 use Rattle.poets_session.proofs.Placing.{placed_more, misplaced, too_many, before_length, at_place, past_place}
 use Rattle.poets_session.proofs.counting.check_places.Goals as goal

@@ -1,6 +1,6 @@
 use Rattle.std.proofs.Common.{◌≤◌, take, drop}
 use Rattle.poets_value.specs.Limits.{most_clerks}
-use Rattle.poets_call.specs.Statements.{statements_of}
+use Rattle.poets_command.specs.Statements.{statements_of}
 use Rattle.poets_session.specs.Places.{most_templates, most_reports, most_commands}
 use Rattle.poets_session.proofs.Placing.{Placed}
 use Rattle.poets_session.proofs.counting.check_places.Given as goal

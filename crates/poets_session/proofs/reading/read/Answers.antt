@@ -1,4 +1,4 @@
-use Rattle.poets_call.specs.Statements.{statements_of}
+use Rattle.poets_command.specs.Statements.{statements_of}
 use Rattle.poets_session.proofs.Refusing.{unreadable_refused, fault_refused}
 use Rattle.poets_session.proofs.reading.read.Goals as goal
 

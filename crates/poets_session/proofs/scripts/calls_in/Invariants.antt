@@ -1,5 +1,5 @@
 use Rattle.std.proofs.Common.{◌≡◌}
-use Rattle.poets_call.specs.Statements.{statements_of}
+use Rattle.poets_command.specs.Statements.{statements_of}
 use Rattle.poets_session.specs.Sessions.{scripts_of, commands_in, journal_of, calls_in}
 use Rattle.poets_session.proofs.scripts.calls_in.Given as goal
 

@@ -2,7 +2,7 @@ use Rattle.std.proofs.Common.{◌+◌, ◌∷◌, [], length, sym, ap, ◌∙◌
 use Rattle.std.proofs.lemmas.List.{map-append, length-append, length-map}
 use Rattle.std.proofs.lemmas.Result.{err_from_is_err_and}
 use Rattle.poets_grammar.specs.Tokens.{toks}
-use Rattle.poets_call.specs.Statements.{statement_of, statements_of}
+use Rattle.poets_command.specs.Statements.{statement_of, statements_of}
 use Rattle.poets_session.specs.Pieces.{pieces_of}
 use Rattle.poets_session.specs.code.Splitting.{piece}
 use Rattle.poets_session.specs.Refusals.{IsUnread}

@@ -1,6 +1,6 @@
 use Rattle.std.proofs.Common.{◌+◌, ◌≤◌, length}
 use Rattle.poets_grammar.specs.Tokens.{toks, AreNatural}
-use Rattle.poets_call.specs.Statements.{statements_of}
+use Rattle.poets_command.specs.Statements.{statements_of}
 use Rattle.poets_session.specs.Pieces.{pieces_of}
 use Rattle.poets_session.proofs.Saying.{Standing}
 use Rattle.poets_session.proofs.splitting.statements.Given as goal

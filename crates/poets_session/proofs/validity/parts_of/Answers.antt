@@ -1,7 +1,7 @@
 use Rattle.std.proofs.Common.{◌≡◌, Some, None, subst}
 use Rattle.std.proofs.lemmas.Result.{err_from_is_err_and}
-use Rattle.poets_call.specs.Statements.{statements_of}
-use Rattle.poets_call.specs.TypedStatements.{first_fault}
+use Rattle.poets_command.specs.Statements.{statements_of}
+use Rattle.poets_command.specs.TypedStatements.{first_fault}
 use Rattle.poets_session.specs.Places.{place_fault}
 use Rattle.poets_session.specs.code.Counting.{fault_of}
 use Rattle.poets_session.specs.code.Checking.{IsTypeRefusal, IsGuardRefusal}

@@ -1,6 +1,6 @@
 use Rattle.poets_syntax.proofs.Typedness.{ApplicationsFit-typed}
 use Rattle.poets_syntax.proofs.TypingRules.{contract_passes, BodiesFit-typed}
-use Rattle.poets_syntax.proofs.Nullability.{CountsFit-fit}
+use Rattle.poets_syntax.proofs.Counts.{CountsFit-fit}
 use Rattle.poets_syntax.proofs.laws.typed_applications_fit.Goals as goal
 
 pub returns : goal.returns

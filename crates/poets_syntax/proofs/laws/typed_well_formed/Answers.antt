@@ -1,6 +1,6 @@
 use Rattle.poets_syntax.proofs.Typedness.{ApplicationsFit-typed, IsWellFormed-typed}
 use Rattle.poets_syntax.proofs.TypingRules.{contract_passes}
-use Rattle.poets_syntax.proofs.Nullability.{CountsFit-fit}
+use Rattle.poets_syntax.proofs.Counts.{CountsFit-fit}
 use Rattle.poets_syntax.proofs.laws.typed_well_formed.Goals as goal
 
 pub returns : goal.returns

@@ -3,7 +3,7 @@ use Rattle.std.specs.Prelude.{string_bytes}
 use Rattle.std.proofs.lemmas.List.{length-map}
 use Rattle.poets_syntax.specs.Book.{template_of}
 use Rattle.poets_report.specs.Reports.{report_of}
-use Rattle.poets_call.specs.Declarations.{book_from, reports_of}
+use Rattle.poets_command.specs.Declarations.{book_from, reports_of}
 use Rattle.poets_top.specs.Checking.{book_line}
 use Rattle.poets_top.proofs.checking.book_text.Goals as goal
 

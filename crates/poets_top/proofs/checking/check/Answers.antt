@@ -1,5 +1,5 @@
 use Rattle.std.proofs.Common.{◌≡◌, refl, ◌∙◌, ap}
-use Rattle.poets_call.specs.Calls.{history_of}
+use Rattle.poets_command.specs.Calls.{history_of}
 use Rattle.poets_top.specs.Checking.{book_text}
 use Rattle.poets_top.specs.Runs.{IsAnswerTo}
 use Rattle.poets_words.specs.declared.mode.Task.TheVariants as T

@@ -1,5 +1,5 @@
 use Rattle.std.proofs.Common.{refl, sym, ap, subst}
-use Rattle.poets_call.specs.Calls.{history_of}
+use Rattle.poets_command.specs.Calls.{history_of}
 use Rattle.poets_top.specs.Demonstrating.{IsDemonstrated, IsDemonstration}
 use Rattle.poets_writing.proofs.Written.{IsWritten-nothing, IsWritten-outcome}
 use Rattle.poets_top.proofs.demonstrating.demonstrate.Goals as goal

@@ -1,6 +1,6 @@
 use Rattle.std.proofs.Common.{◌≡◌, ◌≤◌, length, sym, ◌∙◌, ap, subst}
 use Rattle.poets_value.specs.Limits.{longest_text}
-use Rattle.poets_call.specs.Calls.{history_of}
+use Rattle.poets_command.specs.Calls.{history_of}
 use Rattle.poets_demo.specs.Line.{demo_line}
 use Rattle.poets_demo.specs.Text.{demo_text}
 use Rattle.poets_session.specs.declared.form.Form.TheVariants as F

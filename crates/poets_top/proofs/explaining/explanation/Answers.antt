@@ -2,8 +2,8 @@ use Rattle.std.proofs.Common.{◌≡◌, Some, None, sym, ◌∙◌, ap, subst}
 use Rattle.std.specs.Prelude.{IfSome, option_map}
 use Rattle.std.proofs.lemmas.Result.{IfOk-weaker}
 use Rattle.poets_lex.specs.Table.{place_of}
-use Rattle.poets_call.specs.Ledger.{ledger_of}
-use Rattle.poets_call.specs.Rules.{reports_of_rules}
+use Rattle.poets_rules.specs.Rules.{reports_of_rules}
+use Rattle.poets_history.specs.Ledger.{ledger_of}
 use Rattle.poets_engine.specs.Accounts.{Accounts, IsFormedAccount}
 use Rattle.poets_print.specs.Texts.{IsText}
 use Rattle.poets_top.specs.Explaining.{Explains, absent_line}

@@ -1,5 +1,5 @@
 use Rattle.std.proofs.Common.{subst}
-use Rattle.poets_call.specs.Calls.{history_of}
+use Rattle.poets_command.specs.Calls.{history_of}
 use Rattle.poets_writing.specs.Writing.{IsWritten, change, stream}
 use Rattle.poets_top.specs.Runs.{IsAnswerTo}
 use Rattle.poets_top.proofs.Endings.{IsEnding-answered, IsEnding-not_two, IsEnding-unread, IsSessionOf-opened}

@@ -1,6 +1,6 @@
 use Rattle.std.proofs.Common.{map, refl, ap}
 use Rattle.std.specs.Prelude.{string_bytes}
-use Rattle.poets_call.specs.Calls.{history_of}
+use Rattle.poets_command.specs.Calls.{history_of}
 use Rattle.poets_top.specs.Runs.{Ends}
 use Rattle.poets_writing.specs.Writing.{stream}
 use Rattle.poets_words.specs.declared.mode.Mode.TheVariants as M

@@ -1,5 +1,5 @@
 use Rattle.std.proofs.Common.{refl, sym, ◌∙◌, ap, subst}
-use Rattle.poets_call.specs.Calls.{history_of}
+use Rattle.poets_command.specs.Calls.{history_of}
 use Rattle.poets_session.specs.Sessions.{calls_in, journal_of}
 use Rattle.poets_session.proofs.LawsFitting.{read_written, journal_written}
 use Rattle.poets_top.specs.Runs.{IsAnswerTo}

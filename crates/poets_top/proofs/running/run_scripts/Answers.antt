@@ -1,5 +1,5 @@
 use Rattle.std.proofs.Common.{refl, ap}
-use Rattle.poets_call.specs.Calls.{history_of}
+use Rattle.poets_command.specs.Calls.{history_of}
 use Rattle.poets_session.specs.declared.form.Form.TheVariants as F
 use Rattle.poets_top.specs.Runs.{IsAnswerTo}
 use Rattle.poets_words.specs.declared.mode.Task.TheVariants as T

@@ -1,4 +1,4 @@
-use Rattle.poets_call.specs.Statements.{statements_of}
+use Rattle.poets_command.specs.Statements.{statements_of}
 use Rattle.poets_types.proofs.CheckedBooks.{IsCheckedBook-none}
 use Rattle.poets_types.proofs.book.check_book.Goals as goal
 

@@ -1,7 +1,7 @@
 use Rattle.std.proofs.Common.{◌≡◌, ◌+◌, map, drop}
 use Rattle.poets_report.specs.Reports.{report_of}
-use Rattle.poets_call.specs.Statements.{statements_of}
-use Rattle.poets_call.specs.TypedStatements.{mistyped_from}
+use Rattle.poets_command.specs.Statements.{statements_of}
+use Rattle.poets_command.specs.TypedStatements.{mistyped_from}
 use Rattle.poets_types.specs.code.Indices.{book_in}
 use Rattle.poets_types.proofs.book.check_statements.Given as goal
 

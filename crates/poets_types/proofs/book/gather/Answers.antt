@@ -2,8 +2,8 @@ use Rattle.std.proofs.Common.{◌++◌, List, sym, ap, ◌∙◌}
 use Rattle.std.proofs.lemmas.List.{take_all}
 use Rattle.poets_syntax.specs.Plain.{Template}
 use Rattle.poets_report.specs.Plain.{Report}
-use Rattle.poets_call.specs.Statements.{statement_of}
-use Rattle.poets_call.specs.Declarations.{template_in_statement, report_in_statement}
+use Rattle.poets_command.specs.Statements.{statement_of}
+use Rattle.poets_command.specs.Declarations.{template_in_statement, report_in_statement}
 use Rattle.poets_types.proofs.Declaring.{flat_map-more, declared_by-more, same_books}
 use Rattle.poets_types.proofs.book.gather.Goals as goal
 

@@ -3,8 +3,8 @@ use Rattle.poets_value.specs.declared.value.Name.{Name}
 use Rattle.poets_expr.specs.Env.{declared_of}
 use Rattle.poets_syntax.specs.Book.{template_of}
 use Rattle.poets_report.specs.Reports.{report_of}
-use Rattle.poets_call.specs.Statements.{statements_of}
-use Rattle.poets_call.specs.Declarations.{book_from, reports_of}
+use Rattle.poets_command.specs.Statements.{statements_of}
+use Rattle.poets_command.specs.Declarations.{book_from, reports_of}
 use Rattle.poets_types.proofs.book.gather.Given as goal
 
 -- what the statements so far declare

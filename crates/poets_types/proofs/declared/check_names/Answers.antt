@@ -6,8 +6,8 @@ use Rattle.poets_value.specs.Names.{name_cmp}
 use Rattle.poets_expr.specs.Env.{same_name}
 use Rattle.poets_syntax.specs.TypeOf.{Verdict, Passes}
 use Rattle.poets_syntax.specs.Typed.{is_among, check_new}
-use Rattle.poets_call.specs.Statements.{statement_of, statements_of}
-use Rattle.poets_call.specs.Declarations.{names_declared}
+use Rattle.poets_command.specs.Statements.{statement_of, statements_of}
+use Rattle.poets_command.specs.Declarations.{names_declared}
 use Rattle.poets_types.specs.Faults.{IsFaultOf}
 use Rattle.poets_types.proofs.Twice.{names_before, names_before-more, twice_from-more, check_new-same, first_here}
 use Rattle.poets_types.proofs.declared.check_names.Goals as goal

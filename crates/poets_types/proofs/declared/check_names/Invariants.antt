@@ -3,8 +3,8 @@ use Rattle.std.specs.BTreeSet.{contains}
 use Rattle.poets_value.specs.declared.value.Name.{Name}
 use Rattle.poets_value.specs.Names.{name_cmp}
 use Rattle.poets_syntax.specs.Typed.{is_among}
-use Rattle.poets_call.specs.Statements.{statements_of}
-use Rattle.poets_call.specs.TypedStatements.{twice_from}
+use Rattle.poets_command.specs.Statements.{statements_of}
+use Rattle.poets_command.specs.TypedStatements.{twice_from}
 use Rattle.poets_types.proofs.Twice.{names_before}
 use Rattle.poets_types.proofs.declared.check_names.Given as goal
 

@@ -4,7 +4,7 @@ use Rattle.poets_expr.specs.Expression.{expression_of}
 use Rattle.poets_syntax.specs.TypeOf.{Passes}
 use Rattle.poets_syntax.specs.Typed.{in_use, check_new, check_type, names_bound, types_bound}
 use Rattle.poets_report.specs.Reports.{report_of}
-use Rattle.poets_call.specs.TypedStatements.{check_key}
+use Rattle.poets_command.specs.TypedStatements.{check_key}
 use Rattle.poets_types.specs.code.Answers.{answer_of}
 use Rattle.poets_types.specs.code.Indices.{book_in, reports_in}
 use Rattle.poets_types.specs.code.Scopes.{names_in}

@@ -1,7 +1,7 @@
 use Rattle.std.proofs.Common.{Err, refl, inl, inr, ap, subst}
 use Rattle.std.specs.Io.KnownBytes.{Appends}
 use Rattle.poets_io.specs.Streams.{AppendsPart}
-use Rattle.poets_call.specs.Calls.{history_of}
+use Rattle.poets_command.specs.Calls.{history_of}
 use Rattle.poets_print.specs.Lines.{history_text}
 use Rattle.poets_writing.proofs.Lines.{AppendsPart-some}
 use Rattle.poets_writing.proofs.writing.write.Goals as goal

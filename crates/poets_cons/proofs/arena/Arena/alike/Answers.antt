@@ -1,6 +1,6 @@
 use Rattle.std.proofs.Common.{◌∙◌, arith, ap, sym, subst, refl, length, slice_get}
 use Rattle.std.proofs.lemmas.Bool.{false≢true}
-use Rattle.poets_syntax.proofs.Multisets.{Alike-refl}
+use Rattle.poets_calculus.proofs.Multisets.{Alike-refl}
 use Rattle.poets_cons.specs.Table.{contract_at, AreAlikeAt}
 use Rattle.poets_cons.proofs.Alikeness.{as_many_forms, not_alike}
 use Rattle.poets_cons.proofs.arena.Arena.alike.Goals as goal

@@ -4,7 +4,7 @@ use Rattle.std.specs.Prelude.{IfSome}
 use Rattle.std.proofs.lemmas.List.Elements.{All-push}
 use Rattle.poets_report.specs.declared.report.Report.{Report}
 use Rattle.poets_report.specs.Reports.{report_of}
-use Rattle.poets_call.specs.Rules.{reports_of_rules}
+use Rattle.poets_rules.specs.Rules.{reports_of_rules}
 use Rattle.poets_engine.specs.Copies.{AreReports, IsReport}
 use Rattle.poets_engine.proofs.Copied.{copy_named}
 use Rattle.poets_engine.proofs.copies.Copies.report.Goals as goal

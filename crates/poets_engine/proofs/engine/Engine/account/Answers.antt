@@ -1,7 +1,7 @@
 use Rattle.std.proofs.Common.{subst}
 use Rattle.std.specs.Prelude.{IfOk}
 use Rattle.std.proofs.lemmas.Result.{IfOk-weaker}
-use Rattle.poets_call.specs.Ledger.{ledger_of}
+use Rattle.poets_history.specs.Ledger.{ledger_of}
 use Rattle.poets_engine.specs.Accounts.{AccountsAfterCalls, HasFormedAccount}
 use Rattle.poets_engine.specs.State.{commands_of, plain_calls}
 use Rattle.poets_engine.proofs.Accounted.{accounted_after}

@@ -1,8 +1,8 @@
 use Rattle.std.proofs.Common.{◌≡◌, ◌++◌, ◌∷◌, [], length, sym, ◌∙◌, ap, subst}
 use Rattle.std.specs.Arc.{arc_value}
-use Rattle.poets_call.specs.Calls.{command_of}
-use Rattle.poets_call.specs.Ledger.{ledger_of}
-use Rattle.poets_call.specs.Rules.{book_of_rules, reports_of_rules}
+use Rattle.poets_command.specs.Calls.{command_of}
+use Rattle.poets_rules.specs.Rules.{book_of_rules, reports_of_rules}
+use Rattle.poets_history.specs.Ledger.{ledger_of}
 use Rattle.poets_engine.specs.declared.kept.Kept.{Kept}
 use Rattle.poets_engine.specs.State.{commands_of, plain_calls, OwesNext}
 use Rattle.poets_engine.specs.Rows.{Stands}

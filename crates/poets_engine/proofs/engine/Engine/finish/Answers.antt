@@ -1,6 +1,6 @@
 use Rattle.std.proofs.Common.{map, sym, subst}
-use Rattle.poets_call.specs.Plain.{Reply}
-use Rattle.poets_call.specs.Calls.{folio_row_of}
+use Rattle.poets_command.specs.Plain.{Reply}
+use Rattle.poets_command.specs.Calls.{folio_row_of}
 use Rattle.poets_engine.specs.State.{Fulfils}
 use Rattle.poets_engine.proofs.Folios.{folio_fulfils}
 use Rattle.poets_engine.proofs.engine.Engine.finish.Goals as goal

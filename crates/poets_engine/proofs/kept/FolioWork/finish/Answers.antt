@@ -5,8 +5,8 @@ use Rattle.std.specs.List.{AllZip}
 use Rattle.poets_expr.specs.Env.{declared_of}
 use Rattle.poets_report.specs.Reports.{report_of}
 use Rattle.poets_folio.specs.Rows.{IsRow}
-use Rattle.poets_call.specs.Calls.{folio_row_of}
-use Rattle.poets_call.specs.Replies.{total_of}
+use Rattle.poets_command.specs.Calls.{folio_row_of}
+use Rattle.poets_command.specs.Totals.{total_of}
 use Rattle.poets_engine.proofs.kept.FolioWork.finish.Goals as goal
 
 pub returns-clause-rows : goal.returns-clause-rows

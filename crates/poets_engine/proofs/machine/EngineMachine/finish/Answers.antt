@@ -1,6 +1,6 @@
 use Rattle.std.proofs.lemmas.Result.{IfOk-weaker}
-use Rattle.poets_call.specs.Calls.{command_of, reply_of}
-use Rattle.poets_call.specs.Rules.{book_of_rules, reports_of_rules}
+use Rattle.poets_command.specs.Calls.{command_of, reply_of}
+use Rattle.poets_rules.specs.Rules.{book_of_rules, reports_of_rules}
 use Rattle.poets_engine.specs.State.{Fulfils, plain_calls}
 use Rattle.poets_engine.proofs.machine.EngineMachine.finish.Goals as goal
 

@@ -1,7 +1,7 @@
 use Rattle.std.proofs.Common.{◌≡◌, ◌++◌, ◌∙◌, ℕ, List, ap, subst, append_assoc, string_bytes}
 use Rattle.std.specs.Prelude.{IfOk, codes}
 use Rattle.std.specs.Fmt.{decimal}
-use Rattle.poets_call.specs.Calls.{command_of}
+use Rattle.poets_command.specs.Calls.{command_of}
 use Rattle.poets_print.specs.Lines.{command_text}
 use Rattle.poets_stored.specs.Stored.{stored_text}
 use Rattle.poets_stored.proofs.put.CommandPutPutCommand.put.Goals as goal

@@ -5,7 +5,7 @@ use Rattle.poets_expr.specs.Expression.{expression_of}
 use Rattle.poets_expr.specs.Val.{val}
 use Rattle.poets_syntax.specs.Book.{book_of, taken}
 use Rattle.poets_syntax.specs.Contract.{contract_of, Transmit}
-use Rattle.poets_syntax.specs.Residual.{is_true}
+use Rattle.poets_meaning.specs.Truth.{is_true}
 use Rattle.poets_way.specs.Moves as M
 use Rattle.poets_way.specs.declared.goals.Open.{Open}
 use Rattle.poets_way.specs.code.Goals.{Adds, Follows}

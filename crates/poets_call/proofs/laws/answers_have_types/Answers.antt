@@ -1,5 +1,0 @@
-use Rattle.poets_call.proofs.AnswerTypes.{answers_have_types}
-use Rattle.poets_call.proofs.laws.answers_have_types.Goals as goal
-
-pub returns : goal.returns
-returns c = answers_have_types

@@ -1,5 +1,0 @@
-use Rattle.poets_call.proofs.Gathering.{ledger_is_gathered}
-use Rattle.poets_call.proofs.laws.ledger_is_gathered.Goals as goal
-
-pub returns : goal.returns
-returns c = ledger_is_gathered

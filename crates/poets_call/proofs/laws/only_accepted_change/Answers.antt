@@ -1,5 +1,0 @@
-use Rattle.poets_call.proofs.Accepting.{only_accepted_change}
-use Rattle.poets_call.proofs.laws.only_accepted_change.Goals as goal
-
-pub returns : goal.returns
-returns c = only_accepted_change

@@ -1,5 +1,0 @@
-use Rattle.poets_call.proofs.TypedCommands.{typed_report}
-use Rattle.poets_call.proofs.laws.typed_report.Goals as goal
-
-pub returns : goal.returns
-returns c = typed_report

@@ -1,0 +1,5 @@
+pub mod TypingRules
+pub mod TypedCommands
+pub mod Reports
+pub mod Crossing
+pub mod AnswerTypes

@@ -1,0 +1,12 @@
+pub mod Plain
+pub mod Calls
+pub mod Reports
+pub mod Totals
+pub mod Laws
+pub mod Said
+pub mod Statements
+pub mod Declarations
+pub mod TypedStatements
+pub mod Typing
+pub mod Taken
+pub mod AnswerTypes

@@ -1,5 +1,0 @@
-use Rattle.std.proofs.Common.{◌≡◌}
-use Rattle.poets_counting.proofs.counted.Given as goal
-
-abbrev pub invariant-loop-clerk : goal.invariant-loop-clerk
-invariant-loop-clerk g l = l.back.items ≡ l.yielded

@@ -1,0 +1,15 @@
+pub mod Lists
+pub mod Counting
+pub mod Granting
+pub mod Saying
+pub mod Replacing
+pub mod Arguments
+pub mod Shapes
+pub mod Nullability
+pub mod Inversions
+pub mod Guarding
+pub mod Ahead
+pub mod Unfolded
+pub mod StudiedMarks
+pub mod Found
+pub mod Interleavings

@@ -1,0 +1,17 @@
+pub mod Between
+pub mod Perf
+pub mod May
+pub mod Shape
+pub mod Marks
+pub mod Laws
+pub mod Truth
+pub mod Exposed
+pub mod Width
+pub mod Subterms
+pub mod Spread
+pub mod Arguments
+pub mod NoTemplates
+pub mod Guarded
+pub mod Studied
+pub mod InStudied
+pub mod StudiedLaws

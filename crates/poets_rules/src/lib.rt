@@ -1,0 +1,6 @@
+//! A studied book and its reports.
+#![tactic(auto)]
+
+mod rules;
+
+pub use rules::Rules;

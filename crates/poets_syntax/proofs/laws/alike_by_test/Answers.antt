@@ -1,5 +1,0 @@
-use Rattle.poets_syntax.proofs.AlikeTests.{alike_iff}
-use Rattle.poets_syntax.proofs.laws.alike_by_test.Goals as goal
-
-pub returns : goal.returns
-returns c = alike_iff
