@@ -6,10 +6,10 @@ ghost use Rattle.std.specs.Prelude.{◌≡◌, ◌<◌, ◌≤◌, length, All, 
 ghost use Rattle.std.specs.Thread.{IsSync};
 ghost use Rattle.std.specs.Arc.{arc_value};
 ghost use Rattle.poets_value.specs.Limits.{most_clerks};
-ghost use Rattle.poets_machine.specs.code.Adders.{most_of};
+ghost use Rattle.poets_test_adder.specs.code.Adders.{most_of};
 ghost use Rattle.poets_turn.specs.Clerks.{AreNumbered, IsClerkOf, clerk_count, number, turn_frame};
 
-use poets_machine::Adder;
+use poets_test_adder::Adder;
 use poets_turn::{Clerk, Turn};
 use poets_value::{List, MOST_CLERKS, Memory, push};
 use std::alloc::Global;

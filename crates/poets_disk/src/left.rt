@@ -5,8 +5,8 @@ ghost use Rattle.poets_disk.specs.Memory.{held_by, WasSynced, IsFilled};
 ghost use Rattle.poets_disk.specs.Kept.{calls_of};
 ghost use Rattle.poets_disk.specs.code.Marks.{AreKept, AreSplitAt, marked};
 
-use crate::bytes::copied;
 use crate::memory::{Mark, overwrite};
+use poets_io::copied;
 use poets_value::{LONGEST_TEXT, List, Memory};
 use std::alloc::Global;
 

@@ -2,7 +2,6 @@
 //! `poets.journal` of the current folder.
 #![tactic(auto)]
 
-mod bytes;
 mod disk;
 mod file;
 pub mod laws;

@@ -7,9 +7,8 @@ ghost use Rattle.poets_disk.specs.Disks.{over};
 ghost use Rattle.poets_disk.specs.declared.memory.TheConstants.{MOST_CALLS};
 
 use crate::Disk;
-use crate::bytes::copied;
 use crate::left::{filled_image, synced_image, with_room};
-use poets_io::Failed;
+use poets_io::{Failed, copied};
 use poets_value::{LONGEST_TEXT, List, Memory};
 use std::alloc::Global;
 use std::marker::Model;

@@ -8,8 +8,8 @@ use Rattle.poets_command.specs.Plain.{Entry}
 use Rattle.poets_command.specs.Calls.{Call, calls_of, own_calls, own}
 use Rattle.poets_history.specs.Ledger.{ledger_of, with_entry, empty_ledger}
 use Rattle.poets_history.specs.Frame.{Frame}
-use Rattle.poets_history.specs.Replies.{Replies, Legal}
-use Rattle.poets_history.specs.Laws.{OneHistory}
+use Rattle.poets_history.specs.Replies.{Replies, Legal, Answers}
+use Rattle.poets_history.specs.Laws.{OneHistory, OneAnswer}
 use Rattle.poets_history.proofs.OneReplies.{one_reply}
 
 pub ledger_last : (h : List Entry) (e : Entry) → ledger_of (h ++ e ∷ []) ≡ with_entry (ledger_of h) e.command e.reply
@@ -80,6 +80,11 @@ history_one f (Legal.More {h = h} e g r) (Legal.More {h = h'} e' g' r') k =
 
 pub one_history : OneHistory
 one_history f h h' g g' e = history_one f g g' e
+
+pub one_answer : OneAnswer
+one_answer f calls command r r' a a' =
+    let before : a.history ≡ a'.history = history_one f a.legal a'.legal (a.same ∙ sym a'.same) in
+    one_reply f (ledger_of a'.history) command r r' (subst (λ h. Replies f (ledger_of h) command r) before a.reply) a'.reply
 
 -- a list has a last item, or is empty
 abbrev HasLast : {A : Type 0} → List A → Type 0

@@ -21,6 +21,11 @@ OnlyAcceptedChange = (ledger : Ledger) (command : Command) (r : Reply) →
 abbrev pub OneHistory : Type 0
 OneHistory = (f : Frame) (h h' : List Entry) → Legal f h → Legal f h' → calls_of h ≡ calls_of h' → h ≡ h'
 
+-- after given calls a command has at most one reply
+abbrev pub OneAnswer : Type 0
+OneAnswer = (f : Frame) (calls : List Call) (command : Command) (r r' : Reply) →
+    Answers f calls command r → Answers f calls command r' → r ≡ r'
+
 -- a history that is legal in one frame is legal in each other one with the same book and reports
 abbrev pub OneFrame : Type 0
 OneFrame = (f f' : Frame) (h : List Entry) → f.book ≡ f'.book → f.reports ≡ f'.reports → Legal f h → Legal f' h

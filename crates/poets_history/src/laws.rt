@@ -1,6 +1,6 @@
 //! Laws of replies, each carried by a function that does nothing.
 ghost use Rattle.poets_history.specs.Gathered.{LedgerIsGathered};
-ghost use Rattle.poets_history.specs.Laws.{OneReply, OnlyAcceptedChange, OneHistory, OneFrame, AnyFrame, AnyFrameAnswers};
+ghost use Rattle.poets_history.specs.Laws.{OneReply, OnlyAcceptedChange, OneHistory, OneAnswer, OneFrame, AnyFrame, AnyFrameAnswers};
 
 /// After the same history a command has at most one reply.
 pub fn one_reply()
@@ -15,6 +15,11 @@ pub fn only_accepted_change()
 /// There is at most one legal history of the same calls.
 pub fn one_history()
     ensures { OneHistory }
+{}
+
+/// After given calls a command has at most one reply.
+pub fn one_answer()
+    ensures { OneAnswer }
 {}
 
 /// The ledger of a history is four lists, each gathered from the history itself.

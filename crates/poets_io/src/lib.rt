@@ -3,6 +3,7 @@
 
 mod bytes;
 mod faults;
+mod lists;
 mod plan;
 mod std_io;
 mod stream;
@@ -11,6 +12,7 @@ mod text;
 mod whole;
 
 pub use faults::{Failed, ReadFault};
+pub use lists::{append, copied};
 pub use std_io::{StdSink, StdSource};
 pub use stream::{Sink, Source};
 pub use sure::{SureSink, SureSource};

@@ -1,11 +1,11 @@
 //! A piece written whole, and a source read to its end.
-ghost use Rattle.std.specs.Prelude.{◌≡◌, ◌<◌, ◌≤◌, ◌++◌, length, IfOk, IfSome, OnOk, OnErr, IsErrOf};
+ghost use Rattle.std.specs.Prelude.{◌≡◌, ◌<◌, ◌≤◌, length, IfOk, IfSome, OnOk, OnErr, IsErrOf};
 ghost use Rattle.std.specs.Io.KnownBytes.{Appends};
 ghost use Rattle.poets_io.specs.Causes.{HasCause, Rose};
 ghost use Rattle.poets_io.specs.Reading.{OnFailed, OnMemory, OnTooLong, GivesWhole, LosesPast};
 ghost use Rattle.poets_io.specs.Streams.{AppendsPart, LosesFront};
 
-use crate::{Failed, ReadFault, Sink, Source};
+use crate::{Failed, ReadFault, Sink, Source, append};
 use poets_value::{List, Memory};
 use std::alloc::Global;
 
@@ -84,15 +84,4 @@ fn read_blocks<S: Source>(
         }
         append(&mut text, &block[..count])?;
     }
-}
-
-// Adds a copy of the bytes at the end.
-fn append(text: &mut List<u8>, bytes: &[u8]) -> Result<(), Memory>
-    ensures { OnOk result (text.new.items ≡ text.old.items ++ bytes.now) }
-{
-    text.reserve(bytes.len())?;
-    for byte in bytes {
-        text.push(*byte).map_err(|_| Memory)?;
-    }
-    Ok(())
 }

@@ -1,7 +1,6 @@
 //! A journal of texts in one file, which a crash at any moment leaves whole, and a machine whose calls go into one.
 #![tactic(auto)]
 
-mod bytes;
 mod journal;
 mod journaled;
 pub mod laws;

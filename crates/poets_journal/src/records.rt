@@ -3,7 +3,7 @@ ghost use Rattle.std.specs.Prelude.{◌≡◌, ◌<◌, ◌^◌, ◌∷◌, ℕ,
 ghost use Rattle.poets_journal.specs.Texts.{BeginsWith, IsFrame, Text, number_of};
 ghost use Rattle.poets_journal.specs.code.Sizes.{size_bytes};
 
-use crate::bytes::append;
+use poets_io::append;
 use poets_value::{List, Memory, push};
 use std::alloc::Global;
 

@@ -8,11 +8,10 @@ ghost use Rattle.poets_journal.specs.code.Gates.{IsReady};
 ghost use Rattle.poets_journal.specs.Starts.{StaysOrIsShort, with_gate};
 ghost use Rattle.poets_journal.specs.code.Opens.{OnNumber, HasRead, IsOpened};
 
-use crate::bytes::{append, copied};
 use crate::journal::Journal;
 use crate::records::record;
 use poets_disk::Disk;
-use poets_io::Failed;
+use poets_io::{Failed, append, copied};
 use poets_value::{List, Memory, push};
 use std::alloc::Global;
 

@@ -1,4 +1,2 @@
-pub mod Adding
 pub mod Histories
 pub mod Turns
-pub mod code

@@ -2,7 +2,5 @@
 #![tactic(auto)]
 
 mod onward;
-#[cfg(test)]
-mod tries;
 
 pub use onward::{Onward, OnwardFrame, OnwardKept};

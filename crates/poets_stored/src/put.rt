@@ -1,8 +1,9 @@
 //! Commands as the texts of calls.
-ghost use Rattle.std.specs.Prelude.{◌≡◌, IfOk};
+ghost use Rattle.std.specs.Prelude.{◌≡◌};
 ghost use Rattle.poets_stored.specs.Stored.{HasText, stored_text};
 
 use poets_command::Command;
+use poets_io::copied;
 use poets_journal::Put;
 use poets_lex::Names;
 use poets_print::command_text;
@@ -47,16 +48,4 @@ impl<'a> Put<Command> for CommandPut<'a> {
         let numbered = format!(in alloc; "{clerk}: {text}")?;
         copied(alloc, numbered.as_bytes())
     }
-}
-
-// A copy of the bytes.
-fn copied(alloc: Global, bytes: &[u8]) -> Result<List<u8>, Memory>
-    ensures { IfOk result (λ made. made.items ≡ bytes.now) }
-{
-    let mut made = List::new(alloc);
-    made.reserve(bytes.len())?;
-    for byte in bytes {
-        made.push(*byte).map_err(|_| Memory)?;
-    }
-    Ok(made)
 }

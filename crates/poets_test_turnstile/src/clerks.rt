@@ -4,7 +4,8 @@ ghost use Rattle.std.specs.Arc.{arc_value};
 ghost use Rattle.poets_value.specs.Limits.{most_clerks};
 
 use poets_clerks::{Done, Gate, MadeOf, NoGate, WorkedOf, attempt_history, make_history, work};
-use poets_machine::{Adder, Machine, Sum};
+use poets_machine::Machine;
+use poets_test_adder::{Adder, Sum};
 use poets_turn::Turn;
 use poets_value::{List, Memory};
 use std::alloc::{AllocError, Global};

@@ -1,6 +1,7 @@
 //! Turns of an adder, by themselves.
 
-use poets_machine::{Adder, Machine};
+use poets_machine::Machine;
+use poets_test_adder::Adder;
 use std::sync::Arc;
 use std::test::Fail;
 

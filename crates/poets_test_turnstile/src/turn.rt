@@ -2,10 +2,11 @@
 ghost use Rattle.std.specs.Prelude.{◌≡◌, ◌<◌, ◌≤◌, [], length, All, IfOk};
 ghost use Rattle.std.specs.Thread.{IsSync};
 ghost use Rattle.poets_value.specs.Limits.{most_clerks};
-ghost use Rattle.poets_machine.specs.code.Adders.{most_of};
+ghost use Rattle.poets_test_adder.specs.code.Adders.{most_of};
 ghost use Rattle.poets_turn.specs.Clerks.{AreNumbered, IsClerkOf, clerk_count, number, turn_frame};
 
-use poets_machine::{Adder, Machine};
+use poets_machine::Machine;
+use poets_test_adder::Adder;
 use poets_turn::{Clerk, Turn};
 use poets_value::{List, Memory, push};
 use std::alloc::{AllocError, Global};

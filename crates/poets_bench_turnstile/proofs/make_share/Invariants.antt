@@ -1,5 +1,5 @@
 use Rattle.std.proofs.Common.{◌≡◌}
-use Rattle.poets_machine.specs.code.Adders.{most_of}
+use Rattle.poets_test_adder.specs.code.Adders.{most_of}
 use Rattle.poets_turn.specs.Clerks.{IsClerkOf, number}
 use Rattle.poets_bench_turnstile.proofs.make_share.Given as goal
 

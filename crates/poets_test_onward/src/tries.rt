@@ -3,8 +3,9 @@ ghost use Rattle.std.specs.Prelude.{◌≡◌, [], IfOk};
 ghost use Rattle.std.specs.Arc.{arc_value};
 ghost use Rattle.std.specs.Thread.{IsSync};
 
-use crate::Onward;
-use poets_machine::{Adder, Machine, Sum};
+use poets_machine::Machine;
+use poets_onward::Onward;
+use poets_test_adder::{Adder, Sum};
 use poets_value::Memory;
 use std::alloc::Global;
 use std::sync::Arc;

@@ -1,9 +1,9 @@
-//! A machine that adds, by which the crates above are tried.
+//! A machine that adds, by which the turnstile, the clerks and the journal are tried.
 ghost use Rattle.std.specs.Prelude.{◌≡◌, ℕ, ◌+◌, ◌%◌, ◌^◌, ◌≤◌, List, [], length, map};
 ghost use Rattle.std.specs.Arc.{arc_value};
-ghost use Rattle.poets_machine.specs.Adding.{IsSum, calls_of, total};
+ghost use Rattle.poets_test_adder.specs.Adding.{IsSum, calls_of, total};
 
-use crate::Machine;
+use poets_machine::Machine;
 use poets_value::{List, Memory};
 use std::alloc::Global;
 use std::sync::Arc;

@@ -1,6 +1,6 @@
 -- What contracts see of an adder.
 use Rattle.std.specs.Prelude.{ℕ}
-use Rattle.poets_machine.specs.declared.adder.Adder.{Adder}
+use Rattle.poets_test_adder.specs.declared.adder.Adder.{Adder}
 
 -- the most that an amount may be, which is the adder's frame
 abbrev pub most_of : Adder → ℕ

@@ -1,7 +1,7 @@
 -- The sum after one amount more.
 use Rattle.std.proofs.Common.{◌≡◌, ℕ, ◌+◌, ◌%◌, ◌^◌, List, [], ◌∷◌, ◌++◌, map, ap, ◌∙◌, arith}
 use mathlib.Core.List.{map-append}
-use Rattle.poets_machine.specs.Adding.{total}
+use Rattle.poets_test_adder.specs.Adding.{total}
 
 total_added : (xs : List (ℕ × ℕ)) (k c : ℕ) → total (xs ++ (k, c) ∷ []) ≡ total xs + c
 total_added [] k c = omega arith

@@ -4,8 +4,12 @@ ghost use Rattle.std.specs.Prelude.{◌≡◌, ◌++◌, IfOk, OnOk};
 use poets_value::{List, Memory};
 use std::alloc::Global;
 
-// A copy of the bytes.
-pub(crate) fn copied(alloc: Global, bytes: &[u8]) -> Result<List<u8>, Memory>
+/// A copy of the bytes.
+///
+/// # Errors
+///
+/// Out of memory.
+pub fn copied(alloc: Global, bytes: &[u8]) -> Result<List<u8>, Memory>
     ensures { IfOk result (λ made. made.items ≡ bytes.now) }
 {
     let mut made = List::new(alloc);
@@ -13,8 +17,12 @@ pub(crate) fn copied(alloc: Global, bytes: &[u8]) -> Result<List<u8>, Memory>
     Ok(made)
 }
 
-// Adds a copy of the bytes at the end.
-fn append(list: &mut List<u8>, bytes: &[u8]) -> Result<(), Memory>
+/// Adds a copy of the bytes at the end.
+///
+/// # Errors
+///
+/// Out of memory: how much of the bytes the list then has is not said.
+pub fn append(list: &mut List<u8>, bytes: &[u8]) -> Result<(), Memory>
     ensures { OnOk result (list.new.items ≡ list.old.items ++ bytes.now) }
 {
     list.reserve(bytes.len())?;

@@ -2,9 +2,9 @@ use Rattle.std.proofs.Common.{ℕ, ◌+◌, ◌%◌, ◌^◌, ◌∙◌, ap, sym
 use Rattle.std.specs.declared.alloc.Global.{Global}
 use Rattle.std.specs.declared.sync.Arc.{Arc}
 use Rattle.std.specs.Arc.{arc_value}
-use Rattle.poets_machine.specs.Adding.{calls_of, total}
-use Rattle.poets_machine.proofs.Adds.{adds}
-use Rattle.poets_machine.proofs.adder.AdderMachine.turn.Goals as goal
+use Rattle.poets_test_adder.specs.Adding.{calls_of, total}
+use Rattle.poets_test_adder.proofs.Adds.{adds}
+use Rattle.poets_test_adder.proofs.adder.AdderMachine.turn.Goals as goal
 
 pub invariant_of-self-2 : goal.invariant_of-self-2
 invariant_of-self-2 g c = let f : ℕ × Arc ℕ Global → ℕ × ℕ = λ e. (e.0, arc_value e.1) in let s : ℕ = c.args.self.now.sum in record {

@@ -1,0 +1,5 @@
+//! Machines that go on, tried by adders.
+#![tactic(auto)]
+
+#[cfg(test)]
+mod tries;
