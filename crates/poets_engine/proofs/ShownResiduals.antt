@@ -1,5 +1,5 @@
 -- What is shown in legal histories of typed commands.
-use Rattle.std.proofs.Common.{◌≡◌, ℕ, suc, ◌-◌, Bool, true, false, nat_eq, List, [], ◌∷◌, ◌++◌, Option, Some, filter, fold, sym, ◌∙◌, ap, subst, ◌⊎◌, inl, inr}
+use Rattle.std.proofs.Common.{◌≡◌, ℕ, suc, ◌-◌, Bool, true, false, nat_eq, List, [], ◌∷◌, ◌++◌, Option, Some, filter, fold, map, refl, sym, ◌∙◌, ap, subst, ◌⊎◌, inl, inr}
 use Rattle.std.specs.Prelude.{◌↔◌, if◌then◌else◌}
 use Rattle.std.specs.List.{All}
 use Rattle.std.proofs.lemmas.List.Elements.{All-nil, All-cons, All-head, All-tail, All-append, All-map, All-filter}
@@ -10,7 +10,7 @@ use Rattle.poets_syntax.specs.Plain.{Book}
 use Rattle.poets_syntax.specs.Contract.{Contract}
 use Rattle.poets_syntax.specs.WellFormed.{IsWellFormed, IsDeclaredEvent}
 use Rattle.poets_meaning.specs.Perf.{Perf}
-use Rattle.poets_meaning.specs.Studied.{marks_in}
+use Rattle.poets_meaning.specs.Studied.{IsStudiedBook, marks_in}
 use Rattle.poets_meaning.proofs.StudiedMarks.{AreRight-studied}
 use Rattle.poets_calculus.specs.Residual.{residual_after}
 use Rattle.poets_residue.proofs.Studies.{IsStudied-book}
@@ -18,7 +18,9 @@ use Rattle.poets_residue.proofs.Traces.{trace_performed}
 use Rattle.poets_report.specs.Plain.{Report}
 use Rattle.poets_command.specs.Plain.{Command, Reply, Entry}
 use Rattle.poets_history.specs.Frame.{Frame}
-use Rattle.poets_history.specs.Histories.{shown}
+use Rattle.poets_history.specs.Histories.{ShowsWhatIsOwed}
+use Rattle.poets_history.specs.Gathered.{with_before}
+use Rattle.poets_meaning.specs.declared.studied.Mark.{Mark}
 use Rattle.poets_value.specs.declared.event.Event.{Event}
 use Rattle.poets_command.specs.Typing.{IsTypedCommand}
 use Rattle.poets_command.proofs.TypedCommands.{typed_registration, typed_event}
@@ -112,16 +114,34 @@ module _ (book : Book) (reports : List Report) where
   shown_is f l x n o _ _ _ _ e (Replies.Shown {i = i} {o = o'} named tells) =
       ap (λ p. residual_after f.book f.marks p.1 (trace l p.0)) (some_one (i, o') (n, o) (sym named ∙ e))
 
+  module _ (marks : List Mark) (studied : IsStudiedBook book marks) where
+    -- the frame of a studied book
+    abbrev frame : Frame
+    frame = record { book = book; reports = reports; marks = marks_in book.templates marks; right = AreRight-studied book marks studied }
+
+    -- each reply shows what is owed
+    shows_reply : (l : Ledger) (command : Command) (reply : Reply) → IsSound l → Replies frame l command reply → ShowsWhatIsOwed book l command reply
+    shows_reply l (Command.Show x) (Reply.Shown residual count may_end ended) ok reply = λ number original named s.
+        let is = shown_is frame l x number original residual count may_end ended named reply in
+        let fits = named_fits 1 x l.contracts number original ok.contracts named in
+        let law = trace_performed book (marks_in book.templates marks) (IsStudied-book book marks studied) original fits.0 fits.1 (trace l number)
+        (trace_declared l number ok) s in
+        subst (λ r. Perf book [] r s ↔ Perf book [] original (trace l number ++ s)) (sym is) law
+    shows_reply l _ _ ok reply = tt
+
+-- what holds of each entry with all that stands before it
+All-with_before : (P : List Entry × Entry → Type 0) (h : List Entry) →
+    ((before after : List Entry) (e : Entry) → h ≡ before ++ e ∷ after → P (before, e)) → All P (with_before h)
+All-with_before P [] each = All-nil P
+All-with_before P (e ∷ h) each =
+    let behind : List Entry × Entry → List Entry × Entry = λ p. (e ∷ p.0, p.1) in
+    All-cons P ([], e) (map behind (with_before h)) (each [] h e refl)
+    (All-map P behind (with_before h) (All-with_before (λ p. P (behind p)) h (λ before after d k. each (e ∷ before) after d (ap (λ xs. e ∷ xs) k))))
+
 pub legal_histories_show : LegalHistoriesShow
-legal_histories_show book marks reports h studied legal typed before after clerk x residual count may_end ended number original split named s =
-    let study = IsStudied-book book marks studied in
-    let frame : Frame = record { book = book; reports = reports; marks = marks_in book.templates marks; right = AreRight-studied book marks studied } in
-    let all : Legal frame h = one_frame legal.frame frame h legal.book legal.reports legal.holds in
-    let entry = shown clerk x residual count may_end ended in
-    let reply = legal_reply frame before entry after (subst (Legal frame) split all) in
-    let is = shown_is book reports frame (ledger_of before) x number original residual count may_end ended named reply in
-    let ok = sound book reports before (front book reports before (entry ∷ after) (subst (AreTyped book reports) split typed)) in
-    let fits = named_fits book reports 1 x (ledger_of before).contracts number original ok.contracts named in
-    let law = trace_performed book (marks_in book.templates marks) study original fits.0 fits.1 (trace (ledger_of before) number)
-    (trace_declared book reports (ledger_of before) number ok) s in
-    subst (λ r. Perf book [] r s ↔ Perf book [] original (trace (ledger_of before) number ++ s)) (sym is) law
+legal_histories_show book marks reports h studied legal typed =
+    let all : Legal (frame book reports marks studied) h = one_frame legal.frame (frame book reports marks studied) h legal.book legal.reports legal.holds in
+    All-with_before (λ p. ShowsWhatIsOwed book (ledger_of p.0) p.1.command p.1.reply) h (λ before after e split.
+        let reply = legal_reply (frame book reports marks studied) before e after (subst (Legal (frame book reports marks studied)) split all) in
+        let ok = sound book reports before (front book reports before (e ∷ after) (subst (AreTyped book reports) split typed)) in
+        shows_reply book reports marks studied (ledger_of before) e.command e.reply ok reply)

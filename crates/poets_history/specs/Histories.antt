@@ -1,6 +1,5 @@
 -- Histories of a book and its reports. The marks that a frame has beside these are determined by the book.
-use Rattle.std.specs.Prelude.{◌≡◌, ℕ, Bool, List, [], ◌∷◌, ◌++◌, Some, ◌↔◌}
-use Rattle.poets_value.specs.declared.value.Name.{Name}
+use Rattle.std.specs.Prelude.{◌≡◌, ℕ, List, [], ◌++◌, Some, All, ⊤, ◌↔◌}
 use Rattle.poets_value.specs.declared.event.Event.{Event}
 use Rattle.poets_syntax.specs.Plain.{Book}
 use Rattle.poets_syntax.specs.Contract.{Contract}
@@ -10,6 +9,7 @@ use Rattle.poets_command.specs.Plain.{Command, Reply, Entry}
 use Rattle.poets_command.specs.Calls.{Call}
 use Rattle.poets_history.specs.Ledger.{Ledger, ledger_of, contract_named, trace}
 use Rattle.poets_history.specs.Frame.{Frame}
+use Rattle.poets_history.specs.Gathered.{with_before}
 use Rattle.poets_history.specs.Replies.{Replies, Legal, Answers}
 
 -- it holds in a frame of the book and the reports
@@ -31,19 +31,16 @@ RepliesIn book reports l command reply = InFrame book reports (λ f. Replies f l
 abbrev pub AnswersIn : Book → List Report → List Call → Command → Reply → Type 0
 AnswersIn book reports calls command reply = InFrame book reports (λ f. Answers f calls command reply)
 
--- a look at a contract: the entry shows this residual
-abbrev pub shown : (clerk : ℕ) → Name → Contract → (count : ℕ) → (may_end ended : Bool) → Entry
-shown clerk x residual count may_end ended =
-    record { clerk = clerk; command = Command.Show x; reply = Reply.Shown residual count may_end ended }
+-- where a residual is shown of a contract of the ledger, exactly the completions of its recorded trace perform it
+abbrev pub ShowsWhatIsOwed : Book → Ledger → Command → Reply → Type 0
+ShowsWhatIsOwed book l (Command.Show x) (Reply.Shown residual count may_end ended) =
+    (number : ℕ) (original : Contract) → contract_named l x ≡ Some (number, original) →
+    (s : List Event) → Perf book [] residual s ↔ Perf book [] original (trace l number ++ s)
+ShowsWhatIsOwed book l _ _ = ⊤
 
--- each residual that is shown is performed by exactly the completions of the contract's recorded trace
+-- each entry that shows a residual shows what is owed after the entries before it
 abbrev pub ShowsCompletions : Book → List Entry → Type 0
-ShowsCompletions book h =
-    (before after : List Entry) (clerk : ℕ) (x : Name) (residual : Contract) (count : ℕ) (may_end ended : Bool)
-    (number : ℕ) (original : Contract)
-    → h ≡ before ++ shown clerk x residual count may_end ended ∷ after
-    → contract_named (ledger_of before) x ≡ Some (number, original)
-    → (s : List Event) → Perf book [] residual s ↔ Perf book [] original (trace (ledger_of before) number ++ s)
+ShowsCompletions book h = All (λ p. ShowsWhatIsOwed book (ledger_of p.0) p.1.command p.1.reply) (with_before h)
 
 -- each reply is right, and each residual that is shown means what is still owed
 pub record IsRightHistory (book : Book) (reports : List Report) (h : List Entry) : Type 0 where
