@@ -2,3 +2,4 @@ pub mod Owning
 pub mod Endings
 pub mod Telling
 pub mod Exported
+pub mod Repeating

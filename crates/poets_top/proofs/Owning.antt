@@ -1,5 +1,5 @@
 -- The history of scripts: each clerk has made his own.
-use Rattle.std.proofs.Common.{◌≡◌, ℕ, suc, ◌≤◌, List, [], ◌∷◌, length, refl, sym, ◌∙◌, ap, ap₂, subst, arith}
+use Rattle.std.proofs.Common.{◌≡◌, ℕ, suc, ◌≤◌, List, [], ◌∷◌, length, refl, ◌∙◌, ap, ap₂, subst, arith}
 use Rattle.std.specs.Prelude.{slice_get}
 use Rattle.std.specs.List.{All}
 use Rattle.std.proofs.lemmas.Bool.{eq-eqb, ne_eqb}
@@ -11,15 +11,12 @@ use Rattle.poets_command.specs.Said.{Statement}
 use Rattle.poets_rules.specs.declared.rules.Rules.{Rules}
 use Rattle.poets_rules.specs.Rules as R
 use Rattle.poets_history.specs.Histories.{IsRightHistory}
-use Rattle.poets_history.proofs.Histories.{one_history}
-use Rattle.poets_history.proofs.OneFrames.{one_frame}
 use Rattle.poets_session.specs.Sessions.{Represents, scripts_of, commands_in, journal_of}
 use Rattle.poets_session.specs.declared.session.Session.{Session}
 use Rattle.poets_machine.specs.Histories.{own_calls as machine_calls}
 use Rattle.poets_clerks.specs.Histories.{HasScripts}
 use mathlib.Core.Logic.{dite}
 use native.Mathlib.Decide.{ℕ_discrete}
-use Rattle.poets_top.specs.Laws.{OneReplay}
 use Rattle.poets_top.specs.Scripts.{under_clerk}
 use Rattle.poets_top.specs.Running.{IsHistoryOf}
 use Rattle.poets_top.specs.Replaying.{IsReplayOf}
@@ -82,13 +79,3 @@ one_clerk statements script h one made =
     All-map (λ (call : Call). call.0 ≡ 1) (λ (e : Entry). (e.clerk, e.command)) h
     (All-weaker (λ (e : Entry). (1 ≤ e.clerk) × (e.clerk ≤ length (scripts_of statements))) (λ e. e.clerk ≡ 1) (λ e here. omega (arith, here.0, here.1, many)) h made.clerks) in
     own_calls-all 1 (calls_of h) all ∙ ap (under_clerk 1) mine
-
--- ---- journals
-
--- a journal has one history at most
-pub one_replay : OneReplay
-one_replay statements h h' p q =
-    let mine = p.right.legal in
-    let other = q.right.legal in
-    let there = one_frame other.frame mine.frame h' (other.book ∙ sym mine.book) (other.reports ∙ sym mine.reports) other.holds in
-    one_history mine.frame h h' mine.holds there (p.calls ∙ sym q.calls)

@@ -27,5 +27,5 @@ pub data IsDemonstration (sales : ℕ) : (status : ℕ) → List Entry → (text
 pub record HasDemonstrated (sales : ℕ) (held held' : Option (List ℕ)) (h : List Entry) : Type 0 where
   -- the history is that of the demonstration's clerks
   pub demonstrated : IsDemonstrated sales h (demo_line sales h)
-  -- the sink got its line
+  -- the sink got its line, where it tells what it holds
   pub written : Appends held held' (demo_line sales h)

@@ -100,7 +100,7 @@ pub record HasExplained (name : List ℕ) (left left' held held' : Option (List 
   pub session : IsSession text F.Journal names statements
   -- the history is right, and has the journal's calls
   pub history : IsReplayOf statements h
-  -- the sink got the explanation
+  -- the sink got the explanation, where it tells what it holds
   pub explanation : List ℕ
   pub explains : IsExplanation name names statements h explanation
   pub written : Appends held held' explanation

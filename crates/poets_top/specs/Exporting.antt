@@ -49,7 +49,7 @@ pub record HasExported (left left' held held' : Option (List ℕ)) (h : List Ent
   pub session : IsSession text F.Journal names statements
   -- the history is right, and has the journal's calls
   pub history : IsReplayOf statements h
-  -- the sink got the document
+  -- the sink got the document, where it tells what it holds
   pub line : List ℕ
   pub document : IsDocumentLine names (book_from statements) (reports_of statements) h line
   pub written : Appends held held' line

@@ -34,5 +34,5 @@ pub record HasReplayed (left left' held held' : Option (List ℕ)) (h : List Ent
   pub session : IsSession text F.Journal names statements
   -- the history is right, and has the journal's calls
   pub history : IsReplayOf statements h
-  -- the sink got its lines
+  -- the sink got its lines, where it tells what it holds
   pub written : Appends held held' (history_text names h)

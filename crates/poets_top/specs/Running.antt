@@ -35,5 +35,5 @@ pub record HasRun (left left' held held' : Option (List ℕ)) (h : List Entry) :
   pub session : IsSession text F.Clerks names statements
   -- the history is right, and has each clerk's commands once, in his order
   pub history : IsHistoryOf statements h
-  -- the sink got its lines
+  -- the sink got its lines, where it tells what it holds
   pub written : Appends held held' (history_text names h)
