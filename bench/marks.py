@@ -135,7 +135,7 @@ WHYS = {
         ("run", "journal;;"),
         ("run", "clerk;; 1: show c;;"),
     ],
-    "this stands in a session of clerks, which poets run and poets keep read": [
+    "this stands in a session of clerks, which poets run, keep and resume read": [
         ("replay", "clerk;;"),
         ("replay", "journal;; show c;;"),
     ],

@@ -63,7 +63,7 @@ impl Mistake {
             Mistake::OfJournal =>
                 "this stands in a journal, which poets replay, explain and export read",
             Mistake::OfSession =>
-                "this stands in a session of clerks, which poets run and poets keep read",
+                "this stands in a session of clerks, which poets run, keep and resume read",
             Mistake::NoJournal => "a journal has the statement journal;; before its first command",
             Mistake::LateBook => "declarations stand before the first clerk;; or journal;;",
             Mistake::EarlyCommand => "commands stand after clerk;;",

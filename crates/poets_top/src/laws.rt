@@ -1,20 +1,21 @@
 //! Laws of runs, each carried by a function that does nothing.
 ghost use Rattle.poets_top.specs.Laws.{OneClerk, OneRun, OneReplay, OneReplayed, RunsAreReplayed};
 
-/// The calls in a history of one clerk's session are his script, in its order. So what `poets run` prints of it is
-/// always the same.
+/// The calls in a history of one clerk's session are his script, in its order. So two runs of it that end with status 0
+/// have the same history, and where source and sink tell their bytes, they write the same text.
 pub fn one_clerk()
     ensures calls { OneClerk }
     ensures run { OneRun }
 {}
 
-/// A journal has one history at most. So what `poets replay` prints of it is always the same.
+/// A journal has one history at most. So two replays of it that end with status 0 have the same history, and where
+/// source and sink tell their bytes, they write the same text.
 pub fn one_replay()
     ensures history { OneReplay }
     ensures replayed { OneReplayed }
 {}
 
-/// The calls of a run, written as a journal under the same book, have the history of the run.
+/// A journal that has the calls of a run, under the same book, has the history of the run.
 pub fn runs_are_replayed()
     ensures { RunsAreReplayed }
 {}
