@@ -142,6 +142,6 @@ pub legal_histories_show : LegalHistoriesShow
 legal_histories_show book marks reports h studied legal typed =
     let all : Legal (frame book reports marks studied) h = one_frame legal.frame (frame book reports marks studied) h legal.book legal.reports legal.holds in
     All-with_before (λ p. ShowsWhatIsOwed book (ledger_of p.0) p.1.command p.1.reply) h (λ before after e split.
-        let reply = legal_reply (frame book reports marks studied) before e after (subst (Legal (frame book reports marks studied)) split all) in
-        let ok = sound book reports before (front book reports before (e ∷ after) (subst (AreTyped book reports) split typed)) in
-        shows_reply book reports marks studied (ledger_of before) e.command e.reply ok reply)
+    let reply = legal_reply (frame book reports marks studied) before e after (subst (Legal (frame book reports marks studied)) split all) in
+    let ok = sound book reports before (front book reports before (e ∷ after) (subst (AreTyped book reports) split typed)) in
+    shows_reply book reports marks studied (ledger_of before) e.command e.reply ok reply)
