@@ -1,8 +1,11 @@
 -- Documents read back as values of JSON.
-use Rattle.std.proofs.Common.{ℕ, ◌^◌, ◌<◌, ◌≤◌, Bool, List, [], ◌∷◌, All, map, Option, Some, None, IsUtf8, refl, arith}
+use Rattle.std.proofs.Common.{◌≡◌, ℕ, ◌^◌, ◌<◌, ◌≤◌, Bool, List, [], ◌∷◌, All, map, Option, Some, None, IsUtf8, refl, arith}
+use Rattle.std.proofs.Common.{Ordering, Less, Equal, Greater, nat_cmp}
 use Rattle.std.specs.Prelude.{codes}
+use Rattle.std.specs.Cmp.Lexicographic.{slice_cmp}
+use Rattle.std.specs.Ordering.{match_ordering}
 use Rattle.std.proofs.lemmas.List.Elements.{All-head, All-tail}
-use Rattle.serde_json.specs.Data.{Data, string, depth, items_depth, members_depth}
+use Rattle.serde_json.specs.Data.{Data, Members, member, no_members, put, string, depth, items_depth, members_depth}
 use Rattle.serde_json.specs.Read.{max_depth}
 use Rattle.serde_json.specs.View.{items_of}
 use Rattle.poets_value.specs.declared.value.Name.{Name}
@@ -12,15 +15,14 @@ use Rattle.poets_report.specs.Plain.{Answer, Single, Rows, KeyRow}
 use Rattle.poets_lex.specs.Table.{Table, IsTable}
 use Rattle.poets_command.specs.Plain.{Reply, Entry}
 use Rattle.poets_command.specs.Said.{Statement}
-use Rattle.poets_print.specs.Texts.{contract_text}
+use Rattle.poets_books.specs.Replies.{kind_text}
 use Rattle.poets_books.specs.Statements.{statement_text}
 use Rattle.poets_json.specs.Plain.{Exported}
-use Rattle.poets_json.specs.Document.{value_data, row_data, answer_data, part_data, list_data, word_data, id_data}
-use Rattle.poets_json.specs.Document.{number_data, counted_data, shown_data}
-use Rattle.poets_json.specs.Document.{folio_data, total_members, reply_data, entry_data, document}
+use Rattle.poets_json.specs.Document.{value_data, row_data, answer_data, part_data, list_data}
+use Rattle.poets_json.specs.Document.{total_members, reply_members, reply_data, entry_data, document}
 use Rattle.poets_exchange.specs.Exportable.{statements_in}
 use Rattle.poets_exchange.proofs.Counts.{HasSmall}
-use Rattle.poets_exchange.proofs.Json.{IsSound, AreSoundItems}
+use Rattle.poets_exchange.proofs.Json.{IsSound, AreSoundItems, AreSoundMembers, put_all}
 use Rattle.poets_exchange.proofs.Utf8Texts.{known, name_utf8, value_utf8, contract_utf8, command_utf8, statement_utf8}
 
 -- ---- lists
@@ -44,46 +46,23 @@ list_shallow :
 list_shallow n data_of each [] = omega arith
 list_shallow n data_of each (x ∷ xs) = omega (arith, each x, list_shallow n data_of each xs)
 
--- ---- replies without names
+-- ---- what a reply is
 
-word_sound : (kind : List ℕ) → IsUtf8 kind → IsSound (word_data kind)
-word_sound kind h = ((known (codes "kind") refl, h, tt), refl)
+kind_utf8 : (r : Reply) → IsUtf8 (kind_text r)
+kind_utf8 (Reply.Registered n) = known (codes "registered") refl
+kind_utf8 r = known (kind_text r) refl
 
-id_sound : (kind : List ℕ) (n : ℕ) → IsUtf8 kind → n < 2 ^ 64 → IsSound (id_data kind n)
-id_sound kind n h small = ((known (codes "id") refl, small, (known (codes "kind") refl, h, tt)), refl)
-
-number_sound : (kind : List ℕ) (n : ℕ) → IsUtf8 kind → n < 2 ^ 64 → IsSound (number_data kind n)
-number_sound kind n h small = ((known (codes "kind") refl, h, (known (codes "number") refl, small, tt)), refl)
-
-counted_sound : (kind : List ℕ) (n : ℕ) (b : Bool) → IsUtf8 kind → n < 2 ^ 64 → IsSound (counted_data kind n b)
-counted_sound kind n b h small = (
-  (known (codes "count") refl, small, (known (codes "kind") refl, h, (known (codes "may_end") refl, tt, tt))),
-  refl,
-)
-
-shown_sound :
-    (text : List ℕ) (n : ℕ) (may_end ended : Bool) → IsUtf8 text → n < 2 ^ 64 →
-    IsSound (shown_data text n may_end ended)
-shown_sound text n may_end ended h small = (
-  (
-    known (codes "count") refl,
-    small,
-    (
-      known (codes "ended") refl,
-      tt,
-      (
-        known (codes "kind") refl,
-        known (codes "shown") refl,
-        (
-          known (codes "may_end") refl,
-          tt,
-          (known (codes "residual") refl, h, tt),
-        ),
-      ),
-    ),
-  ),
-  refl,
-)
+put_sound :
+    (k : List ℕ) (d : Data) (ms : Members) → IsUtf8 k → IsSound d → AreSoundMembers ms → AreSoundMembers (put k d ms)
+put_sound k d no_members name sound h = (name, sound, tt)
+put_sound k d (member l e ms) name sound h = by_order (slice_cmp nat_cmp k l)
+  where
+    by_order :
+        (o : Ordering) →
+        AreSoundMembers (match_ordering o (member k d (member l e ms)) (member l d ms) (member l e (put k d ms)))
+    by_order Less = (name, sound, h)
+    by_order Equal = (h.0, sound, h.2)
+    by_order Greater = (h.0, h.1, put_sound k d ms name sound h.2)
 
 module _ (names : Table) (table : IsTable names) where
   -- ---- values
@@ -118,74 +97,50 @@ module _ (names : Table) (table : IsTable names) where
 
   -- ---- replies
 
-  folio_sound :
-      (rows : List (Name × Answer)) (total : Option (Option Value)) →
-      IsSound (folio_data (list_data (part_data names) rows) (total_members names total))
-  folio_sound rows None = (
+  total_sound : (total : Option (Option Value)) → AreSoundMembers (total_members names total)
+  total_sound None = tt
+  total_sound (Some v) = (known (codes "total") refl, value_sound v, tt)
+
+  -- what a reply tells besides its kind
+  told_sound : (r : Reply) → HasSmall r → AreSoundMembers (reply_members names r)
+  told_sound (Reply.Registered n) h = (known (codes "id") refl, h, tt)
+  told_sound (Reply.NameTaken n) h = (known (codes "id") refl, h, tt)
+  told_sound (Reply.Recorded n b) h = (known (codes "count") refl, h, (known (codes "may_end") refl, tt, tt))
+  told_sound (Reply.Voided n b) h = (known (codes "count") refl, h, (known (codes "may_end") refl, tt, tt))
+  told_sound (Reply.NoEvent k) h = (known (codes "number") refl, h, tt)
+  told_sound (Reply.NoContract x) h = (known (codes "name") refl, name_utf8 names table x, tt)
+  told_sound (Reply.Late d) h = (known (codes "day") refl, day_text-utf8 d, tt)
+  told_sound (Reply.Shown c n may_end ended) h = (
+    known (codes "count") refl,
+    h,
     (
-      known (codes "kind") refl,
-      known (codes "portfolio") refl,
-      (
-        known (codes "rows") refl,
-        list_sound (part_data names) part_sound rows,
-        tt,
-      ),
+      known (codes "ended") refl,
+      tt,
+      (known (codes "may_end") refl, tt, (known (codes "residual") refl, contract_utf8 names table c, tt)),
     ),
-    refl,
   )
-  folio_sound rows (Some v) = (
-    (
-      known (codes "kind") refl,
-      known (codes "portfolio") refl,
-      (
-        known (codes "rows") refl,
-        list_sound (part_data names) part_sound rows,
-        (
-          known (codes "total") refl,
-          value_sound v,
-          tt,
-        ),
-      ),
-    ),
-    refl,
-  )
+  told_sound (Reply.Answered a) h = (known (codes "answer") refl, answer_sound a, tt)
+  told_sound (Reply.Folio rows total) h =
+      (known (codes "rows") refl, list_sound (part_data names) part_sound rows, total_sound total)
+  told_sound (Reply.Watching n) h = (known (codes "number") refl, h, tt)
+  told_sound (Reply.NoWatch n) h = (known (codes "number") refl, h, tt)
+  told_sound r h = tt
+
+  -- its members, in the order of their names
+  abbrev members_of_reply : Reply → Members
+  members_of_reply r = put (codes "kind") (string (kind_text r)) (reply_members names r)
+
+  in_order : (r : Reply) → put_all (members_of_reply r) no_members ≡ members_of_reply r
+  in_order (Reply.Folio rows None) = refl
+  in_order (Reply.Folio rows (Some v)) = refl
+  in_order r = refl
 
   reply_sound : (r : Reply) → HasSmall r → IsSound (reply_data names r)
-  reply_sound (Reply.Registered n) h = id_sound (codes "registered") n (known (codes "registered") refl) h
-  reply_sound (Reply.NameTaken n) h = id_sound (codes "name taken") n (known (codes "name taken") refl) h
-  reply_sound Reply.Hopeless h = word_sound (codes "hopeless") (known (codes "hopeless") refl)
-  reply_sound Reply.TooLarge h = word_sound (codes "too large") (known (codes "too large") refl)
-  reply_sound (Reply.Recorded n b) h = counted_sound (codes "recorded") n b (known (codes "recorded") refl) h
-  reply_sound (Reply.Voided n b) h = counted_sound (codes "voided") n b (known (codes "voided") refl) h
-  reply_sound (Reply.NoEvent k) h = number_sound (codes "no event") k (known (codes "no event") refl) h
-  reply_sound (Reply.NoContract x) h = (
-    (
-      known (codes "kind") refl,
-      known (codes "no contract") refl,
-      (
-        known (codes "name") refl,
-        name_utf8 names table x,
-        tt,
-      ),
-    ),
-    refl,
+  reply_sound r h = (
+    put_sound (codes "kind") (string (kind_text r)) (reply_members names r) (known (codes "kind") refl) (kind_utf8 r)
+    (told_sound r h),
+    in_order r,
   )
-  reply_sound Reply.Ended h = word_sound (codes "ended") (known (codes "ended") refl)
-  reply_sound (Reply.Late d) h =
-      ((known (codes "day") refl, day_text-utf8 d, (known (codes "kind") refl, known (codes "late") refl, tt)), refl)
-  reply_sound Reply.Unmatched h = word_sound (codes "unmatched") (known (codes "unmatched") refl)
-  reply_sound Reply.EndedNow h = word_sound (codes "ended now") (known (codes "ended now") refl)
-  reply_sound Reply.AlreadyEnded h = word_sound (codes "already ended") (known (codes "already ended") refl)
-  reply_sound Reply.NotPerformed h = word_sound (codes "not performed") (known (codes "not performed") refl)
-  reply_sound (Reply.Shown c n may_end ended) h =
-      shown_sound (contract_text names c) n may_end ended (contract_utf8 names table c) h
-  reply_sound (Reply.Answered a) h = (
-    (known (codes "answer") refl, answer_sound a, (known (codes "kind") refl, known (codes "answered") refl, tt)),
-    refl,
-  )
-  reply_sound (Reply.Folio rows total) h = folio_sound rows total
-  reply_sound (Reply.Watching n) h = number_sound (codes "watching") n (known (codes "watching") refl) h
-  reply_sound (Reply.NoWatch n) h = number_sound (codes "no watch") n (known (codes "no watch") refl) h
 
   total_flat : (total : Option (Option Value)) → members_depth (total_members names total) ≤ 0
   total_flat None = omega arith

@@ -10,7 +10,9 @@ use Rattle.poets_value.specs.declared.value.Value.{Value}
 use Rattle.poets_expr.specs.Env.{Declared}
 use Rattle.poets_report.specs.Plain.{Answer, Single, Rows, KeyRow}
 use Rattle.poets_lex.specs.Table.{Table}
-use Rattle.poets_json.specs.Document.{answer_data, folio_data, list_data, part_data, row_data, total_members, value_data}
+use Rattle.poets_command.specs.Plain.{Reply}
+use Rattle.poets_books.specs.Replies.{kind_text}
+use Rattle.poets_json.specs.Document.{answer_data, folio_members, of_kind, part_data, row_data, total_members, value_data}
 use Rattle.poets_import.specs.Reading.{HasValues}
 use Rattle.poets_import.specs.code.Finding.{Folio, IsRow, folio_as_data}
 use Rattle.poets_import.specs.code.Members.{items_at}
@@ -50,14 +52,16 @@ parts_of_value names values d y here e =
     same_arrays (map view values) (map (part_data names) y.0)
     (ap array (same_items (items_view values) (items_of (map (part_data names) y.0)) (here ∙ ap (items_at (codes "rows")) e)))
 
-total_is : (names : Table) (rows : Data) (total : Option (Option Value)) → get (codes "total") (folio_data rows (total_members names total)) ≡ option_map (value_data names) total
+total_is :
+    (names : Table) (rows : List (Name × Answer)) (total : Option (Option Value)) →
+    get (codes "total") (folio_as_data names (rows, total)) ≡ option_map (value_data names) total
 total_is names rows None = refl
 total_is names rows (Some total) = refl
 
 -- its total
 pub total_of_value :
     (names : Table) (d : Data) (y : Folio) → d ≡ folio_as_data names y → get (codes "total") d ≡ option_map (value_data names) y.1
-total_of_value names d y e = ap (get (codes "total")) e ∙ total_is names (list_data (part_data names) y.0) y.1
+total_of_value names d y e = ap (get (codes "total")) e ∙ total_is names y.0 y.1
 
 same_some : (a b : Data) → Some a ≡ Some b → a ≡ b
 same_some a b e = cc
@@ -75,4 +79,4 @@ pub other_folio :
 other_folio names d ds y z e f g total =
     let parts = sym f ∙ g in
     let members = same_members names y.1 z.1 (sym (total_of_value names d y e) ∙ total) in
-    e ∙ (λ i. folio_data (array (items_of (parts i))) (members i))
+    e ∙ (λ i. of_kind (kind_text (Reply.Folio y.0 y.1)) (folio_members (array (items_of (parts i))) (members i)))

@@ -11,8 +11,7 @@ use Rattle.poets_value.specs.declared.value.Value.{Value}
 use Rattle.poets_report.specs.Plain.{Answer, Single, Rows, KeyRow}
 use Rattle.poets_lex.specs.Table.{Table}
 use Rattle.poets_command.specs.Plain.{Reply, Entry}
-use Rattle.poets_json.specs.Document.{value_data, row_data, answer_data, part_data, list_data, folio_data}
-use Rattle.poets_json.specs.Document.{total_members, reply_data, entry_data}
+use Rattle.poets_json.specs.Document.{value_data, row_data, answer_data, part_data, list_data, reply_data, entry_data}
 use Rattle.poets_import.specs.code.Parts.{document_with}
 
 depth_list :
@@ -37,7 +36,7 @@ depth_part names part = omega (arith, depth_answer names part.1)
 
 depth_folio :
     (names : Table) (rows : List (Name × Answer)) (total : Option (Option Value)) →
-    depth (folio_data (list_data (part_data names) rows) (total_members names total)) ≤ 6
+    depth (reply_data names (Reply.Folio rows total)) ≤ 6
 depth_folio names rows None = omega (arith, depth_list (part_data names) 4 (depth_part names) rows)
 depth_folio names rows (Some v) =
     omega (arith, depth_list (part_data names) 4 (depth_part names) rows, depth_value names v)
@@ -45,23 +44,7 @@ depth_folio names rows (Some v) =
 depth_reply : (names : Table) (r : Reply) → depth (reply_data names r) ≤ 6
 depth_reply names (Reply.Answered a) = omega (arith, depth_answer names a)
 depth_reply names (Reply.Folio rows total) = depth_folio names rows total
-depth_reply names (Reply.Registered n) = omega arith
-depth_reply names (Reply.NameTaken n) = omega arith
-depth_reply names Reply.Hopeless = omega arith
-depth_reply names Reply.TooLarge = omega arith
-depth_reply names (Reply.Recorded n may_end) = omega arith
-depth_reply names (Reply.Voided n may_end) = omega arith
-depth_reply names (Reply.NoEvent k) = omega arith
-depth_reply names (Reply.NoContract x) = omega arith
-depth_reply names Reply.Ended = omega arith
-depth_reply names (Reply.Late d) = omega arith
-depth_reply names Reply.Unmatched = omega arith
-depth_reply names Reply.EndedNow = omega arith
-depth_reply names Reply.AlreadyEnded = omega arith
-depth_reply names Reply.NotPerformed = omega arith
-depth_reply names (Reply.Shown c n may_end ended) = omega arith
-depth_reply names (Reply.Watching n) = omega arith
-depth_reply names (Reply.NoWatch n) = omega arith
+depth_reply names r = omega arith
 
 pub depth_entry : (names : Table) (e : Entry) → depth (entry_data names e) ≤ max_depth
 depth_entry names e = omega (arith, depth_reply names e.reply)

@@ -91,13 +91,6 @@ folio_said names before after rows (Some total) more said = record {
 pub reply_said :
     (names before after : Table) (r : Reply) → Extends after names → AreSaid names before (reply_phrases r) after →
     ReplySaid before (reply_data names r) (owed_of r) after
-reply_said names before after (Reply.Registered n) more Nothing = nothing_said before _ refl refl refl
-reply_said names before after (Reply.NameTaken n) more Nothing = nothing_said before _ refl refl refl
-reply_said names before after Reply.Hopeless more Nothing = nothing_said before _ refl refl refl
-reply_said names before after Reply.TooLarge more Nothing = nothing_said before _ refl refl refl
-reply_said names before after (Reply.Recorded n may_end) more Nothing = nothing_said before _ refl refl refl
-reply_said names before after (Reply.Voided n may_end) more Nothing = nothing_said before _ refl refl refl
-reply_said names before after (Reply.NoEvent k) more Nothing = nothing_said before _ refl refl refl
 reply_said names before after (Reply.NoContract x) more (Next says Nothing) = record {
   named = after;
   listed = after;
@@ -105,12 +98,6 @@ reply_said names before after (Reply.NoContract x) more (Next says Nothing) = re
   rows = refl;
   residual = (refl, refl);
 }
-reply_said names before after Reply.Ended more Nothing = nothing_said before _ refl refl refl
-reply_said names before after (Reply.Late d) more Nothing = nothing_said before _ refl refl refl
-reply_said names before after Reply.Unmatched more Nothing = nothing_said before _ refl refl refl
-reply_said names before after Reply.EndedNow more Nothing = nothing_said before _ refl refl refl
-reply_said names before after Reply.AlreadyEnded more Nothing = nothing_said before _ refl refl refl
-reply_said names before after Reply.NotPerformed more Nothing = nothing_said before _ refl refl refl
 reply_said names before after (Reply.Shown c n may_end ended) more (Next says Nothing) = record {
   named = before;
   listed = before;
@@ -118,10 +105,8 @@ reply_said names before after (Reply.Shown c n may_end ended) more (Next says No
   rows = refl;
   residual = (c, refl, says);
 }
-reply_said names before after (Reply.Answered a) more Nothing = nothing_said before _ refl refl refl
 reply_said names before after (Reply.Folio rows total) more said = folio_said names before after rows total more said
-reply_said names before after (Reply.Watching n) more Nothing = nothing_said before _ refl refl refl
-reply_said names before after (Reply.NoWatch n) more Nothing = nothing_said before _ refl refl refl
+reply_said names before after r more Nothing = nothing_said before _ refl refl refl
 
 pub entry_said :
     (names before after : Table) (e : Entry) → Extends after names → AreSaid names before (entry_phrases e) after →
@@ -214,38 +199,6 @@ pub reply_phrases_said :
     (names before after : Table) (declared : Declared) (r : Reply) (owed : Option Contract) →
     Extends after names → IsTold names declared r → ShowsOwed owed r → ReplySaid before (reply_data names r) owed after →
     AreSaid names before (reply_phrases r) after
-reply_phrases_said names before after declared (Reply.Registered n) owed more told shows said =
-    nothing_more names before (reply_data names (Reply.Registered n)) owed after refl refl refl said
-reply_phrases_said names before after declared (Reply.NameTaken n) owed more told shows said =
-    nothing_more names before (reply_data names (Reply.NameTaken n)) owed after refl refl refl said
-reply_phrases_said names before after declared Reply.Hopeless owed more told shows said =
-    nothing_more names before (reply_data names Reply.Hopeless) owed after refl refl refl said
-reply_phrases_said names before after declared Reply.TooLarge owed more told shows said =
-    nothing_more names before (reply_data names Reply.TooLarge) owed after refl refl refl said
-reply_phrases_said names before after declared (Reply.Recorded n may_end) owed more told shows said =
-    nothing_more names before (reply_data names (Reply.Recorded n may_end)) owed after refl refl refl said
-reply_phrases_said names before after declared (Reply.Voided n may_end) owed more told shows said =
-    nothing_more names before (reply_data names (Reply.Voided n may_end)) owed after refl refl refl said
-reply_phrases_said names before after declared (Reply.NoEvent k) owed more told shows said =
-    nothing_more names before (reply_data names (Reply.NoEvent k)) owed after refl refl refl said
-reply_phrases_said names before after declared Reply.Ended owed more told shows said =
-    nothing_more names before (reply_data names Reply.Ended) owed after refl refl refl said
-reply_phrases_said names before after declared (Reply.Late d) owed more told shows said =
-    nothing_more names before (reply_data names (Reply.Late d)) owed after refl refl refl said
-reply_phrases_said names before after declared Reply.Unmatched owed more told shows said =
-    nothing_more names before (reply_data names Reply.Unmatched) owed after refl refl refl said
-reply_phrases_said names before after declared Reply.EndedNow owed more told shows said =
-    nothing_more names before (reply_data names Reply.EndedNow) owed after refl refl refl said
-reply_phrases_said names before after declared Reply.AlreadyEnded owed more told shows said =
-    nothing_more names before (reply_data names Reply.AlreadyEnded) owed after refl refl refl said
-reply_phrases_said names before after declared Reply.NotPerformed owed more told shows said =
-    nothing_more names before (reply_data names Reply.NotPerformed) owed after refl refl refl said
-reply_phrases_said names before after declared (Reply.Answered a) owed more told shows said =
-    nothing_more names before (reply_data names (Reply.Answered a)) owed after refl refl refl said
-reply_phrases_said names before after declared (Reply.Watching n) owed more told shows said =
-    nothing_more names before (reply_data names (Reply.Watching n)) owed after refl refl refl said
-reply_phrases_said names before after declared (Reply.NoWatch n) owed more told shows said =
-    nothing_more names before (reply_data names (Reply.NoWatch n)) owed after refl refl refl said
 reply_phrases_said names before after declared (Reply.NoContract x) owed more told shows said =
     no_contract_phrases names before said.named said.listed after x said.name.0 more told said.name.1 said.rows said.residual.1
 reply_phrases_said names before after declared (Reply.Shown c n may_end ended) owed more told shows said =
@@ -254,6 +207,8 @@ reply_phrases_said names before after declared (Reply.Shown c n may_end ended) o
 reply_phrases_said names before after declared (Reply.Folio rows total) owed more told shows said =
     folio_phrases names before after rows total owed more
     (λ i d low. (told.0 i d low).0) said
+reply_phrases_said names before after declared r owed more told shows said =
+    nothing_more names before (reply_data names r) owed after refl refl refl said
 
 same_command : (t u : List ℕ) → Some t ≡ Some u → t ≡ u
 same_command t u e = cc

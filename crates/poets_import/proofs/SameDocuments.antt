@@ -4,7 +4,7 @@ use Rattle.std.specs.Prelude.{codes}
 use Rattle.std.specs.Str.{bytes_eq}
 use Rattle.std.specs.List.{flat_map}
 use Rattle.std.proofs.lemmas.List.Elements.{All-head, All-tail}
-use Rattle.serde_json.specs.Data.{Data, Items, Members, array, boolean, member, no_members, number, object, string, unsigned}
+use Rattle.serde_json.specs.Data.{Data, Items, Members, array, member, no_members, object, string}
 use Rattle.serde_json.specs.View.{items_of}
 use Rattle.poets_value.specs.declared.value.Name.{Name}
 use Rattle.poets_value.specs.declared.value.Value.{Value}
@@ -24,8 +24,8 @@ use Rattle.poets_command.specs.Said.{Statement}
 use Rattle.poets_print.specs.Lines.{command_text}
 use Rattle.poets_print.specs.Texts.{contract_text, name_text, value_text}
 use Rattle.poets_books.specs.Replies.{kind_text}
-use Rattle.poets_json.specs.Document.{answer_data, answered_data, entry_data, folio_data, late_data, list_data, no_contract_data, part_data}
-use Rattle.poets_json.specs.Document.{reply_data, row_data, shown_data, total_members, value_data}
+use Rattle.poets_json.specs.Document.{answer_data, entry_data, entry_with, folio_members, list_data, of_kind, only, part_data}
+use Rattle.poets_json.specs.Document.{reply_data, row_data, shown_members, total_members, value_data}
 use Rattle.poets_literals.specs.Declared.{IsAsDeclared, IsPlaced}
 use Rattle.poets_literals.proofs.NameTexts.{one_name}
 use Rattle.poets_literals.proofs.ValueTexts.{one_value}
@@ -150,11 +150,15 @@ module _ (names : Table) (declared : Declared) (table : IsTable names) where
       first_member : (a b : Data) → member (codes "total") a no_members ≡ member (codes "total") b no_members → a ≡ b
       first_member a b e = cc
 
-  folio_rows : (a b : Data) (m n : Members) → folio_data a m ≡ folio_data b n → a ≡ b
-  folio_rows a b m n e = cc
+  folio_rows :
+      (kind : List ℕ) (a b : Data) (m n : Members) →
+      of_kind kind (folio_members a m) ≡ of_kind kind (folio_members b n) → a ≡ b
+  folio_rows kind a b m n e = cc
 
-  folio_total : (a b : Data) (m n : Members) → folio_data a m ≡ folio_data b n → m ≡ n
-  folio_total a b m n e = cc
+  folio_total :
+      (kind : List ℕ) (a b : Data) (m n : Members) →
+      of_kind kind (folio_members a m) ≡ of_kind kind (folio_members b n) → m ≡ n
+  folio_total kind a b m n e = cc
 
   same_some : (r s : Reply) → Some r ≡ Some s → r ≡ s
   same_some r s e = cc
@@ -162,26 +166,36 @@ module _ (names : Table) (declared : Declared) (table : IsTable names) where
   same_kind : (a b : List ℕ) → Some a ≡ Some b → a ≡ b
   same_kind a b e = cc
 
-  same_answered : (a b : Data) → answered_data a ≡ answered_data b → a ≡ b
-  same_answered a b e = cc
+  same_answered : (kind : List ℕ) (a b : Data) → of_kind kind (only (codes "answer") a) ≡ of_kind kind (only (codes "answer") b) → a ≡ b
+  same_answered kind a b e = cc
 
-  same_missing : (t u : List ℕ) → no_contract_data t ≡ no_contract_data u → t ≡ u
-  same_missing t u e = cc
+  same_missing :
+      (kind t u : List ℕ) → of_kind kind (only (codes "name") (string t)) ≡ of_kind kind (only (codes "name") (string u)) →
+      t ≡ u
+  same_missing kind t u e = cc
 
-  same_day : (t u : List ℕ) → late_data t ≡ late_data u → t ≡ u
-  same_day t u e = cc
+  same_day :
+      (kind t u : List ℕ) → of_kind kind (only (codes "day") (string t)) ≡ of_kind kind (only (codes "day") (string u)) →
+      t ≡ u
+  same_day kind t u e = cc
 
   day_of : (d e : ℤ) → V.Day d ≡ V.Day e → d ≡ e
   day_of d e h = cc
 
-  shown_count : (t u : List ℕ) (m n : ℕ) (a b c d : Bool) → shown_data t m a b ≡ shown_data u n c d → m ≡ n
-  shown_count t u m n a b c d e = cc
+  shown_count :
+      (kind t u : List ℕ) (m n : ℕ) (a b c d : Bool) →
+      of_kind kind (shown_members t m a b) ≡ of_kind kind (shown_members u n c d) → m ≡ n
+  shown_count kind t u m n a b c d e = cc
 
-  shown_may_end : (t u : List ℕ) (m n : ℕ) (a b c d : Bool) → shown_data t m a b ≡ shown_data u n c d → a ≡ c
-  shown_may_end t u m n a b c d e = cc
+  shown_may_end :
+      (kind t u : List ℕ) (m n : ℕ) (a b c d : Bool) →
+      of_kind kind (shown_members t m a b) ≡ of_kind kind (shown_members u n c d) → a ≡ c
+  shown_may_end kind t u m n a b c d e = cc
 
-  shown_ended : (t u : List ℕ) (m n : ℕ) (a b c d : Bool) → shown_data t m a b ≡ shown_data u n c d → b ≡ d
-  shown_ended t u m n a b c d e = cc
+  shown_ended :
+      (kind t u : List ℕ) (m n : ℕ) (a b c d : Bool) →
+      of_kind kind (shown_members t m a b) ≡ of_kind kind (shown_members u n c d) → b ≡ d
+  shown_ended kind t u m n a b c d e = cc
 
   same_owed : (c d : Contract) → Some c ≡ Some d → c ≡ d
   same_owed c d e = cc
@@ -193,19 +207,19 @@ module _ (names : Table) (declared : Declared) (table : IsTable names) where
   by_words : (r s : Reply) (n : ℕ) → Words r n → place_of_words (kind_text s) ≡ n → Same r s
   by_words r s n (Words.Answered a) e =
       if_answered (Same (Reply.Answered a))
-      (λ b h k owed same. ap Reply.Answered (same_answer a b h k (same_answered (answer_data names a) (answer_data names b) same)))
+      (λ b h k owed same. ap Reply.Answered (same_answer a b h k (same_answered (kind_text (Reply.Answered a)) (answer_data names a) (answer_data names b) same)))
       s (place_of_words (kind_text s)) (words s) e
   by_words r s n (Words.Folio rows total) e =
       if_folio (Same (Reply.Folio rows total))
       (λ others more h k owed same.
       let same_rows = same_lists (part_data names) (IsPart names declared) same_part rows others h.0 k.0
-      (same_arrays (map (part_data names) rows) (map (part_data names) others) (folio_rows _ _ (total_members names total) (total_members names more) same)) in
-      let totals = same_total total more h.1 k.1 (folio_total (list_data (part_data names) rows) (list_data (part_data names) others) _ _ same) in
+      (same_arrays (map (part_data names) rows) (map (part_data names) others) (folio_rows (kind_text (Reply.Folio rows total)) _ _ (total_members names total) (total_members names more) same)) in
+      let totals = same_total total more h.1 k.1 (folio_total (kind_text (Reply.Folio rows total)) (list_data (part_data names) rows) (list_data (part_data names) others) _ _ same) in
       λ i. Reply.Folio (same_rows i) (totals i))
       s (place_of_words (kind_text s)) (words s) e
   by_words r s n (Words.NoContract x) e =
       if_no_contract (Same (Reply.NoContract x))
-      (λ y h k owed same. ap Reply.NoContract (one_name names x y h k (same_missing (name_text names x) (name_text names y) same)))
+      (λ y h k owed same. ap Reply.NoContract (one_name names x y h k (same_missing (kind_text (Reply.NoContract x)) (name_text names x) (name_text names y) same)))
       s (place_of_words (kind_text s)) (words s) e
   by_words r s n (Words.Late d) e =
       if_late (Same (Reply.Late d))
@@ -213,15 +227,16 @@ module _ (names : Table) (declared : Declared) (table : IsTable names) where
       ap Reply.Late
       (day_of d day
       (one_value names declared (value_text names (V.Day day)) (V.Day d) (V.Day day) table
-      (h, ap (λ (t : List ℕ). codes "@" ++ t) (same_day (day_text d) (day_text day) same)) (k, refl))))
+      (h, ap (λ (t : List ℕ). codes "@" ++ t) (same_day (kind_text (Reply.Late d)) (day_text d) (day_text day) same)) (k, refl))))
       s (place_of_words (kind_text s)) (words s) e
   by_words r s n (Words.Shown c m may_end ended) e =
       if_shown (Same (Reply.Shown c m may_end ended))
       (λ d count may ends h k owed same.
       let contract = same_owed c d owed in
-      let counts = shown_count (contract_text names c) (contract_text names d) m count may_end ended may ends same in
-      let mays = shown_may_end (contract_text names c) (contract_text names d) m count may_end ended may ends same in
-      let end = shown_ended (contract_text names c) (contract_text names d) m count may_end ended may ends same in
+      let kind = kind_text (Reply.Shown c m may_end ended) in
+      let counts = shown_count kind (contract_text names c) (contract_text names d) m count may_end ended may ends same in
+      let mays = shown_may_end kind (contract_text names c) (contract_text names d) m count may_end ended may ends same in
+      let end = shown_ended kind (contract_text names c) (contract_text names d) m count may_end ended may ends same in
       λ i. Reply.Shown (contract i) (counts i) (mays i) (end i))
       s (place_of_words (kind_text s)) (words s) e
   by_words r s n (Words.Other q told) e =
@@ -235,11 +250,6 @@ module _ (names : Table) (declared : Declared) (table : IsTable names) where
   same_reply r s h k owed same =
       let kinds = same_kind (kind_text s) (kind_text r) (sym (has_words names s) ∙ ap (text_at (codes "kind")) (sym same) ∙ has_words names r) in
       by_words r s (place_of_words (kind_text r)) (words r) (ap place_of_words kinds) h k owed same
-
-  -- an entry's value with these parts
-  abbrev entry_with : ℕ → List ℕ → Data → Data
-  entry_with n text reply =
-      object (member (codes "clerk") (number (unsigned n)) (member (codes "command") (string text) (member (codes "reply") reply no_members)))
 
   entry_clerk : (m n : ℕ) (t u : List ℕ) (a b : Data) → entry_with m t a ≡ entry_with n u b → m ≡ n
   entry_clerk m n t u a b e = cc

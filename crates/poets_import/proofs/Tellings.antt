@@ -1,7 +1,9 @@
 -- Replies and the words that tell them.
-use Rattle.std.proofs.Common.{◌≡◌, ℕ, ℤ, Bool, List, [], ◌∷◌, Option, Some, None, option_map, refl, sym, ap, subst, ◌∙◌, arith}
+use Rattle.std.proofs.Common.{◌≡◌, ℕ, ℤ, Bool, List, [], ◌∷◌, Option, Some, None, option_map, refl, sym, ap, subst, ◌∙◌, arith, Ordering, Less, Equal, Greater, nat_cmp}
 use Rattle.std.specs.Prelude.{codes, unwrap_or}
-use Rattle.serde_json.specs.Data.{Data}
+use Rattle.std.specs.Cmp.Lexicographic.{slice_cmp}
+use Rattle.serde_json.specs.Data.{Data, Members, member, no_members, put, string}
+use Rattle.serde_json.specs.Find.{get_member}
 use Rattle.poets_value.specs.Civil.{IsDayNumber}
 use Rattle.poets_value.specs.declared.value.Name.{Name}
 use Rattle.poets_value.specs.declared.value.Value.{Value}
@@ -11,7 +13,7 @@ use Rattle.poets_lex.specs.Table.{Table}
 use Rattle.poets_command.specs.Plain.{Reply}
 use Rattle.poets_books.specs.Replies.{kind_text}
 use Rattle.poets_expr.specs.Env.{Declared}
-use Rattle.poets_json.specs.Document.{reply_data}
+use Rattle.poets_json.specs.Document.{reply_data, reply_members}
 use Rattle.poets_literals.specs.Declared.{IsPlaced}
 use Rattle.poets_import.specs.code.Finding.{FindsBare, FindsSome, Has, IsBare, IsPlain, IsTold, IsToldWith, ShowsOwed}
 use Rattle.poets_import.specs.code.Members.{text_at}
@@ -39,42 +41,23 @@ words (Reply.Folio rows total) = Folio rows total
 words (Reply.NoContract x) = NoContract x
 words (Reply.Late d) = Late d
 words (Reply.Shown c n may_end ended) = Shown c n may_end ended
-words (Reply.Registered n) = Other (Reply.Registered n) (λ names. refl)
-words (Reply.NameTaken n) = Other (Reply.NameTaken n) (λ names. refl)
-words Reply.Hopeless = Other Reply.Hopeless (λ names. refl)
-words Reply.TooLarge = Other Reply.TooLarge (λ names. refl)
-words (Reply.Recorded n may_end) = Other (Reply.Recorded n may_end) (λ names. refl)
-words (Reply.Voided n may_end) = Other (Reply.Voided n may_end) (λ names. refl)
-words (Reply.NoEvent k) = Other (Reply.NoEvent k) (λ names. refl)
-words Reply.Ended = Other Reply.Ended (λ names. refl)
-words Reply.Unmatched = Other Reply.Unmatched (λ names. refl)
-words Reply.EndedNow = Other Reply.EndedNow (λ names. refl)
-words Reply.AlreadyEnded = Other Reply.AlreadyEnded (λ names. refl)
-words Reply.NotPerformed = Other Reply.NotPerformed (λ names. refl)
-words (Reply.Watching n) = Other (Reply.Watching n) (λ names. refl)
-words (Reply.NoWatch n) = Other (Reply.NoWatch n) (λ names. refl)
+words r = Other r (λ names. refl)
+
+kind_put :
+    (kind : List ℕ) (others : Members) → get_member (codes "kind") (put (codes "kind") (string kind) others) ≡ Some (string kind)
+kind_put kind no_members = refl
+kind_put kind (member name d others) = by_order (slice_cmp nat_cmp (codes "kind") name) refl
+  where
+    by_order :
+        (o : Ordering) → slice_cmp nat_cmp (codes "kind") name ≡ o →
+        get_member (codes "kind") (put (codes "kind") (string kind) (member name d others)) ≡ Some (string kind)
+    by_order Less e = rw e refl
+    by_order Equal e = rw e (rw e refl)
+    by_order Greater e = rw e (rw e (kind_put kind others))
 
 -- the words are a member of the value
 pub has_words : (names : Table) (r : Reply) → text_at (codes "kind") (reply_data names r) ≡ Some (kind_text r)
-has_words names (Reply.Registered n) = refl
-has_words names (Reply.NameTaken n) = refl
-has_words names Reply.Hopeless = refl
-has_words names Reply.TooLarge = refl
-has_words names (Reply.Recorded n may_end) = refl
-has_words names (Reply.Voided n may_end) = refl
-has_words names (Reply.NoEvent k) = refl
-has_words names (Reply.NoContract x) = refl
-has_words names Reply.Ended = refl
-has_words names (Reply.Late d) = refl
-has_words names Reply.Unmatched = refl
-has_words names Reply.EndedNow = refl
-has_words names Reply.AlreadyEnded = refl
-has_words names Reply.NotPerformed = refl
-has_words names (Reply.Shown c n may_end ended) = refl
-has_words names (Reply.Answered a) = refl
-has_words names (Reply.Folio rows total) = refl
-has_words names (Reply.Watching n) = refl
-has_words names (Reply.NoWatch n) = refl
+has_words names r = rw (kind_put (kind_text r) (reply_members names r)) refl
 
 module _ (P : Reply → Type 0) where
   -- what holds of each reply that has these words
@@ -202,46 +185,20 @@ bare_plain names owed kind d found no_name no_day no_residual is_found r is said
 -- ---- replies that are plain, or bare, are told
 
 pub plain_is_bare : (names : Table) (owed : Option Contract) (r : Reply) → IsPlain r → IsBare names owed r
-plain_is_bare names owed (Reply.Registered n) plain = tt
-plain_is_bare names owed (Reply.NameTaken n) plain = tt
-plain_is_bare names owed Reply.Hopeless plain = tt
-plain_is_bare names owed Reply.TooLarge plain = tt
-plain_is_bare names owed (Reply.Recorded n may_end) plain = tt
-plain_is_bare names owed (Reply.Voided n may_end) plain = tt
-plain_is_bare names owed (Reply.NoEvent k) plain = tt
-plain_is_bare names owed Reply.Ended plain = tt
-plain_is_bare names owed Reply.Unmatched plain = tt
-plain_is_bare names owed Reply.EndedNow plain = tt
-plain_is_bare names owed Reply.AlreadyEnded plain = tt
-plain_is_bare names owed Reply.NotPerformed plain = tt
-plain_is_bare names owed (Reply.Watching n) plain = tt
-plain_is_bare names owed (Reply.NoWatch n) plain = tt
 plain_is_bare names owed (Reply.NoContract x) plain = absurd plain
 plain_is_bare names owed (Reply.Late d) plain = absurd plain
 plain_is_bare names owed (Reply.Shown c n may_end ended) plain = absurd plain
 plain_is_bare names owed (Reply.Answered a) plain = absurd plain
 plain_is_bare names owed (Reply.Folio rows total) plain = absurd plain
+plain_is_bare names owed r plain = tt
 
 pub bare_is_told : (names : Table) (declared : Declared) (owed : Option Contract) (r : Reply) → IsBare names owed r → IsTold names declared r × ShowsOwed owed r
-bare_is_told names declared owed (Reply.Registered n) is = (tt, tt)
-bare_is_told names declared owed (Reply.NameTaken n) is = (tt, tt)
-bare_is_told names declared owed Reply.Hopeless is = (tt, tt)
-bare_is_told names declared owed Reply.TooLarge is = (tt, tt)
-bare_is_told names declared owed (Reply.Recorded n may_end) is = (tt, tt)
-bare_is_told names declared owed (Reply.Voided n may_end) is = (tt, tt)
-bare_is_told names declared owed (Reply.NoEvent k) is = (tt, tt)
-bare_is_told names declared owed Reply.Ended is = (tt, tt)
-bare_is_told names declared owed Reply.Unmatched is = (tt, tt)
-bare_is_told names declared owed Reply.EndedNow is = (tt, tt)
-bare_is_told names declared owed Reply.AlreadyEnded is = (tt, tt)
-bare_is_told names declared owed Reply.NotPerformed is = (tt, tt)
-bare_is_told names declared owed (Reply.Watching n) is = (tt, tt)
-bare_is_told names declared owed (Reply.NoWatch n) is = (tt, tt)
 bare_is_told names declared owed (Reply.NoContract x) is = (is, tt)
 bare_is_told names declared owed (Reply.Late d) is = (is, tt)
 bare_is_told names declared owed (Reply.Shown c n may_end ended) is = (tt, is)
 bare_is_told names declared owed (Reply.Answered a) is = absurd is
 bare_is_told names declared owed (Reply.Folio rows total) is = absurd is
+bare_is_told names declared owed r is = (tt, tt)
 
 none_is_some : (q : Reply) → None ≡ Some q → ⊥
 none_is_some q e = cc
@@ -260,23 +217,10 @@ told_is_bare names declared owed r n (Other q told) no_answer no_folio is = bare
     bare_other q told = by_reply q (told names)
       where
         by_reply : (q : Reply) → plain_reply (kind_text q) (reply_data names q) ≡ Some q → IsBare names owed q
-        by_reply (Reply.Registered n) e = tt
-        by_reply (Reply.NameTaken n) e = tt
-        by_reply Reply.Hopeless e = tt
-        by_reply Reply.TooLarge e = tt
-        by_reply (Reply.Recorded n may_end) e = tt
-        by_reply (Reply.Voided n may_end) e = tt
-        by_reply (Reply.NoEvent k) e = tt
-        by_reply Reply.Ended e = tt
-        by_reply Reply.Unmatched e = tt
-        by_reply Reply.EndedNow e = tt
-        by_reply Reply.AlreadyEnded e = tt
-        by_reply Reply.NotPerformed e = tt
-        by_reply (Reply.Watching n) e = tt
-        by_reply (Reply.NoWatch n) e = tt
         by_reply (Reply.NoContract x) e = absurd (none_is_some (Reply.NoContract x) e)
         by_reply (Reply.Late d) e = absurd (none_is_some (Reply.Late d) e)
         by_reply (Reply.Shown c n may_end ended) e = absurd (none_is_some (Reply.Shown c n may_end ended) e)
         by_reply (Reply.Answered a) e = absurd (none_is_some (Reply.Answered a) e)
         by_reply (Reply.Folio rows None) e = absurd (none_is_some (Reply.Folio rows None) e)
         by_reply (Reply.Folio rows (Some total)) e = absurd (none_is_some (Reply.Folio rows (Some total)) e)
+        by_reply q e = tt

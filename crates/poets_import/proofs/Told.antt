@@ -1,12 +1,14 @@
 -- Names and days of replies, found by their texts.
 use Rattle.std.proofs.Common.{◌≡◌, ℕ, ℤ, List, Option, Some, None, option_map, refl, sym, ap, subst, ◌∙◌}
 use Rattle.std.specs.Prelude.{IfNone, IfSome, codes}
-use Rattle.serde_json.specs.Data.{Data}
+use Rattle.serde_json.specs.Data.{Data, string}
 use Rattle.poets_value.specs.declared.value.Name.{Name}
 use Rattle.poets_value.specs.Civil.{IsDayNumber, day_text}
 use Rattle.poets_lex.specs.Table.{Table, place_of}
 use Rattle.poets_print.specs.Texts.{name_text}
-use Rattle.poets_json.specs.Document.{late_data, no_contract_data}
+use Rattle.poets_command.specs.Plain.{Reply}
+use Rattle.poets_books.specs.Replies.{kind_text}
+use Rattle.poets_json.specs.Document.{of_kind, only}
 use Rattle.poets_literals.specs.Declared.{HasDayText, IsPlaced}
 use Rattle.poets_import.specs.code.Finding.{FindsSome}
 use Rattle.poets_import.specs.code.Members.{text_at}
@@ -31,7 +33,9 @@ name_found names text d None here e y placed is =
     no_number (e ∙ subst (λ (t : List ℕ). place_of t names ≡ Some y.id) same placed)
 name_found names text d (Some x) here e y placed is =
     let same : name_text names y ≡ text = same_found here (ap (text_at (codes "name")) is) in
-    is ∙ ap no_contract_data (same ∙ sym (named_text names text x (sym e)).0)
+    is
+    ∙ ap (λ (t : List ℕ). of_kind (kind_text (Reply.NoContract x)) (only (codes "name") (string t)))
+    (same ∙ sym (named_text names text x (sym e)).0)
 
 pub first_found :
     (names : Table) (text : List ℕ) (here : Option (List ℕ)) (found : Option Name) → Some text ≡ here →
@@ -49,4 +53,6 @@ pub day_found :
 day_found text d None here some none y range is =
     none y (range, same_found here (ap (text_at (codes "day")) is))
 day_found text d (Some day) here some none y range is =
-    is ∙ ap late_data (same_found here (ap (text_at (codes "day")) is) ∙ sym some.1)
+    is
+    ∙ ap (λ (t : List ℕ). of_kind (kind_text (Reply.Late day)) (only (codes "day") (string t)))
+    (same_found here (ap (text_at (codes "day")) is) ∙ sym some.1)

@@ -9,8 +9,7 @@ use Rattle.poets_value.specs.declared.value.Value.{Value}
 use Rattle.poets_report.specs.Plain.{Answer, Single, Rows, KeyRow}
 use Rattle.poets_lex.specs.Table.{Table}
 use Rattle.poets_command.specs.Plain.{Reply, Entry}
-use Rattle.poets_json.specs.Document.{value_data, row_data, answer_data, part_data, list_data, folio_data}
-use Rattle.poets_json.specs.Document.{total_members, reply_data, entry_data}
+use Rattle.poets_json.specs.Document.{value_data, row_data, answer_data, part_data, list_data, reply_data, entry_data}
 
 no_float_list :
     {A : Type 0} (data_of : A → Data) → ((x : A) → has_float (data_of x) ≡ false) → (xs : List A) →
@@ -38,7 +37,7 @@ no_float_part names part = or_from _ _ (no_float_answer names part.1) refl
 
 no_float_folio :
     (names : Table) (rows : List (Name × Answer)) (total : Option (Option Value)) →
-    has_float (folio_data (list_data (part_data names) rows) (total_members names total)) ≡ false
+    has_float (reply_data names (Reply.Folio rows total)) ≡ false
 no_float_folio names rows None = or_from _ _ (no_float_list (part_data names) (no_float_part names) rows) refl
 no_float_folio names rows (Some v) =
     or_from _ _ (no_float_list (part_data names) (no_float_part names) rows)
@@ -47,23 +46,7 @@ no_float_folio names rows (Some v) =
 no_float_reply : (names : Table) (r : Reply) → has_float (reply_data names r) ≡ false
 no_float_reply names (Reply.Answered a) = or_from _ _ (no_float_answer names a) refl
 no_float_reply names (Reply.Folio rows total) = no_float_folio names rows total
-no_float_reply names (Reply.Registered n) = refl
-no_float_reply names (Reply.NameTaken n) = refl
-no_float_reply names Reply.Hopeless = refl
-no_float_reply names Reply.TooLarge = refl
-no_float_reply names (Reply.Recorded n may_end) = refl
-no_float_reply names (Reply.Voided n may_end) = refl
-no_float_reply names (Reply.NoEvent k) = refl
-no_float_reply names (Reply.NoContract x) = refl
-no_float_reply names Reply.Ended = refl
-no_float_reply names (Reply.Late d) = refl
-no_float_reply names Reply.Unmatched = refl
-no_float_reply names Reply.EndedNow = refl
-no_float_reply names Reply.AlreadyEnded = refl
-no_float_reply names Reply.NotPerformed = refl
-no_float_reply names (Reply.Shown c n may_end ended) = refl
-no_float_reply names (Reply.Watching n) = refl
-no_float_reply names (Reply.NoWatch n) = refl
+no_float_reply names r = refl
 
 pub no_float_entry : (names : Table) (e : Entry) → has_float (entry_data names e) ≡ false
 no_float_entry names e = or_from _ _ (no_float_reply names e.reply) refl

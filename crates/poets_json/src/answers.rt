@@ -1,10 +1,10 @@
 //! Values of JSON for values of the language, answers of reports, and portfolios.
 ghost use Rattle.std.specs.Prelude.{IfOk, codes, map};
-ghost use Rattle.serde_json.specs.Data.{member, no_members};
+ghost use Rattle.serde_json.specs.Data.{no_members};
 ghost use Rattle.serde_json.specs.View.{view};
 ghost use Rattle.poets_report.specs.Answers.{answer_of};
 ghost use Rattle.poets_command.specs.Calls.{folio_row_of};
-ghost use Rattle.poets_json.specs.Document.{answer_data, folio_data, list_data, part_data, row_data};
+ghost use Rattle.poets_json.specs.Document.{answer_data, folio_members, list_data, of_kind, only, part_data, row_data};
 ghost use Rattle.poets_json.specs.Document.{total_members, value_data};
 ghost use Rattle.poets_json.specs.code.Values.{Is};
 
@@ -88,43 +88,49 @@ fn parts_json(alloc: Global, names: &Names, parts: &[(Name, Answer)]) -> Result<
 }
 
 // A portfolio with no total.
-fn untotalled_json(alloc: Global, rows: Json) -> Result<Json, Memory>
-    ensures { IfOk result (Is (folio_data (view rows) no_members)) }
+fn untotalled_json(alloc: Global, kind: &str, rows: Json) -> Result<Json, Memory>
+    ensures { IfOk result (Is (of_kind kind.now (folio_members (view rows) no_members))) }
 {
-    Ok(json!(in alloc; {"kind": "portfolio", "rows": rows})?)
+    Ok(json!(in alloc; {"kind": kind, "rows": rows})?)
 }
 
 // A portfolio with its total.
-fn totalled_json(alloc: Global, rows: Json, total: Json) -> Result<Json, Memory>
-    ensures { IfOk result (Is (folio_data (view rows) (member (codes "total") (view total) no_members))) }
+fn totalled_json(alloc: Global, kind: &str, rows: Json, total: Json) -> Result<Json, Memory>
+    ensures { IfOk result (Is (of_kind kind.now (folio_members (view rows) (only (codes "total") (view total))))) }
 {
-    Ok(json!(in alloc; {"kind": "portfolio", "rows": rows, "total": total})?)
+    Ok(json!(in alloc; {"kind": kind, "rows": rows, "total": total})?)
 }
 
 // A portfolio with these rows.
 fn with_rows(
     alloc: Global,
     names: &Names,
+    kind: &str,
     rows: Json,
     total: &Option<Option<Value>>,
 ) -> Result<Json, Memory>
-    ensures { IfOk result (Is (folio_data (view rows) (total_members names.now total.now))) }
+    ensures { IfOk result (Is (of_kind kind.now (folio_members (view rows) (total_members names.now total.now)))) }
 {
     match total {
-        None => untotalled_json(alloc, rows),
+        None => untotalled_json(alloc, kind, rows),
         Some(total) => {
             let total = value_json(alloc, names, total)?;
-            totalled_json(alloc, rows, total)
+            totalled_json(alloc, kind, rows, total)
         }
     }
 }
 
-/// A portfolio: its parts, and its total where there is one.
-pub(crate) fn folio_json(alloc: Global, names: &Names, folio: &Folio) -> Result<Json, Memory>
-    ensures { IfOk result (Is (folio_data
+/// A portfolio: its kind, its parts, and its total where there is one.
+pub(crate) fn folio_json(
+    alloc: Global,
+    names: &Names,
+    kind: &str,
+    folio: &Folio,
+) -> Result<Json, Memory>
+    ensures { IfOk result (Is (of_kind kind.now (folio_members
         (list_data (part_data names.now) (map folio_row_of folio.now.rows.items))
-        (total_members names.now folio.now.total))) }
+        (total_members names.now folio.now.total)))) }
 {
     let rows = parts_json(alloc, names, folio.rows.as_slice())?;
-    with_rows(alloc, names, rows, &folio.total)
+    with_rows(alloc, names, kind, rows, &folio.total)
 }

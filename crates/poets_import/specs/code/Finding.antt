@@ -11,7 +11,7 @@ use Rattle.poets_command.specs.Plain as plain
 use Rattle.poets_command.specs.Calls.{folio_row_of}
 use Rattle.poets_command.specs.declared.call.Folio as code
 use Rattle.poets_books.specs.Replies.{kind_text}
-use Rattle.poets_json.specs.Document.{folio_data, list_data, part_data, reply_data, total_members}
+use Rattle.poets_json.specs.Document.{reply_data}
 use Rattle.poets_syntax.specs.Contract.{Contract}
 use Rattle.serde_json.specs.Data.{Data}
 use Rattle.poets_import.specs.Reading.{HasReplied, HasTotal, HasValues, IsIfDefined}
@@ -62,7 +62,7 @@ folio_of f = (map folio_row_of f.rows.items, f.total)
 
 -- the value of a portfolio
 abbrev pub folio_as_data : Table → Folio → Data
-folio_as_data names folio = folio_data (list_data (part_data names) folio.0) (total_members names folio.1)
+folio_as_data names folio = reply_data names (plain.Folio folio.0 folio.1)
 
 -- the names that a reply tells are those of their texts, and the rest is as it has to be
 abbrev pub IsTold : Table → Declared → plain.Reply → Type 0

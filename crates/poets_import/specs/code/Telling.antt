@@ -3,15 +3,15 @@ use Rattle.std.specs.Prelude.{ℕ, ℤ, Bool, List, [], ◌∷◌, Option, Some,
 use Rattle.std.specs.Prelude.{option_map, option_and_then}
 use Rattle.std.specs.Option.{option_or}
 use Rattle.std.specs.Str.{bytes_eq}
-use Rattle.serde_json.specs.Data.{Data}
+use Rattle.serde_json.specs.Data.{Data, string}
 use Rattle.poets_value.specs.declared.value.Name.{Name}
 use Rattle.poets_value.specs.Civil.{day_text}
 use Rattle.poets_syntax.specs.Contract.{Contract}
 use Rattle.poets_report.specs.Plain.{Answer}
 use Rattle.poets_lex.specs.Table.{Table}
 use Rattle.poets_command.specs.Plain.{Reply}
-use Rattle.poets_print.specs.Texts.{name_text}
-use Rattle.poets_json.specs.Document.{answer_data, answered_data, late_data, no_contract_data}
+use Rattle.poets_books.specs.Replies.{kind_text}
+use Rattle.poets_json.specs.Document.{of_kind, only, reply_data}
 use Rattle.poets_import.specs.code.Members.{number_at, truth_at}
 
 -- what is found by the first of these words that is the text
@@ -64,10 +64,10 @@ IsShown _ = ⊥
 
 -- values of replies with a name, a day, and an answer
 abbrev pub name_told : Table → Name → Data
-name_told names x = no_contract_data (name_text names x)
+name_told names x = reply_data names (Reply.NoContract x)
 
 abbrev pub day_told : ℤ → Data
-day_told day = late_data (day_text day)
+day_told day = of_kind (kind_text (Reply.Late day)) (only (codes "day") (string (day_text day)))
 
 abbrev pub answer_told : Table → Answer → Data
-answer_told names a = answered_data (answer_data names a)
+answer_told names a = reply_data names (Reply.Answered a)
