@@ -138,7 +138,7 @@ module _ (names : Table) (table : IsTable names) where
   reply_sound : (r : Reply) → HasSmall r → IsSound (reply_data names r)
   reply_sound r h = (
     put_sound (codes "kind") (string (kind_text r)) (reply_members names r) (known (codes "kind") refl) (kind_utf8 r)
-    (told_sound r h),
+        (told_sound r h),
     in_order r,
   )
 
