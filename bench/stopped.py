@@ -1,6 +1,6 @@
 #!/usr/bin/env python3
-"""Stops the built program in the midst of `keep` and `recover`, and tries what is left: of each family one line, how
-many cases were tried and how many ended right.
+"""Stops the built program in the midst of `keep`, `resume` and `recover`, and tries what is left: of each family one
+line, how many cases were tried and how many ended right.
 
 Usage: bench/stopped.py [PROGRAM] [FAMILY..]   (PROGRAM: crates/poets/out/poets, made by `rt run` in crates/poets; all)
 
@@ -8,7 +8,8 @@ refused   each call on the journal, and each write of a line, refused in turn, a
           or after half of it is done; each done by half, or interrupted
 killed    the program killed ahead of each of these calls, and within it
 crashed   whatever a crash may leave at each moment of a run: any choice of the writes since the last sync, and each
-          cut short, or with other bytes in its place; and `keep` on what is left, where that holds no call
+          cut short, or with other bytes in its place; and `keep` on what is left, where that holds no call, and else
+          `resume`
 cuts      a journal cut after each number of bytes
 bytes     each byte of it replaced by each of the 256
 full      a file that may not grow past each number of bytes; and a full disk, if the user may mount one
@@ -18,9 +19,10 @@ held      journals that hold calls or are damaged; and standard output that cann
 memory    each growth of memory refused
 many      65,536 commands: how often the disk is synced, and what `recover` costs
 
-`refused` to `crashed` are tried with one clerk and with eight. What has to come of a journal is worked out by
-bench/stopping.py, and by `poets replay` of the texts that it holds: of a run that was stopped, the lines of a prefix of
-its history that has every call that was synced, and so every call whose line was printed. A case that ends as it must
+`refused` to `crashed` and `memory` are tried with one clerk and with eight, who begin a journal by `keep` or go on
+with one by `resume`. What has to come of a journal is worked out by bench/stopping.py, and by `poets replay` of the
+texts that it holds: of a run that was stopped, the lines that were there before, and then those of a prefix of its
+history that has every call that was synced, and so every call whose line was printed. A case that ends as it must
 not is told, and the script ends with status 1. The journals lie in memory, where there is a folder for that: what the
 system does with a real disk is not tried. The libraries are bench/stopping.c and bench/refusing.c, built by cc.
 """
@@ -49,16 +51,42 @@ from running import is_so, run, run_refusing, shared, told_wrong
 from stopping import (JOURNAL, acknowledged, damaged_line, folder_with, images_of, journal, journal_of, moments,
                       recovered, run_told, texts_of)
 
-# A session, its book, its history, or None where several clerks make one of many, and how many commands it has.
-Session = namedtuple("Session", "book text whole count")
+# A session: the word that it goes to, its book, its text, the journal that it finds, the lines of the calls there, its
+# own lines, or None where several clerks make one history of many, how many commands it has, and what each clerk asked
+# for in the end.
+Session = namedtuple("Session", "word book text found before whole count scripts")
 EIGHT = [*SCRIPTS, ["register f = any()", "transmit f ann bob 5 Oil @2006-01-01", "end f"],
          ["watch moved()", "read 2", "transmit f bob ann 6 USD @2006-01-02"], ["show f", "void f 1"], ["tally daily()"]]
-ONE = Session(BOOK, SALE, SOLD, SOLD.count(b"\n"))
-SESSIONS = {"one clerk": ONE,
-            "eight clerks": Session(clerks.BOOK.encode(), clerks.session(EIGHT).encode(), None, sum(map(len, EIGHT)))}
+# The next day of the one clerk.
+NEXT = BOOK + b"clerk;;\nend deal;;\nregister fair = sale(bob, ann, 5);;\nshow deal;;\n"
+WENT_ON = b"""5 1: end deal => ended now
+6 1: register fair = sale(bob, ann, 5) => registered 2
+7 1: show deal => events 2, may end yes, ended yes, residual Success
+"""
+# The first day of clerks 1 and 3, on which the eight go on.
+BEGUN = b"""1 1: register c = any() => registered 1
+2 3: watch moved() => watching 1
+3 1: transmit c ann bob 1 Oil @2006-01-01 => recorded 1, may end yes
+"""
+
+
+def texts_in(history):
+    """The texts that a journal has of the history."""
+    return [line.partition(b" ")[2].partition(b" => ")[0] for line in history.splitlines()]
+
+
 # What `keep` puts into the journal for the one clerk.
-TEXTS = [line.partition(b" ")[2].partition(b" => ")[0] for line in SOLD.splitlines()]
+TEXTS = texts_in(SOLD)
 KEPT = journal_of(TEXTS)
+MANY = clerks.session(EIGHT).encode(), sum(map(len, EIGHT))
+ALL = [clerks.own_commands(BEGUN.decode()).get(clerk, []) + script for clerk, script in enumerate(EIGHT, 1)]
+ONE = Session("keep", BOOK, SALE, None, b"", SOLD, SOLD.count(b"\n"), None)
+SESSIONS = {
+    "one clerk": ONE,
+    "eight clerks": Session("keep", clerks.BOOK.encode(), MANY[0], None, b"", None, MANY[1], EIGHT),
+    "one clerk goes on": Session("resume", BOOK, NEXT, KEPT, SOLD, WENT_ON, WENT_ON.count(b"\n"), None),
+    "eight clerks go on": Session(
+        "resume", clerks.BOOK.encode(), MANY[0], journal_of(texts_in(BEGUN)), BEGUN, None, MANY[1], ALL)}
 # A journal that holds no call, with something behind its gate as an earlier stop may have left it.
 LEFT = b"\0" + 200 * b"\1"
 # How a call is refused.
@@ -74,51 +102,63 @@ def whole_lines(out):
 
 def is_prefix(session, out):
     """Whether these are the first lines of a history of the session."""
-    return is_legal(out, False, EIGHT) if session.whole is None else session.whole.startswith(out)
+    if session.whole is None:
+        return is_legal(session.before + out, False, session.scripts)
+    return session.whole.startswith(out)
 
 
 def is_whole(session, ran):
     """Whether the run ended with a history of the session."""
-    right = is_legal(ran.out, True, EIGHT) if session.whole is None else ran.out == session.whole
+    right = (is_legal(session.before + ran.out, True, session.scripts) if session.whole is None
+             else ran.out == session.whole)
     return right and is_so(ran, 0, ran.out)
 
 
 def is_recovered(session, printed, least, most):
-    """Whether the journal in the current folder gives the first lines of a history of the session's history, at least and at
-    most so many, which begins with what was printed."""
+    """Whether the journal in the current folder gives the lines that were there before, and then the first ones of a
+    history of the session, at least and at most so many, which begin with what was printed."""
     status, lines = recovered(session.book, journal() or b"")
     right = is_so(run("recover", session.book), status, lines) and (status, whole_lines(lines)) == (0, lines)
-    return right and lines.startswith(printed) and least <= lines.count(b"\n") <= most and is_prefix(session, lines)
+    own = lines.removeprefix(session.before)
+    return (right and session.before + own == lines and own.startswith(printed)
+            and least <= own.count(b"\n") <= most and is_prefix(session, own))
 
 
-def are_stored_first(calls, found=b""):
+def own_stored(session, calls):
+    """How many calls of the session are in the journal for sure once these calls were made."""
+    return acknowledged(calls, session.found or b"") - session.before.count(b"\n")
+
+
+def are_stored_first(session, calls, found=None):
     """Whether each line was printed once its call was synced."""
-    return all(lines <= len(texts_of(sure)[0]) for sure, _, lines in moments(calls, found))
+    before = session.before.count(b"\n")
+    file = found or session.found or b""
+    return all(before + lines <= len(texts_of(sure)[0]) for sure, _, lines in moments(calls, file) if lines)
 
 
 def is_refused_so(session, ran, calls):
     """Whether the run ended as it must after a call was refused: with the lines of the acknowledged calls, or with
     those that could be written, and without a further call on the journal."""
     places = [at for at, call in enumerate(calls) if call.is_disturbed]
-    after, stored = calls[places[0] + 1:], acknowledged(calls)
+    after, least = calls[places[0] + 1:], own_stored(session, calls)
     is_journal = calls[places[0]].kind != "p"
     if any(calls[at].kind == "p" for at in places):
         status, lines = 5, sum(call.kind == "p" and not call.is_disturbed for call in calls)
     else:
-        status, lines = 7, stored
+        status, lines = 7, least
     printed = whole_lines(ran.out)
     return (is_so(ran, status, ran.out) and printed.count(b"\n") == lines and is_prefix(session, printed)
-            and all(call.kind == "p" for call in after) and (is_journal or stored == session.count)
-            and (status == 5 or printed == ran.out) and are_stored_first(calls)
-            and is_recovered(session, printed, stored, min(stored + 1, session.count)))
+            and all(call.kind == "p" for call in after) and (is_journal or least == session.count)
+            and (status == 5 or printed == ran.out) and are_stored_first(session, calls)
+            and is_recovered(session, printed, least, min(least + 1, session.count)))
 
 
 def refused(name, how, error, on):
     """Each call of the session refused in turn."""
     session = SESSIONS[name]
     for at in itertools.count(1):
-        with folder_with():
-            ran, calls = run_told("keep", session.text, at, how, error, on)
+        with folder_with(session.found):
+            ran, calls = run_told(session.word, session.text, at, how, error, on)
             if not ran.refused:
                 break
             right = is_refused_so(session, ran, calls)
@@ -129,8 +169,8 @@ def halved(name, how, error):
     """Each call of the session done by half, or interrupted. What reads or writes is then tried again."""
     session = SESSIONS[name]
     for at in itertools.count(1):
-        with folder_with():
-            ran, calls = run_told("keep", session.text, at, how, error)
+        with folder_with(session.found):
+            ran, calls = run_told(session.word, session.text, at, how, error)
             if not ran.refused:
                 break
             right = is_whole(session, ran) and is_recovered(session, ran.out, session.count, session.count)
@@ -168,13 +208,13 @@ def killed(name, how):
     """The program killed ahead of each call of the session, or within it."""
     session = SESSIONS[name]
     for at in itertools.count(1):
-        with folder_with():
-            ran, calls = run_told("keep", session.text, at, how)
+        with folder_with(session.found):
+            ran, calls = run_told(session.word, session.text, at, how)
             if not ran.refused:
                 break
-            printed, stored = whole_lines(ran.out), acknowledged(calls)
-            right = ((ran.status, ran.err) == (-signal.SIGKILL, b"") and are_stored_first(calls)
-                     and is_recovered(session, printed, stored, min(stored + 1, session.count)))
+            printed, least = whole_lines(ran.out), own_stored(session, calls)
+            right = ((ran.status, ran.err) == (-signal.SIGKILL, b"") and are_stored_first(session, calls)
+                     and is_recovered(session, printed, least, min(least + 1, session.count)))
             yield None if right else told_wrong(f"{name}, killed {how} call {at}", ran)
 
 
@@ -200,25 +240,27 @@ def kills():
 
 def crashed(name, found):
     """Whatever a crash may leave at each moment of the session, over this journal: what was synced is there, and no
-    more than the next call. Where no call is there, the session is run again."""
+    more than the next call. Then the session is run again, behind the calls that are there."""
     session = SESSIONS[name]
     with folder_with(found):
-        ran, calls = run_told("keep", session.text)
-        right = is_whole(session, ran) and are_stored_first(calls, found)
+        ran, calls = run_told(session.word, session.text)
+        right = is_whole(session, ran) and are_stored_first(session, calls, found)
         yield None if right else told_wrong(f"{name} over {found[:9]!r}", ran)
     least = {}
     for sure, pending, _ in moments(calls, found):
-        stored = len(texts_of(sure)[0])
+        count = len(texts_of(sure)[0])
         for image in images_of(sure, pending):
-            least[image] = max(stored, least.get(image, 0))
-    for image, stored in least.items():
+            least[image] = max(count, least.get(image, 0))
+    for image, count in least.items():
         status, lines = recovered(session.book, image)
         with folder_with(image):
             left = run("recover", session.book)
-            right = (is_so(left, 0, lines) and status == 0 and ran.out.startswith(lines)
-                     and stored <= lines.count(b"\n") <= stored + 1)
-            yield None if right else told_wrong(f"{name}, {stored} calls synced, left {image[-60:]!r}", left)
-        if not lines:
+            right = (is_so(left, 0, lines) and status == 0 and (session.before + ran.out).startswith(lines)
+                     and lines.startswith(session.before) and count <= lines.count(b"\n") <= count + 1)
+            yield None if right else told_wrong(f"{name}, {count} calls synced, left {image[-60:]!r}", left)
+        if lines:
+            yield from gone_on(session, image, lines)
+        else:
             yield from kept_again(session, image)
 
 
@@ -230,13 +272,24 @@ def kept_again(session, image):
         yield None if right else told_wrong(f"once more over {image[:60]!r}", ran)
 
 
+def gone_on(session, image, lines):
+    """The session over a journal that holds calls, with these lines: its own lines and calls stand behind them."""
+    with folder_with(image):
+        ran = run("resume", session.text)
+        status, together = recovered(session.book, journal())
+        right = is_so(ran, 0, ran.out) and ran.out.count(b"\n") == session.count
+        right = right and (status, together) == (0, lines + ran.out)
+        yield None if right else told_wrong(f"gone on with {image[:60]!r}", ran)
+
+
 def crashes():
-    """What a crash leaves of a run, over no journal and over what an earlier crash left."""
-    return [(crashed, name, found) for name in SESSIONS for found in (b"", LEFT)]
+    """What a crash leaves of a run, over no journal or one that holds calls, and over what an earlier crash left."""
+    return [(crashed, name, found) for name, session in SESSIONS.items()
+            for found in (session.found or b"", (session.found or b"\0")[:-1] + LEFT)]
 
 
 def tried_file(about, file, book=BOOK):
-    """`recover` and then `keep` over a journal with these bytes, of which `recover` changes none."""
+    """`recover`, `keep` and `resume` over a journal with these bytes, of which `recover` changes none."""
     closed = file if len(file) > 1 else b"\0"
     with folder_with(file):
         ran = run("recover", book)
@@ -251,6 +304,13 @@ def tried_file(about, file, book=BOOK):
         end = (9, damaged_line(damaged)) if damaged else (8, b"refused: journal holds %d calls\n" % len(texts))
         right = is_so(ran, *end) and journal() == file
         yield None if right else told_wrong(f"keep, {about}", ran)
+    status, lines = recovered(book, file)
+    if not status:
+        yield from gone_on(ONE, file, lines)
+        return
+    with folder_with(file):
+        ran = run("resume", SALE)
+        yield None if is_so(ran, status, lines) and journal() == file else told_wrong(f"resume, {about}", ran)
 
 
 def cuts():
@@ -355,7 +415,7 @@ CLOSED = {
 def closed(about):
     """A journal that cannot be opened or synced: nothing is printed."""
     make, is_other_user = CLOSED[about]
-    for words, text in (("keep", SALE), ("recover", BOOK)):
+    for words, text in (("keep", SALE), ("resume", SALE), ("recover", BOOK)):
         with folder_with():
             make()
             ran = run(words, text, first=(lambda: os.setuid(USER)) if is_other_user else None)
@@ -385,11 +445,12 @@ def unread():
              b"template f() = f();;"]
     books = [SALE, AUDIT, BOOK + b"\xff", b"agents ann, ann;;", BOOK + b"kinds Oil;;", b"journal;;", texts[-1]]
     long = (MOST_BYTES + 1) * b" "
-    jobs = [(untouched, "keep", text, *run("run", text)[:2]) for text in texts]
+    jobs = [(untouched, word, text, *run("run", text)[:2]) for text in texts for word in ("keep", "resume")]
     jobs += [(untouched, "recover", text, *run("check", text)[:2]) for text in books]
-    jobs += [(untouched, word, long, 6, LONGER) for word in ("keep", "recover")]
-    jobs += [(untouched, word, b"", 4, b"", "/") for word in ("keep", "recover")]
-    jobs += [(untouched, words, SALE, 2, b"") for words in ("keep keep", "keep f", "recover 1", "Keep", "kee")]
+    jobs += [(untouched, word, long, 6, LONGER) for word in ("keep", "resume", "recover")]
+    jobs += [(untouched, word, b"", 4, b"", "/") for word in ("keep", "resume", "recover")]
+    jobs += [(untouched, words, SALE, 2, b"")
+             for words in ("keep keep", "keep f", "recover 1", "resume 1", "Keep", "kee", "resum")]
     book = (EXAMPLES / "book.poets").read_bytes()
     return jobs + [
         (untouched, "run", SALE, 0, SOLD), (untouched, "replay", AUDIT, 0, AUDITED),
@@ -434,7 +495,9 @@ def helds():
         KEPT[:-1] + KEPT)]
     damaged = KEPT[:-1]
     jobs += [(unwritten, "keep", SALE, b"", KEPT), (unwritten, "keep", SALE, KEPT, KEPT),
-             (unwritten, "keep", SALE, damaged, damaged), (unwritten, "recover", BOOK, KEPT, KEPT),
+             (unwritten, "keep", SALE, damaged, damaged), (unwritten, "resume", SALE, damaged, damaged),
+             (unwritten, "resume", NEXT, KEPT, journal_of(TEXTS + texts_in(WENT_ON))),
+             (unwritten, "recover", BOOK, KEPT, KEPT),
              (unwritten, "recover", BOOK, damaged, damaged), (unwritten, "recover", b"kinds Oil, USD;;", KEPT, KEPT)]
     return [*jobs, (deep_command,)]
 
@@ -443,8 +506,8 @@ def grown(name, on):
     """Each growth of memory refused in turn, alone or with all that follow: what was printed is stored."""
     session = SESSIONS[name]
     for at in itertools.count(1):
-        with folder_with():
-            ran = run_refusing("growth", at, "keep", session.text, on=on)
+        with folder_with(session.found):
+            ran = run_refusing("growth", at, session.word, session.text, on=on)
             if not ran.refused:
                 break
             right = is_whole(session, ran) or is_so(ran, 3, ran.out)
