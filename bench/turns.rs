@@ -1,12 +1,11 @@
 //! What `poets_bench_turnstile` does, in plain Rust: `turns LOCK CLERKS CALLS`. The lock is a `Mutex` of the standard
-//! library,
-//! which need not be fair, or a ticket lock whose waiters yield.
+//! library, which need not be fair, or a ticket lock whose waiters yield.
 use std::cell::UnsafeCell;
 use std::sync::atomic::{AtomicU64, Ordering::SeqCst};
 use std::sync::{Arc, Mutex};
 use std::{env, thread};
 
-/// Adds, and keeps what it added, as `Adder` of `poets_machine` does.
+/// Adds, and keeps what it added, as `Adder` of `poets_test_adder` does.
 #[derive(Default)]
 struct Adder {
     sum: u64,
