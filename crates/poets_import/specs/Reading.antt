@@ -47,7 +47,8 @@ HasReplied names declared (plain.Folio rows total) =
     All (λ part. HasValues names declared part.1) rows × HasTotal names declared total
 HasReplied names declared _ = Unit {0}
 
--- so it is with the entry, whose clerk's number is below 2 ^ 32
+-- the entry's clerk has a number below 2 ^ 32, and in its reply the values are as declared, and a day is one of the
+-- language's
 abbrev pub IsReadable : Table → Declared → plain.Entry → Type 0
 IsReadable names declared e = (e.clerk < 2 ^ 32) × HasReplied names declared e.reply
 
