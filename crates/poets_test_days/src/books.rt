@@ -1,6 +1,6 @@
 //! Books that have changed since yesterday.
 
-use crate::program::{ask, file_of, holding, stays};
+use crate::program::{ask, file_of, holding, leaves, stays};
 use std::alloc::Global;
 use std::test::Fail;
 
@@ -32,8 +32,13 @@ fn a_book_may_grow_at_its_end(rt: HostRuntime) -> Result<(), Fail> {
 4 1: end d => ended now
 5 1: register e = twice(carl, bob, 1) => registered 2
 ";
-    let day = ask(&rt, alloc, &["resume"], LONGER, &holding(file.as_slice()))?;
-    assert!(rt; day.is((0, 3, 3, lines)));
+    leaves(
+        &rt,
+        alloc,
+        ("resume", LONGER),
+        file.as_slice(),
+        (0, 3, 3, lines),
+    )?;
     Ok(())
 }
 

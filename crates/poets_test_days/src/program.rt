@@ -21,8 +21,8 @@ pub(crate) struct Edges<'a> {
     pub write: u64,
 }
 
-/// An empty file, and no call that fails.
-pub(crate) const EMPTY: Edges = Edges {
+// An empty file, and no call that fails.
+const EMPTY: Edges = Edges {
     file: &[],
     disk: 0,
     read: 0,
@@ -156,16 +156,28 @@ pub(crate) fn ask<R: Threads + Wait + Sync>(
     })
 }
 
-/// The program, called with the word, ends so over a journal with this file, which stays as it is.
-pub(crate) fn stays<R: Abort + Threads + Wait + Sync>(
+/// The program, called with the word, ends so over a journal with this file. What it leaves of the file.
+pub(crate) fn leaves<R: Abort + Threads + Wait + Sync>(
     rt: &R,
     alloc: Global,
     (word, text): (&str, &str),
     file: &[u8],
     wanted: End,
-) -> Result<(), Fail> {
+) -> Result<List<u8>, Fail> {
     let answer = ask(rt, alloc, &[word], text, &holding(file))?;
     assert!(rt; answer.is(wanted), "{word} over {file:?}");
-    assert_eq!(rt; answer.left(alloc, 0)?.as_slice(), file);
+    Ok(answer.left(alloc, 0)?)
+}
+
+/// The same, and the file stays as it is.
+pub(crate) fn stays<R: Abort + Threads + Wait + Sync>(
+    rt: &R,
+    alloc: Global,
+    asked: (&str, &str),
+    file: &[u8],
+    wanted: End,
+) -> Result<(), Fail> {
+    let left = leaves(rt, alloc, asked, file, wanted)?;
+    assert_eq!(rt; left.as_slice(), file);
     Ok(())
 }
