@@ -55,14 +55,15 @@ kind_utf8 r = known (kind_text r) refl
 put_sound :
     (k : List ℕ) (d : Data) (ms : Members) → IsUtf8 k → IsSound d → AreSoundMembers ms → AreSoundMembers (put k d ms)
 put_sound k d no_members name sound h = (name, sound, tt)
-put_sound k d (member l e ms) name sound h = by_order (slice_cmp nat_cmp k l)
+put_sound k d (member l e ms) name sound h =
+    by_order (slice_cmp nat_cmp k l) (put_sound k d ms name sound h.2)
   where
     by_order :
-        (o : Ordering) →
+        (o : Ordering) → AreSoundMembers (put k d ms) →
         AreSoundMembers (match_ordering o (member k d (member l e ms)) (member l d ms) (member l e (put k d ms)))
-    by_order Less = (name, sound, h)
-    by_order Equal = (h.0, sound, h.2)
-    by_order Greater = (h.0, h.1, put_sound k d ms name sound h.2)
+    by_order Less below = (name, sound, h)
+    by_order Equal below = (h.0, sound, h.2)
+    by_order Greater below = (h.0, h.1, below)
 
 module _ (names : Table) (table : IsTable names) where
   -- ---- values

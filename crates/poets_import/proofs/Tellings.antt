@@ -46,14 +46,16 @@ words r = Other r (λ names. refl)
 kind_put :
     (kind : List ℕ) (others : Members) → get_member (codes "kind") (put (codes "kind") (string kind) others) ≡ Some (string kind)
 kind_put kind no_members = refl
-kind_put kind (member name d others) = by_order (slice_cmp nat_cmp (codes "kind") name) refl
+kind_put kind (member name d others) =
+    by_order (slice_cmp nat_cmp (codes "kind") name) refl (kind_put kind others)
   where
     by_order :
         (o : Ordering) → slice_cmp nat_cmp (codes "kind") name ≡ o →
+        get_member (codes "kind") (put (codes "kind") (string kind) others) ≡ Some (string kind) →
         get_member (codes "kind") (put (codes "kind") (string kind) (member name d others)) ≡ Some (string kind)
-    by_order Less e = rw e refl
-    by_order Equal e = rw e (rw e refl)
-    by_order Greater e = rw e (rw e (kind_put kind others))
+    by_order Less e below = rw e refl
+    by_order Equal e below = rw e (rw e refl)
+    by_order Greater e below = rw e (rw e below)
 
 -- the words are a member of the value
 pub has_words : (names : Table) (r : Reply) → text_at (codes "kind") (reply_data names r) ≡ Some (kind_text r)
