@@ -11,6 +11,22 @@ const OF_C: &str = "transmit c ann bob 1 Oil @2006-01-01";
 
 const OF_D: &str = "transmit d ann bob 2 Oil @2006-01-01";
 
+// A contract with 600 events, and a portfolio of it.
+#[test]
+fn a_portfolio_goes_over_a_long_past(rt: HostRuntime) -> Result<(), Fail> {
+    let alloc = rt.alloc();
+    let events = commands(alloc, OF_C, 600)?;
+    let registered = "clerk;;\nregister c = any();;\n";
+    let asked = "portfolio sum() over c;;\n";
+    let text = joined(alloc, &[HEAD, ANY, SUM, registered, events.as_str(), asked])?;
+    let recorded = replies(alloc, OF_C, (1, 600), ("recorded ", ", may end yes"))?;
+    let first = "1 1: register c = any() => registered 1\n";
+    let last = "602 1: portfolio sum() over c => portfolio c 600, total 600\n";
+    let lines = joined(alloc, &[first, recorded.as_str(), last])?;
+    let row = ("a portfolio goes over a long past", text.as_str());
+    answered(&rt, alloc, row, (0, 602, lines.as_str()))
+}
+
 // Two contracts, 600 events on the first, 512 on the second, and a portfolio of both.
 fn long_pasts(alloc: Global) -> Result<String, Fail> {
     let on_first = commands(alloc, OF_C, 600)?;

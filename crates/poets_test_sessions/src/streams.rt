@@ -111,6 +111,33 @@ fn reads_and_writes_are_short_or_fail(rt: HostRuntime) -> Result<(), Fail> {
     only_writes_fail(&rt, rt.alloc())
 }
 
+// Oil that is taken once, and offered twice.
+const OFFERED: &str = "agents ann, bob;; kinds Oil, USD;; clerk;;
+register c = transmit(a, b, r, t | kind(r) = Oil and amount(r) = 7). Success + Success;;
+transmit c ann bob 7 Oil @2006-05-03;; transmit c ann bob 7 Oil @2006-05-03;;";
+
+const REGISTERED: &str =
+    "1 1: register c = transmit(a, b, r, t | kind(r) = Oil and amount(r) = 7). Success + Success => registered 1\n";
+
+// The second write fails, and leaves one line of three; or the first read fails, and nothing is written.
+#[test]
+fn oil_is_offered_until_a_read_or_a_write_fails(rt: HostRuntime) -> Result<(), Fail> {
+    let alloc = rt.alloc();
+    let edges = Edges {
+        writes: &[2],
+        ..SOUND
+    };
+    let unwritten = ask(&rt, alloc, &["run"], OFFERED, &edges)?;
+    assert!(rt; unwritten.is((5, 3, REGISTERED)));
+    let edges = Edges {
+        reads: &[1],
+        ..SOUND
+    };
+    let unread = ask(&rt, alloc, &["run"], OFFERED, &edges)?;
+    assert!(rt; unread.is((4, 0, "")));
+    Ok(())
+}
+
 #[test]
 fn a_sure_source_and_a_sure_sink_never_fail(rt: HostRuntime) -> Result<(), Fail> {
     let alloc = rt.alloc();
