@@ -1,5 +1,5 @@
 -- Documents read back as values of JSON.
-use Rattle.std.proofs.Common.{◌≡◌, ℕ, ◌^◌, ◌<◌, ◌≤◌, Bool, List, [], ◌∷◌, All, map, Option, Some, None, IsUtf8, refl, arith}
+use Rattle.std.proofs.Common.{◌≡◌, ℕ, ◌^◌, ◌<◌, ◌≤◌, List, [], ◌∷◌, All, map, Option, Some, None, IsUtf8, refl, arith}
 use Rattle.std.proofs.Common.{Ordering, Less, Equal, Greater, nat_cmp}
 use Rattle.std.specs.Prelude.{codes}
 use Rattle.std.specs.Cmp.Lexicographic.{slice_cmp}
@@ -18,7 +18,7 @@ use Rattle.poets_command.specs.Said.{Statement}
 use Rattle.poets_books.specs.Replies.{kind_text}
 use Rattle.poets_books.specs.Statements.{statement_text}
 use Rattle.poets_json.specs.Plain.{Exported}
-use Rattle.poets_json.specs.Document.{value_data, row_data, answer_data, part_data, list_data}
+use Rattle.poets_json.specs.Document.{value_data, row_data, answer_data, part_data}
 use Rattle.poets_json.specs.Document.{total_members, reply_members, reply_data, entry_data, document}
 use Rattle.poets_exchange.specs.Exportable.{statements_in}
 use Rattle.poets_exchange.proofs.Counts.{HasSmall}

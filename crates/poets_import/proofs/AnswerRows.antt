@@ -1,7 +1,7 @@
 -- Rows of answers and portfolios, in their values.
 use Rattle.std.proofs.Common.{◌≡◌, List, All, map, Option, Some, None, option_map, refl, sym, ap, ◌∙◌}
 use Rattle.std.specs.Prelude.{codes}
-use Rattle.serde_json.specs.Data.{Data, Items, Members, array, member, no_members, object}
+use Rattle.serde_json.specs.Data.{Data, Items, array, member, no_members, object}
 use Rattle.serde_json.specs.Find.{get}
 use Rattle.serde_json.specs.View.{items_of, items_view, view}
 use Rattle.serde_json.specs.declared.value.Value.{Value as Json}

@@ -1,6 +1,6 @@
 -- Declared names as a table and as a list.
-use Rattle.std.proofs.Common.{◌≡◌, ℕ, Bool, true, false, cond, List, [], ◌∷◌, ◌++◌, map, Option, Some, None, ◌⊎◌, inl, inr, refl, sym, ap, subst, ◌∙◌, arith, Ordering, Less, Equal, Greater, nat_cmp, is_eq}
-use Rattle.std.specs.Prelude.{All, filter, if◌then◌else◌}
+use Rattle.std.proofs.Common.{◌≡◌, Bool, true, false, cond, List, [], ◌∷◌, map, Option, Some, None, ◌⊎◌, inl, inr, refl, sym, ap, subst, ◌∙◌, arith, Ordering, Less, Equal, Greater, is_eq}
+use Rattle.std.specs.Prelude.{All, if◌then◌else◌}
 use Rattle.std.specs.BTreeMap.{BTreeMap, is_at}
 use Rattle.std.specs.List.{AllByRecursion, flat_map}
 use Rattle.std.specs.List.Sorted.{IsStrictlySortedBy}
@@ -18,7 +18,6 @@ use Rattle.poets_value.specs.declared.value.Ty.{Ty}
 use Rattle.poets_value.specs.declared.value.Ty.TheVariants as T
 use Rattle.poets_value.specs.Names.{name_cmp}
 use Rattle.poets_expr.specs.Env.{declared_of, same_name}
-use Rattle.poets_syntax.specs.TypeOf.{Scope, type_in}
 use Rattle.poets_command.specs.Said.{Statement, Agents, Kinds}
 use Rattle.poets_command.specs.Said as said
 use Rattle.poets_command.specs.Declarations.{agents_and_kinds, declared_by}

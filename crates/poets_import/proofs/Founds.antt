@@ -14,7 +14,7 @@ use Rattle.poets_command.specs.Plain.{Entry}
 use Rattle.poets_command.specs.Said.{Statement}
 use Rattle.poets_json.specs.Document.{entry_data}
 use Rattle.poets_json.specs.Plain.{Exported}
-use Rattle.poets_import.specs.Reading.{IsDocumentOf, IsNoDocument, declared_in}
+use Rattle.poets_import.specs.Reading.{IsDocumentOf, IsNoDocument}
 use Rattle.poets_import.specs.code.Parts.{AreSaidEntries, IsFoundEntry, book_data_of, data_of}
 use Rattle.poets_import.specs.code.Spoken.{Said}
 use Rattle.poets_import.specs.declared.book.Declared as code

@@ -1,21 +1,19 @@
 -- Values that are the document of nothing.
-use Rattle.std.proofs.Common.{◌≡◌, ℕ, List, [], ◌∷◌, map, refl, sym, ap, subst, ◌∙◌}
+use Rattle.std.proofs.Common.{◌≡◌, List, map, sym, ap, subst, ◌∙◌}
 use Rattle.std.specs.List.{flat_map}
 use Rattle.std.proofs.Math.Path.{fun_ext}
-use Rattle.serde_json.specs.Data.{Data, array, string}
+use Rattle.serde_json.specs.Data.{Data, string}
 use Rattle.serde_json.specs.View.{items_of}
 use Rattle.poets_value.specs.declared.value.Name.{Name}
 use Rattle.poets_value.specs.declared.value.Ty.{Ty}
 use Rattle.poets_expr.specs.Env.{Declared, declared_of}
 use Rattle.poets_syntax.specs.Book.{template_of}
-use Rattle.poets_report.specs.Plain.{Template, Report}
 use Rattle.poets_report.specs.Reports.{report_of}
 use Rattle.poets_lex.specs.Table.{Table}
-use Rattle.poets_command.specs.Plain.{Entry}
 use Rattle.poets_command.specs.Said.{Statement}
 use Rattle.poets_command.specs.Declarations.{declared_by, reports_of, template_in_statement}
 use Rattle.poets_books.specs.Books.{book_texts}
-use Rattle.poets_json.specs.Document.{entry_data, list_data}
+use Rattle.poets_json.specs.Document.{list_data}
 use Rattle.poets_json.specs.Plain.{Exported}
 use Rattle.poets_import.specs.Reading.{IsDocumentOf, IsNoDocument, declared_in}
 use Rattle.poets_import.specs.code.Gathering.{IsDeclaredBy}

@@ -1,11 +1,10 @@
 -- A value is the document of one thing at most.
-use Rattle.std.proofs.Common.{◌≡◌, ℕ, List, [], ◌∷◌, map, refl, sym, ap, subst, ◌∙◌}
+use Rattle.std.proofs.Common.{◌≡◌, List, [], ◌∷◌, map, refl, sym, ap, subst, ◌∙◌}
 use Rattle.std.specs.List.{flat_map}
 use Rattle.serde_json.specs.Data.{Data, string}
 use Rattle.poets_value.specs.declared.value.Name.{Name}
 use Rattle.poets_value.specs.declared.value.Ty.{Ty}
 use Rattle.poets_expr.specs.Env.{Declared}
-use Rattle.poets_report.specs.Plain.{Template, Report}
 use Rattle.poets_lex.specs.Table.{IsTable, Table}
 use Rattle.poets_command.specs.Declarations.{declared_by, reports_of, template_in_statement}
 use Rattle.poets_command.specs.Plain.{Entry}

@@ -1,15 +1,14 @@
 -- A document is of one thing.
-use Rattle.std.proofs.Common.{◌≡◌, ℕ, ℤ, Bool, List, [], ◌∷◌, ◌++◌, All, map, get_or, Option, Some, None, option_map, refl, sym, ap, subst, ◌∙◌, arith}
+use Rattle.std.proofs.Common.{◌≡◌, ℕ, ℤ, Bool, List, [], ◌∷◌, ◌++◌, All, map, get_or, Option, Some, None, refl, sym, ap, subst, ◌∙◌, arith}
 use Rattle.std.specs.Prelude.{codes}
 use Rattle.std.specs.Str.{bytes_eq}
-use Rattle.std.specs.List.{flat_map}
 use Rattle.std.proofs.lemmas.List.Elements.{All-head, All-tail}
-use Rattle.serde_json.specs.Data.{Data, Items, Members, array, member, no_members, object, string}
+use Rattle.serde_json.specs.Data.{Data, Members, array, member, no_members, object, string}
 use Rattle.serde_json.specs.View.{items_of}
 use Rattle.poets_value.specs.declared.value.Name.{Name}
 use Rattle.poets_value.specs.declared.value.Value.{Value}
 use Rattle.poets_value.specs.declared.value.Value.TheVariants as V
-use Rattle.poets_value.specs.Civil.{IsDayNumber, day_text}
+use Rattle.poets_value.specs.Civil.{day_text}
 use Rattle.poets_expr.specs.Env.{Declared}
 use Rattle.poets_syntax.specs.Contract.{Contract}
 use Rattle.poets_report.specs.Plain.{Answer, Single, Rows, KeyRow}
@@ -26,10 +25,9 @@ use Rattle.poets_print.specs.Texts.{contract_text, name_text, value_text}
 use Rattle.poets_books.specs.Replies.{kind_text}
 use Rattle.poets_json.specs.Document.{answer_data, entry_data, entry_with, folio_members, list_data, of_kind, only, part_data}
 use Rattle.poets_json.specs.Document.{reply_data, row_data, shown_members, total_members, value_data}
-use Rattle.poets_literals.specs.Declared.{IsAsDeclared, IsPlaced}
 use Rattle.poets_literals.proofs.NameTexts.{one_name}
 use Rattle.poets_literals.proofs.ValueTexts.{one_value}
-use Rattle.poets_import.specs.Phrases.{AreSaid, Nothing, Next, AreStatements, NoTexts, Text, Phrase, Says}
+use Rattle.poets_import.specs.Phrases.{AreSaid, Nothing, Next, AreStatements, NoTexts, Text, Phrase}
 use Rattle.poets_import.specs.Reading.{HasTotal, HasValues, IsIfDefined}
 use Rattle.poets_import.specs.code.Finding.{IsPart, IsRow, IsTold, owed_of}
 use Rattle.poets_import.specs.code.Members.{text_at}

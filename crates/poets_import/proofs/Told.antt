@@ -1,9 +1,9 @@
 -- Names and days of replies, found by their texts.
-use Rattle.std.proofs.Common.{◌≡◌, ℕ, ℤ, List, Option, Some, None, option_map, refl, sym, ap, subst, ◌∙◌}
+use Rattle.std.proofs.Common.{◌≡◌, ℕ, ℤ, List, Option, Some, None, option_map, sym, ap, subst, ◌∙◌}
 use Rattle.std.specs.Prelude.{IfNone, IfSome, codes}
 use Rattle.serde_json.specs.Data.{Data, string}
 use Rattle.poets_value.specs.declared.value.Name.{Name}
-use Rattle.poets_value.specs.Civil.{IsDayNumber, day_text}
+use Rattle.poets_value.specs.Civil.{IsDayNumber}
 use Rattle.poets_lex.specs.Table.{Table, place_of}
 use Rattle.poets_print.specs.Texts.{name_text}
 use Rattle.poets_command.specs.Plain.{Reply}

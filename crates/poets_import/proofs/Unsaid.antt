@@ -1,21 +1,19 @@
 -- Texts that do not say what was looked for.
-use Rattle.std.proofs.Common.{◌≡◌, ℕ, List, [], ◌∷◌, ◌++◌, Result, Err, refl, sym, ap, subst, ◌∙◌}
+use Rattle.std.proofs.Common.{◌≡◌, ℕ, List, Result, Err, refl, sym, subst, ◌∙◌}
 use Rattle.poets_lex.specs.declared.fault.LexFault.{LexFault}
 use Rattle.poets_lex.specs.declared.fault.LexFault.TheVariants as L
 use Rattle.poets_lex.specs.declared.token.Tok.{Tok}
-use Rattle.poets_lex.specs.declared.token.Tok.TheVariants as K
 use Rattle.poets_lex.specs.declared.token.Token.{Token}
 use Rattle.poets_lex.specs.Table.{Table}
 use Rattle.poets_lex.specs.Lexes.{FirstFault, Lexes, UnlessMemory}
 use Rattle.poets_lex.proofs.OneWay.{no-reading-at-fault}
-use Rattle.poets_grammar.specs.Statements.{IsStatement}
 use Rattle.poets_grammar.specs.Tokens.{toks}
 use Rattle.poets_grammar.specs.TooDeep.{IsTooDeepStored}
 use Rattle.poets_parse.specs.declared.fault.SyntaxFault.{SyntaxFault}
 use Rattle.poets_parse.specs.declared.fault.SyntaxFault.TheVariants as S
 use Rattle.poets_parse.specs.Sentences.{AreNoSentenceStored}
 use Rattle.poets_command.specs.Said.{Statement}
-use Rattle.poets_import.specs.Phrases.{AreSentence, Phrase, Say, Says, Sentence}
+use Rattle.poets_import.specs.Phrases.{AreSentence, Phrase, Say}
 use Rattle.poets_import.specs.code.Faults.{fault_of, unread_of_lex, unread_of_syntax}
 use Rattle.poets_import.specs.code.Spoken.{HasNoTokens, SaysNo}
 use Rattle.poets_import.specs.code.Finding.{Finds}

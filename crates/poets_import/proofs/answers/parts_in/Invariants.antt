@@ -2,7 +2,7 @@ use Rattle.std.proofs.Common.{◌≡◌, All, List, map, take}
 use Rattle.serde_json.specs.View.{view}
 use Rattle.poets_value.specs.declared.value.Name.{Name}
 use Rattle.poets_expr.specs.Env.{declared_of}
-use Rattle.poets_report.specs.Plain.{Answer, KeyRow}
+use Rattle.poets_report.specs.Plain.{Answer}
 use Rattle.poets_command.specs.Calls.{folio_row_of}
 use Rattle.poets_json.specs.Document.{part_data}
 use Rattle.poets_import.specs.code.Finding.{IsPart}

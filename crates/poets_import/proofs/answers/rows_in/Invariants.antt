@@ -1,8 +1,7 @@
 use Rattle.std.proofs.Common.{◌≡◌, All, List, map, take}
 use Rattle.serde_json.specs.View.{view}
-use Rattle.poets_value.specs.declared.value.Name.{Name}
 use Rattle.poets_expr.specs.Env.{declared_of}
-use Rattle.poets_report.specs.Plain.{Answer, KeyRow}
+use Rattle.poets_report.specs.Plain.{KeyRow}
 use Rattle.poets_json.specs.Document.{row_data}
 use Rattle.poets_import.specs.code.Finding.{IsRow}
 use Rattle.poets_import.proofs.answers.rows_in.Given as goal

@@ -1,4 +1,4 @@
-use Rattle.std.proofs.Common.{List, ap, map, refl, sym, ◌∙◌}
+use Rattle.std.proofs.Common.{ap, map, sym, ◌∙◌}
 use Rattle.std.proofs.lemmas.Result.{IfOk-weaker}
 use Rattle.poets_value.specs.declared.value.Name.{Name}
 use Rattle.poets_value.specs.declared.value.Ty.TheVariants as T

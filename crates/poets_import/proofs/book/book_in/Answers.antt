@@ -1,4 +1,4 @@
-use Rattle.std.proofs.Common.{List, Err, ap, map, sym, subst, ◌∙◌}
+use Rattle.std.proofs.Common.{List, map, subst}
 use Rattle.serde_json.specs.Data.{Data}
 use Rattle.serde_json.specs.View.{view}
 use Rattle.std.proofs.lemmas.Result.{IfOk-weaker}

@@ -1,4 +1,4 @@
-use Rattle.std.proofs.Common.{◌++◌, ◌∷◌, [], List, sym, subst}
+use Rattle.std.proofs.Common.{◌∷◌, [], List, sym, subst}
 use Rattle.std.proofs.lemmas.List.{map-append}
 use Rattle.poets_command.specs.Said.{Statement}
 use Rattle.poets_command.specs.Statements.{statement_of, statements_of}

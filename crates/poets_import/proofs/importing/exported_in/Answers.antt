@@ -1,13 +1,8 @@
-use Rattle.std.proofs.Common.{◌≡◌, ◌≤◌, All, List, Err, ap, map, sym, subst, ◌∙◌}
-use Rattle.std.proofs.lemmas.List.Elements.{All-map}
+use Rattle.std.proofs.Common.{Err, ap, map, sym, ◌∙◌}
 use Rattle.std.proofs.lemmas.Result.{err_from_is_err_and}
-use Rattle.serde_json.specs.Data.{depth}
-use Rattle.serde_json.specs.Read.{max_depth}
 use Rattle.serde_json.specs.View.{items_view, view}
-use Rattle.serde_json.specs.declared.value.Value.{Value as Json}
 use Rattle.poets_command.specs.Calls.{history_of}
 use Rattle.poets_command.specs.Statements.{statements_of}
-use Rattle.poets_import.specs.code.Parts.{data_of, said_of}
 use Rattle.poets_import.proofs.Depths.{depth_book, depth_entries}
 use Rattle.poets_import.proofs.Founds.{data_values, document_found, none_found, not_both, spoken_depths}
 use Rattle.poets_import.proofs.NoDocuments.{no_book, no_entries, no_such_book}

@@ -1,4 +1,4 @@
-use Rattle.std.proofs.Common.{Err, ap, map, sym, ◌++◌, ◌∷◌, [], ◌∙◌}
+use Rattle.std.proofs.Common.{Err, ap, map}
 use Rattle.std.proofs.lemmas.Result.{err_from_is_err_and}
 use Rattle.poets_lex.proofs.Readings.{Extends-then}
 use Rattle.poets_import.specs.code.Parts.{said_of}
