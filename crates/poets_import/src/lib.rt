@@ -18,6 +18,3 @@ mod spoken;
 
 pub use fault::ImportFault;
 pub use importing::import;
-
-#[cfg(test)]
-mod tests;
