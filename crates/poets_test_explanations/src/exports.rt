@@ -103,6 +103,30 @@ fn each_reply_is_exported(rt: HostRuntime) -> Result<(), Fail> {
     Ok(())
 }
 
+// A template with a parameter of each type, and what is owed after an event.
+const TYPES: &str = "template six(n: Int, b: Bool, a: Agent, k: Kind, r: Resource, d: Day) =
+  Success
+  + transmit(x, y, s, t | b and x = a and amount(s) = n and kind(s) = k and s = r and t = d).
+    six(n - 1, b, y, k, [4 Oil], d + 1);;
+journal;;
+1: register c = six(5, true, ann, Oil, [5 Oil], @2006-05-03);;
+1: transmit c ann bob 5 Oil @2006-05-03;;
+1: show c;;
+";
+
+// The document of `TYPES`, and a line feed.
+const TYPES_LINE: &str =
+    "{\"book\":[\"agents ann, bob\",\"kinds Oil, USD\",\"template six(n: Int, b: Bool, a: Agent, k: Kind, r: Resource, d: Day) = Success + transmit(x, y, s, t | b and x = a and amount(s) = n and kind(s) = k and s = r and t = d). six(n - 1, b, y, k, [4 Oil], d + 1)\"],\"format\":\"poets 1\",\"history\":[{\"clerk\":1,\"command\":\"register c = six(5, true, ann, Oil, [5 Oil], @2006-05-03)\",\"reply\":{\"id\":1,\"kind\":\"registered\"}},{\"clerk\":1,\"command\":\"transmit c ann bob 5 Oil @2006-05-03\",\"reply\":{\"count\":1,\"kind\":\"recorded\",\"may_end\":true}},{\"clerk\":1,\"command\":\"show c\",\"reply\":{\"count\":1,\"ended\":false,\"kind\":\"shown\",\"may_end\":true,\"residual\":\"six(4, true, bob, Oil, [4 Oil], @2006-05-04)\"}}]}\n";
+
+#[test]
+fn a_template_with_each_type_of_parameter(rt: HostRuntime) -> Result<(), Fail> {
+    let alloc = rt.alloc();
+    let text = joined(alloc, &[HEAD, TYPES])?;
+    let answer = ask(&rt, alloc, &["export"], text.as_str(), &SOUND)?;
+    assert!(rt; answer.is((0, 3, TYPES_LINE)));
+    Ok(())
+}
+
 #[test]
 fn an_empty_journal_is_exported(rt: HostRuntime) -> Result<(), Fail> {
     let line = "{\"book\":[],\"format\":\"poets 1\",\"history\":[]}\n";
