@@ -35,11 +35,19 @@ fn compact(alloc: Global, bytes: &[u8]) -> Option<String> {
 // Whether the bytes are no JSON; nothing where they are not answered as they have to be. A document is that of a value,
 // and the one that is written again has the same.
 fn is_no_json(alloc: Global, bytes: &[u8]) -> Option<bool> {
-    match (again(alloc, bytes), compact(alloc, bytes)) {
-        (Err(ImportFault::NoJson), None) => Some(true),
-        (Err(ImportFault::Shape), Some(_)) => Some(false),
-        (Ok(back), Some(value)) if back.as_str() == value.as_str() => Some(false),
-        _ => None,
+    let value = compact(alloc, bytes);
+    match again(alloc, bytes) {
+        Err(ImportFault::NoJson) => { if value.is_none() { Some(true) } else { None } }
+        Err(ImportFault::Shape) => { if value.is_some() { Some(false) } else { None } }
+        Ok(back) => {
+            let value = value?;
+            if back.as_str() == value.as_str() {
+                Some(false)
+            } else {
+                None
+            }
+        }
+        Err(_) => None,
     }
 }
 
