@@ -7,8 +7,6 @@ mod delivery;
 mod opening;
 mod sharing;
 mod tallying;
-#[cfg(test)]
-mod tests;
 
 pub use calling::{call, is_accepted};
 pub use commands::{checked, handed, registration};
