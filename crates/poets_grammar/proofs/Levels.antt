@@ -9,7 +9,7 @@ use Rattle.poets_lex.specs.declared.token.Sign.{Sign}
 use Rattle.poets_lex.specs.declared.token.Sign.TheVariants as S
 use Rattle.poets_lex.specs.declared.token.Tok.{Tok}
 use Rattle.poets_lex.specs.declared.token.Tok.TheVariants as K
-use Rattle.poets_grammar.specs.Tokens.{word_operator, sign_operator, infix_operator}
+use Rattle.poets_grammar.specs.Tokens.{infix_operator}
 use Rattle.poets_grammar.specs.Expressions.{Rule, Disjunction, Conjunction, Negation, Comparison, Sum, Product, Prefixed, Primary}
 use Rattle.poets_grammar.specs.Reading.{of_level, operator}
 
@@ -39,12 +39,12 @@ IsLevelOf n = (n < 7) × (n ≢ 3)
 level_is : (n : ℕ) → n < 7 → n ≢ 3 → IsLevelOf n
 level_is n l q = (l, q)
 
-word_level : (w : Word) → IsLevelOf (level_of (word_operator w))
+word_level : (w : Word) → IsLevelOf (level_of (infix_operator (K.Word w)))
 word_level W.Or = (omega arith, λ e. omega (arith, e))
 word_level W.And = (omega arith, λ e. omega (arith, e))
 word_level _ = (omega arith, λ e. omega (arith, e))
 
-sign_level : (s : Sign) → IsLevelOf (level_of (sign_operator s))
+sign_level : (s : Sign) → IsLevelOf (level_of (infix_operator (K.Sign s)))
 sign_level S.Equal = (omega arith, λ e. omega (arith, e))
 sign_level S.NotEqual = (omega arith, λ e. omega (arith, e))
 sign_level S.Less = (omega arith, λ e. omega (arith, e))

@@ -1,3 +1,4 @@
+pub mod Levels
 pub mod Tokens
 pub mod Lists
 pub mod Expressions

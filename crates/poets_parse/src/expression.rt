@@ -8,11 +8,10 @@ ghost use Rattle.poets_parse.specs.code.Gives.{GivesFront, GivesExpression, Leav
 use crate::build;
 use crate::fault::ReadFault;
 use crate::literal::{day_literal, literal, negative, resource, undefined_of};
-use crate::step::{
-    AND, COMPARE, OR, PRODUCT, SUM, behind_sign, behind_word, first, operator, sign, word,
-};
+use crate::step::{behind_sign, behind_word, first, operator, sign, word};
 use poets_expr::Expr;
 use poets_expr::build::boxed;
+use poets_grammar::Level;
 use poets_lex::{Sign, Tok, Token, Word};
 use std::alloc::Global;
 
@@ -24,7 +23,7 @@ pub(crate) fn expression(alloc: Global, tokens: &[Token]) -> Result<(Expr, &[Tok
     ensures shorter { LeavesLess tokens.now result }
 {
     let (mut left, mut rest) = conjunction(alloc, tokens)?;
-    while let Some((op, behind)) = operator(OR, rest) {
+    while let Some((op, behind)) = operator(Level::Disjunction, rest) {
         let (right, after) = conjunction(alloc, behind)?;
         left = build::binary(alloc, op, left, right)?;
         rest = after;
@@ -40,7 +39,7 @@ fn conjunction(alloc: Global, tokens: &[Token]) -> Result<(Expr, &[Token]), Read
     ensures shorter { LeavesLess tokens.now result }
 {
     let (mut left, mut rest) = negation(alloc, tokens)?;
-    while let Some((op, behind)) = operator(AND, rest) {
+    while let Some((op, behind)) = operator(Level::Conjunction, rest) {
         let (right, after) = negation(alloc, behind)?;
         left = build::binary(alloc, op, left, right)?;
         rest = after;
@@ -70,12 +69,12 @@ fn comparison(alloc: Global, tokens: &[Token]) -> Result<(Expr, &[Token]), ReadF
     ensures shorter { LeavesLess tokens.now result }
 {
     let (left, rest) = sum(alloc, tokens)?;
-    let Some((op, behind)) = operator(COMPARE, rest) else {
+    let Some((op, behind)) = operator(Level::Comparison, rest) else {
         return Ok((left, rest));
     };
     let (right, rest) = sum(alloc, behind)?;
     // Comparisons do not chain.
-    if operator(COMPARE, rest).is_some() {
+    if operator(Level::Comparison, rest).is_some() {
         return Err(ReadFault::at(rest));
     }
     Ok((build::binary(alloc, op, left, right)?, rest))
@@ -89,7 +88,7 @@ fn sum(alloc: Global, tokens: &[Token]) -> Result<(Expr, &[Token]), ReadFault>
     ensures shorter { LeavesLess tokens.now result }
 {
     let (mut left, mut rest) = product(alloc, tokens)?;
-    while let Some((op, behind)) = operator(SUM, rest) {
+    while let Some((op, behind)) = operator(Level::Sum, rest) {
         let (right, after) = product(alloc, behind)?;
         left = build::binary(alloc, op, left, right)?;
         rest = after;
@@ -105,7 +104,7 @@ fn product(alloc: Global, tokens: &[Token]) -> Result<(Expr, &[Token]), ReadFaul
     ensures shorter { LeavesLess tokens.now result }
 {
     let (mut left, mut rest) = prefixed(alloc, tokens)?;
-    while let Some((op, behind)) = operator(PRODUCT, rest) {
+    while let Some((op, behind)) = operator(Level::Product, rest) {
         let (right, after) = prefixed(alloc, behind)?;
         left = build::binary(alloc, op, left, right)?;
         rest = after;

@@ -1,5 +1,6 @@
 //! Single tokens.
 ghost use Rattle.std.specs.Prelude.{◌≡◌, ◌<◌, ◌≤ℤ◌, pos, length, [], ◌∷◌, IfSome, IfNone, IfOk};
+ghost use Rattle.poets_grammar.specs.Levels.{tightness};
 ghost use Rattle.poets_grammar.specs.Tokens.{toks};
 ghost use Rattle.poets_grammar.specs.Tokens as spec;
 ghost use Rattle.poets_grammar.specs.Reading as reading;
@@ -8,6 +9,7 @@ ghost use Rattle.poets_parse.specs.code.Gives.{Gives, GivesFront, Finds, FindsFr
 
 use crate::fault::ReadFault;
 use poets_expr::Op;
+use poets_grammar::Level;
 use poets_lex::{Sign, Tok, Token, Word};
 use poets_value::{Day, Name, Ty};
 
@@ -148,49 +150,38 @@ pub(crate) fn type_name(tokens: &[Token]) -> Result<(Ty, &[Token]), ReadFault>
     }
 }
 
-// The levels of the operators between two operands: the higher binds tighter. 3 is that of "not".
-pub(crate) const OR: u8 = 1;
-
-pub(crate) const AND: u8 = 2;
-
-pub(crate) const COMPARE: u8 = 4;
-
-pub(crate) const SUM: u8 = 5;
-
-pub(crate) const PRODUCT: u8 = 6;
-
-// The operator that the token is between two operands, after its level.
-fn infix_operator(tok: Tok) -> Option<(u8, Op)>
-    ensures { result ≡ spec.infix_operator tok }
+// The operator that the token is between two operands.
+fn infix_operator(tok: Tok) -> Option<Op>
+    ensures { result ≡ spec.token_operator tok }
 {
     match tok {
-        Tok::Word(Word::Or) => Some((OR, Op::Or)),
-        Tok::Word(Word::And) => Some((AND, Op::And)),
-        Tok::Sign(Sign::Equal) => Some((COMPARE, Op::Eq)),
-        Tok::Sign(Sign::NotEqual) => Some((COMPARE, Op::Ne)),
-        Tok::Sign(Sign::Less) => Some((COMPARE, Op::Lt)),
-        Tok::Sign(Sign::LessEqual) => Some((COMPARE, Op::Le)),
-        Tok::Sign(Sign::Greater) => Some((COMPARE, Op::Gt)),
-        Tok::Sign(Sign::GreaterEqual) => Some((COMPARE, Op::Ge)),
-        Tok::Sign(Sign::Plus) => Some((SUM, Op::Add)),
-        Tok::Sign(Sign::Minus) => Some((SUM, Op::Sub)),
-        Tok::Sign(Sign::Star) => Some((PRODUCT, Op::Mul)),
-        Tok::Sign(Sign::Slash) => Some((PRODUCT, Op::Div)),
-        Tok::Sign(Sign::Percent) => Some((PRODUCT, Op::Rem)),
+        Tok::Word(Word::Or) => Some(Op::Or),
+        Tok::Word(Word::And) => Some(Op::And),
+        Tok::Sign(Sign::Equal) => Some(Op::Eq),
+        Tok::Sign(Sign::NotEqual) => Some(Op::Ne),
+        Tok::Sign(Sign::Less) => Some(Op::Lt),
+        Tok::Sign(Sign::LessEqual) => Some(Op::Le),
+        Tok::Sign(Sign::Greater) => Some(Op::Gt),
+        Tok::Sign(Sign::GreaterEqual) => Some(Op::Ge),
+        Tok::Sign(Sign::Plus) => Some(Op::Add),
+        Tok::Sign(Sign::Minus) => Some(Op::Sub),
+        Tok::Sign(Sign::Star) => Some(Op::Mul),
+        Tok::Sign(Sign::Slash) => Some(Op::Div),
+        Tok::Sign(Sign::Percent) => Some(Op::Rem),
         _ => None,
     }
 }
 
 // The operator of the level, if one is the first token, and what stands after it.
-pub(crate) fn operator(level: u8, tokens: &[Token]) -> Option<(Op, &[Token])>
-    ensures found { FindsFront result (reading.operator level (toks tokens.now)) }
+pub(crate) fn operator(level: Level, tokens: &[Token]) -> Option<(Op, &[Token])>
+    ensures found { FindsFront result (reading.operator (tightness level) (toks tokens.now)) }
     ensures shorter { IfSome result (λ p. length p.1.now < length tokens.now) }
 {
     let Some((tok, rest)) = first(tokens) else {
         return None;
     };
     match infix_operator(tok) {
-        Some((found, op)) if found == level => Some((op, rest)),
+        Some(op) if Level::of(op) == level => Some((op, rest)),
         _ => None,
     }
 }

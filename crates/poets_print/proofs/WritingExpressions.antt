@@ -27,7 +27,8 @@ use Rattle.poets_lex.specs.Table.{Table, IsTable}
 use Rattle.poets_lex.proofs.CutTexts.{IsCutInto, cut_space, cut_word, cut_name, cut_number, cut_day, cut_sign, cut_spaced}
 use Rattle.poets_grammar.specs.Tokens.{infix_operator, type_of}
 use Rattle.poets_grammar.specs.Expressions.{Rule, Disjunction, Conjunction, Negation, Comparison, Sum, Product, Prefixed, Primary, ReadsExpression, begins_number}
-use Rattle.poets_print.specs.Levels.{op_level, level, left_in_brackets, right_in_brackets, negated_in_brackets, denied_in_brackets}
+use Rattle.poets_grammar.specs.Levels.{op_level}
+use Rattle.poets_print.specs.Levels.{level, left_in_brackets, right_in_brackets, negated_in_brackets, denied_in_brackets}
 use Rattle.poets_print.specs.Texts.{bracketed, op_text, type_text, value_text, expression_text}
 use Rattle.poets_print.specs.Laws.{HasLiteral, CanWrite}
 use Rattle.poets_print.proofs.Writing.{IsTextOf, Writes, writes_looser, writes_bracketed}

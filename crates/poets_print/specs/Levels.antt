@@ -1,27 +1,12 @@
 -- Which parts of a printed tree stand in brackets.
 use Rattle.std.specs.Prelude.{ℕ, Bool, true, false, ◌||◌, nat_eq, nat_lt, nat_le, if◌then◌else◌}
 use Rattle.poets_expr.specs.declared.expr.Op.{Op}
-use Rattle.poets_expr.specs.declared.expr.Op.TheVariants as O
 use Rattle.poets_value.specs.declared.value.Value.TheVariants as V
 use Rattle.poets_expr.specs.Expression.{Expression, Minus, Not, Literal, Unary, Binary}
 use Rattle.poets_syntax.specs.Contract.{Contract, Plus, Par, Seq}
+use Rattle.poets_grammar.specs.Levels.{op_level}
 
--- `or` 1, `and` 2, `not` 3, comparisons 4, sums 5, products 6, negation 7, all others 8
-abbrev pub op_level : Op → ℕ
-op_level O.Or = 1
-op_level O.And = 2
-op_level O.Eq = 4
-op_level O.Ne = 4
-op_level O.Lt = 4
-op_level O.Le = 4
-op_level O.Gt = 4
-op_level O.Ge = 4
-op_level O.Add = 5
-op_level O.Sub = 5
-op_level O.Mul = 6
-op_level O.Div = 6
-op_level O.Rem = 6
-
+-- how tightly an expression holds its parts together
 abbrev pub level : Expression → ℕ
 level (Binary o a b) = op_level o
 level (Unary Not a) = 3

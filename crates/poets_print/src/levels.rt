@@ -2,34 +2,22 @@
 ghost use Rattle.std.specs.Prelude.{◌≡◌};
 ghost use Rattle.poets_expr.specs.Expression.{expression_of};
 ghost use Rattle.poets_syntax.specs.Contract.{contract_of};
+ghost use Rattle.poets_grammar.specs.Levels.{tightness};
 ghost use Rattle.poets_print.specs.Levels as levels;
 
 use poets_expr::{Expr, Op};
+use poets_grammar::Level;
 use poets_syntax::Term;
 
-/// The level of comparisons.
-const COMPARISONS: u8 = 4;
-
-fn op_level(op: Op) -> u8
-    ensures { result ≡ levels.op_level op }
-{
-    match op {
-        Op::Or => 1,
-        Op::And => 2,
-        Op::Eq | Op::Ne | Op::Lt | Op::Le | Op::Gt | Op::Ge => COMPARISONS,
-        Op::Add | Op::Sub => 5,
-        Op::Mul | Op::Div | Op::Rem => 6,
-    }
-}
-
-fn level(e: &Expr) -> u8
-    ensures { result ≡ levels.level (expression_of e.now) }
+// How tightly an expression holds its parts together.
+fn level(e: &Expr) -> Level
+    ensures { tightness result ≡ levels.level (expression_of e.now) }
 {
     match e {
-        Expr::Op(op, _, _) => op_level(*op),
-        Expr::Not(_) => 3,
-        Expr::Neg(_) => 7,
-        _ => 8,
+        Expr::Op(op, _, _) => Level::of(*op),
+        Expr::Not(_) => Level::Negation,
+        Expr::Neg(_) => Level::Prefixed,
+        _ => Level::Primary,
     }
 }
 
@@ -37,10 +25,9 @@ fn level(e: &Expr) -> u8
 pub(crate) fn left_in_brackets(op: Op, left: &Expr) -> bool
     ensures { result ≡ levels.left_in_brackets op (expression_of left.now) }
 {
-    if op_level(op) == COMPARISONS {
-        level(left) <= COMPARISONS
-    } else {
-        level(left) < op_level(op)
+    match Level::of(op) {
+        Level::Comparison => level(left) <= Level::Comparison,
+        around => level(left) < around,
     }
 }
 
@@ -48,7 +35,7 @@ pub(crate) fn left_in_brackets(op: Op, left: &Expr) -> bool
 pub(crate) fn right_in_brackets(op: Op, right: &Expr) -> bool
     ensures { result ≡ levels.right_in_brackets op (expression_of right.now) }
 {
-    level(right) <= op_level(op)
+    level(right) <= Level::of(op)
 }
 
 fn is_number(e: &Expr) -> bool
@@ -64,14 +51,14 @@ fn is_number(e: &Expr) -> bool
 pub(crate) fn negated_in_brackets(part: &Expr) -> bool
     ensures { result ≡ levels.negated_in_brackets (expression_of part.now) }
 {
-    is_number(part) || level(part) < 7
+    is_number(part) || level(part) < Level::Prefixed
 }
 
 /// Whether the part of `not` stands in brackets.
 pub(crate) fn denied_in_brackets(part: &Expr) -> bool
     ensures { result ≡ levels.denied_in_brackets (expression_of part.now) }
 {
-    level(part) < 3
+    level(part) < Level::Negation
 }
 
 pub(crate) fn contract_level(term: &Term) -> u8

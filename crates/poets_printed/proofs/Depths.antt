@@ -1,6 +1,6 @@
 -- The brackets of a printed expression against those of the tokens that were read.
 use Rattle.std.proofs.Common.{◌≡◌, ℕ, suc, ◌+◌, ◌≤◌, max, Bool, true, false, List, ◌∷◌, Some, refl, arith, subst}
-use Rattle.std.specs.Prelude.{nat_lt, nat_eq}
+use Rattle.std.specs.Prelude.{nat_lt, nat_eq, Option, None, option_map}
 use Rattle.std.proofs.lemmas.Bool.Decides.{nat_tests}
 use Rattle.poets_value.specs.declared.value.Value.TheVariants as V
 use Rattle.poets_expr.specs.declared.expr.Op.{Op}
@@ -10,10 +10,11 @@ use Rattle.poets_lex.specs.declared.token.Word.TheVariants as W
 use Rattle.poets_lex.specs.declared.token.Sign.TheVariants as S
 use Rattle.poets_lex.specs.declared.token.Tok.{Tok}
 use Rattle.poets_lex.specs.declared.token.Tok.TheVariants as K
-use Rattle.poets_grammar.specs.Tokens.{infix_operator}
+use Rattle.poets_grammar.specs.Tokens.{token_operator, infix_operator}
 use Rattle.poets_grammar.specs.Expressions.{Rule, Disjunction, Conjunction, Negation, Comparison, Sum, Product}
 use Rattle.poets_grammar.specs.Expressions.{Prefixed, Primary, ReadsExpression}
-use Rattle.poets_print.specs.Levels.{op_level, level, left_in_brackets, right_in_brackets, negated_in_brackets}
+use Rattle.poets_grammar.specs.Levels.{op_level}
+use Rattle.poets_print.specs.Levels.{level, left_in_brackets, right_in_brackets, negated_in_brackets}
 use Rattle.poets_printed.proofs.Measures.{Fits, opened, deeper, depth}
 
 -- the depth of the expression where a level is wanted
@@ -70,23 +71,12 @@ at_first e = at_level 1 e (level_least e)
 
 -- ---- operators
 
+level_of_some : (k : Option Op) (l : ℕ) (o : Op) → option_map (λ x. (op_level x, x)) k ≡ Some (l, o) → op_level o ≡ l
+level_of_some None l o h = absurd (cc)
+level_of_some (Some k) l o h = cc
+
 level_of_operator : (t : Tok) (l : ℕ) (o : Op) → infix_operator t ≡ Some (l, o) → op_level o ≡ l
-level_of_operator (K.Word W.Or) l o h = grind (arith, h)
-level_of_operator (K.Word W.And) l o h = grind (arith, h)
-level_of_operator (K.Word w) l o h = absurd (cc)
-level_of_operator (K.Sign S.Equal) l o h = grind (arith, h)
-level_of_operator (K.Sign S.NotEqual) l o h = grind (arith, h)
-level_of_operator (K.Sign S.Less) l o h = grind (arith, h)
-level_of_operator (K.Sign S.LessEqual) l o h = grind (arith, h)
-level_of_operator (K.Sign S.Greater) l o h = grind (arith, h)
-level_of_operator (K.Sign S.GreaterEqual) l o h = grind (arith, h)
-level_of_operator (K.Sign S.Plus) l o h = grind (arith, h)
-level_of_operator (K.Sign S.Minus) l o h = grind (arith, h)
-level_of_operator (K.Sign S.Star) l o h = grind (arith, h)
-level_of_operator (K.Sign S.Slash) l o h = grind (arith, h)
-level_of_operator (K.Sign S.Percent) l o h = grind (arith, h)
-level_of_operator (K.Sign s) l o h = absurd (cc)
-level_of_operator t l o h = absurd (cc)
+level_of_operator t l o h = level_of_some (token_operator t) l o h
 
 no_bracket : (t : Tok) (l n : ℕ) (o : Op) → infix_operator t ≡ Some (l, o) → opened n t ≡ n
 no_bracket (K.Sign S.LeftParen) l n o h = absurd (cc)
