@@ -15,6 +15,7 @@ mod Derived
 pub mod Ready
 mod Spending
 mod Asking
+mod Deriving
 mod ReadyArguments
 mod DifferentSums
 mod Exposing

@@ -1,5 +1,5 @@
 -- Transmits and applications that stand ready.
-use Rattle.std.proofs.Common.{◌≡◌, ℕ, zero, suc, ◌≤◌, Bool, true, false, ◌||◌, arith, List, [], ◌∷◌, ◌++◌, length, refl, sym, ◌∙◌, ap, ap₂, Some, None, inl, inr, ◌⊎◌, if◌then◌else◌}
+use Rattle.std.proofs.Common.{◌≡◌, ℕ, zero, suc, ◌≤◌, Bool, true, false, ◌||◌, arith, List, [], ◌∷◌, ◌++◌, length, refl, sym, ◌∙◌, ap, ap₂, subst, Some, None, inl, inr, ◌⊎◌, if◌then◌else◌}
 use Rattle.std.specs.List.{IsDistinct, AllByRecursion, list_any}
 use Rattle.std.proofs.lemmas.List.Folds.{list_any-append}
 use Rattle.std.proofs.lemmas.Map.Keys.{IsDistinct-cons, IsDistinct-head, IsDistinct-tail}
@@ -121,20 +121,21 @@ module _ (book : Book) (marks : Marks) where
   pub plus_ready_second : (a b : Contract) → ReadyIn b (Plus a b)
   plus_ready_second a b d h = rw (ready_at-plus (length book.templates) a b) (among_second d (ready book marks a) (ready book marks b) h)
 
-  pub par_ready_first : (a b : Contract) → ReadyIn a (Par a b)
-  par_ready_first a b d h = rw (ready_at-par (length book.templates) a b) (among_first d (ready book marks a) (ready book marks b) h)
+  -- in two parts side by side, or one after the other, as in a choice of them
+  pub par_ready : (a b : Contract) → ReadyIn (Plus a b) (Par a b)
+  par_ready a b d h =
+      let n = length book.templates in
+      subst (IsAmong d) (ready_at-plus n a b ∙ sym (ready_at-par n a b)) h
 
-  pub par_ready_second : (a b : Contract) → ReadyIn b (Par a b)
-  par_ready_second a b d h = rw (ready_at-par (length book.templates) a b) (among_second d (ready book marks a) (ready book marks b) h)
+  pub seq_ready : (a b : Contract) → nullable marks a ≡ true → ReadyIn (Plus a b) (Seq a b)
+  seq_ready a b k d h =
+      let n = length book.templates in
+      subst (IsAmong d) (ready_at-plus n a b ∙ sym (ready_at-seq n a b ∙ rw k refl)) h
 
   pub seq_ready_first : (a b : Contract) → ReadyIn a (Seq a b)
   seq_ready_first a b d h =
       rw (ready_at-seq (length book.templates) a b)
       (among_first d (ready book marks a) (if nullable marks a then ready book marks b else []) h)
-
-  pub seq_ready_second : (a b : Contract) → nullable marks a ≡ true → ReadyIn b (Seq a b)
-  seq_ready_second a b n d h =
-      rw (ready_at-seq (length book.templates) a b, n) (among_second d (ready book marks a) (ready book marks b) h)
 
   -- the ready ones agree where those of the exposed applications do
   ready_by-alike : (u v : Name → List Expression → List Contract) (c : Contract) → EachExposed (λ f args. u f args ≡ v f args) marks c →

@@ -23,12 +23,12 @@ use Rattle.poets_residue.specs.code.Spent.{IsNoted, IsNotedBut, IsSpent}
 use Rattle.poets_residue.proofs.Ready.{among_one, among_two, distinct_more, distinct_both, ReadyIn}
 
 -- what holds in any case
-pub always : {E : Type 0} {P : Type 0} (r : Result ℕ E) → P → IfOk r (λ _. P)
+pub always : {A E P : Type 0} (r : Result A E) → P → IfOk r (λ _. P)
 always (Ok p) h = h
 always (Err e) h = tt
 
 -- nothing is asked of a failure
-pub failed : {E : Type 0} (r : Result ℕ E) → IsErr r → (P : ℕ → Type 0) → IfOk r P
+pub failed : {A E : Type 0} (r : Result A E) → IsErr r → (P : A → Type 0) → IfOk r P
 failed (Ok p) w P = absurd cc
 failed (Err e) w P = tt
 
@@ -75,7 +75,7 @@ module _ (book : Book) (marks : Marks) where
         one_noted (Err e) s = tt
 
   -- what a part asked before it failed
-  pub part_failed : (a c : Contract) (Before Mid After : Contract → Type 0) (x y : ℕ) {E F : Type 0} (r : Result ℕ E) (q : Result ℕ F) → IsErr q →
+  pub part_failed : (a c : Contract) (Before Mid After : Contract → Type 0) (x y : ℕ) {A B E F : Type 0} (r : Result A E) (q : Result B F) → IsErr q →
       ReadyIn book marks a c → IsSpent book marks a Before Mid x y r → IsSpent book marks c Before After x y q
   part_failed a c Before Mid After x y r q w m s = record {
     begun = s.begun;
@@ -88,7 +88,7 @@ module _ (book : Book) (marks : Marks) where
   }
 
   -- what one part asked, where a result was made of it
-  pub part_spent : (a c : Contract) (Before Mid After : Contract → Type 0) (x y : ℕ) {E : Type 0} (p : ℕ) (r : Result ℕ E) →
+  pub part_spent : (a c : Contract) (Before Mid After : Contract → Type 0) (x y : ℕ) {A B E : Type 0} (p : A) (r : Result B E) →
       ReadyIn book marks a c → IfOk r (λ _. (d : Contract) → Mid d → After d) → IsSpent book marks a Before Mid x y {E = E} (Ok p) →
       IsSpent book marks c Before After x y r
   part_spent a c Before Mid After x y p r m k s = record {

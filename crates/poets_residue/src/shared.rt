@@ -1,17 +1,14 @@
-//! Contracts as rows that may end, and the joined residuals of their parts.
+//! Contracts as rows that may end.
 ghost use Rattle.std.specs.Prelude.{◌≡◌, ◌<◌, ◌↔◌, IsTrue, length, []};
 ghost use Rattle.poets_syntax.specs.Book.{book_of};
 ghost use Rattle.poets_meaning.specs.InStudied.{nullable_in, CountsFitIn};
 ghost use Rattle.poets_meaning.specs.Perf.{Perf};
-ghost use Rattle.poets_norm.specs.Rows.{Enters};
-ghost use Rattle.poets_cons.specs.Table.{contract_at, contract_of_rows, IsTable, Extends};
-ghost use Rattle.poets_residue.specs.code.Sides.{sides_at, LeavesChoices};
+ghost use Rattle.poets_cons.specs.Table.{contract_at, contract_of_rows, IsTable};
+ghost use Rattle.poets_residue.specs.code.Choices.{LeavesChoices};
 
 use crate::endings::is_marked;
-use poets_cons::{Arena, Node, Rows, node_at};
+use poets_cons::{Node, Rows, node_at};
 use poets_meaning::Studied;
-use poets_norm::joining::{either, par};
-use poets_value::Memory;
 
 /// Whether the empty trace performs the contract of the rows.
 pub fn may_end_rows(studied: &Studied, rows: &Rows) -> bool
@@ -52,24 +49,4 @@ pub(crate) fn is_joined(studied: &Studied, nodes: &[Node], place: usize) -> bool
         Node::Seq(a, _) => may_end_at(studied, nodes, *a),
         _ => true,
     }
-}
-
-// The event went to the first part, or to the second.
-pub(crate) fn sides(
-    arena: &mut Arena,
-    a: usize,
-    b: usize,
-    after_a: usize,
-    after_b: usize,
-) -> Result<usize, Memory>
-    requires first { a < length arena.old }
-    requires second { b < length arena.old }
-    requires after_first { after_a < length arena.old }
-    requires after_second { after_b < length arena.old }
-    ensures grows { Extends arena.old arena.new }
-    ensures stands { Enters arena.new result (sides_at arena.old a b after_a after_b) }
-{
-    let first = par(arena, after_a, b)?;
-    let second = par(arena, a, after_b)?;
-    either(arena, first, false, second, false)
 }

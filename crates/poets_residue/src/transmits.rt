@@ -8,14 +8,13 @@ ghost use Rattle.poets_norm.specs.Rows.{Enters};
 ghost use Rattle.poets_cons.specs.Table.{contract_at, Extends};
 ghost use Rattle.poets_residue.specs.code.Taking.{holds_of, sending, taken_at};
 
+use crate::derivation::Derivation;
 use poets_cons::{Arena, replaced_at};
 use poets_expr::{Asks, Decls, Env, Expr, Given, eval};
-use poets_meaning::Studied;
 use poets_norm::enter_normal;
 use poets_norm::joining::failure;
 use poets_syntax::Binders;
 use poets_value::{Event, Memory, Name, Ty, Value};
-use std::alloc::Global;
 
 /// What the binders stand for once the event is taken, the newest last.
 pub fn event_givens(binders: &Binders, event: &Event) -> [(Name, Given); 4]
@@ -75,49 +74,48 @@ fn holds<L>(
     }
 }
 
-// The number of the row of what a transmission that took the event leads to.
-fn taken_on<L>(
-    alloc: Global,
-    studied: &Studied,
-    event: &Event,
-    arena: &mut Arena,
-    binders: &Binders,
-    then: usize,
-    asks: &mut Asks<L>,
-) -> Result<usize, Memory>
-    requires { then < length arena.old }
-    ensures grows { Extends arena.old arena.new }
-    ensures residual { Enters arena.new result (taken_at studied.now binders.now event.now arena.old then) }
-    ensures rises { asks.old ≤ asks.new }
-    ensures asks { asks.new ≤ asks.old + questions (contract_at arena.old then) }
-    ensures arguments { asks.new ≤ asks.old + arguments (contract_at arena.old then) }
-{
-    let givens = event_givens(binders, event);
-    let replaced = replaced_at(alloc, arena.nodes(), then, &givens)?;
-    enter_normal(alloc, studied, arena, replaced, asks)
-}
-
-// The number of the row of the residual of a transmission whose continuation is a row.
-pub(crate) fn transmit_at<L>(
-    alloc: Global,
-    studied: &Studied,
-    event: &Event,
-    arena: &mut Arena,
-    binders: &Binders,
-    when: &Expr,
-    then: usize,
-    asks: &mut Asks<L>,
-) -> Result<usize, Memory>
-    requires { then < length arena.old }
-    ensures grows { Extends arena.old arena.new }
-    ensures residual { Enters arena.new result
-        (after_in studied.now event.now (sending binders.now when.now arena.old then)) }
-    ensures rises { asks.old ≤ asks.new }
-    ensures asks { asks.new ≤ asks.old + questions (sending binders.now when.now arena.old then) }
-    ensures once { asks.new ≤ asks.old + 1 + arguments (contract_at arena.old then) }
-{
-    if !holds(&studied.book().decls, binders, when, event, asks) {
-        return failure(arena);
+impl Derivation<'_> {
+    // The number of the row of what a transmission that took the event leads to.
+    fn taken_on<L>(
+        &self,
+        arena: &mut Arena,
+        binders: &Binders,
+        then: usize,
+        asks: &mut Asks<L>,
+    ) -> Result<usize, Memory>
+        requires { then < length arena.old }
+        ensures grows { Extends arena.old arena.new }
+        ensures residual { Enters arena.new result
+            (taken_at self.now.studied.now binders.now self.now.event.now arena.old then) }
+        ensures rises { asks.old ≤ asks.new }
+        ensures asks { asks.new ≤ asks.old + questions (contract_at arena.old then) }
+        ensures arguments { asks.new ≤ asks.old + arguments (contract_at arena.old then) }
+    {
+        let givens = event_givens(binders, self.event);
+        let replaced = replaced_at(self.alloc, arena.nodes(), then, &givens)?;
+        enter_normal(self.alloc, self.studied, arena, replaced, asks)
     }
-    taken_on(alloc, studied, event, arena, binders, then, asks)
+
+    // The number of the row of the residual of a transmission whose continuation is a row.
+    pub(crate) fn transmit<L>(
+        &self,
+        arena: &mut Arena,
+        binders: &Binders,
+        when: &Expr,
+        then: usize,
+        asks: &mut Asks<L>,
+    ) -> Result<usize, Memory>
+        requires { then < length arena.old }
+        ensures grows { Extends arena.old arena.new }
+        ensures residual { Enters arena.new result
+            (after_in self.now.studied.now self.now.event.now (sending binders.now when.now arena.old then)) }
+        ensures rises { asks.old ≤ asks.new }
+        ensures asks { asks.new ≤ asks.old + questions (sending binders.now when.now arena.old then) }
+        ensures once { asks.new ≤ asks.old + 1 + arguments (contract_at arena.old then) }
+    {
+        if !holds(&self.studied.book().decls, binders, when, self.event, asks) {
+            return failure(arena);
+        }
+        self.taken_on(arena, binders, then, asks)
+    }
 }

@@ -1,14 +1,11 @@
 -- What a call that derives a contract asks, by the transmits and applications that it begins.
 use Rattle.std.specs.Prelude.{◌≡◌, ◌+◌, ◌≤◌, ◌⊎◌, ℕ, List, sum_by, Option, Some, Result, IfOk}
 use Rattle.std.specs.List.{IsDistinct}
-use Rattle.poets_syntax.specs.Book.{book_of}
 use Rattle.poets_syntax.specs.Contract.{Contract}
 use Rattle.poets_syntax.specs.Same.{same_contract}
 use Rattle.poets_syntax.specs.Plain.{Book}
 use Rattle.poets_meaning.specs.Marks.{Marks}
-use Rattle.poets_meaning.specs.Studied.{StudiedBook, marks_of}
 use Rattle.poets_cons.specs.declared.node.Node.{Node}
-use Rattle.poets_cons.specs.Notes.{noted}
 use Rattle.poets_cons.specs.Table.{contract_at}
 use Rattle.poets_residue.specs.Once.{ready, asked_of, IsAmong}
 
@@ -23,7 +20,7 @@ IsNotedBut c nodes memo d = (d ≡ c) ⊎ IsNoted nodes memo d
 -- different transmits and applications that stand ready in the contract and were not noted before the call pay for what
 -- it asks; where it has a result they are noted after it, beside those that were
 pub record IsSpent (book : Book) (marks : Marks) (c : Contract) (Before After : Contract → Type 0) (old new : ℕ)
-    {E : Type 0} (r : Result ℕ E) : Type 0 where
+    {A E : Type 0} (r : Result A E) : Type 0 where
   pub begun : List Contract
   pub different : IsDistinct same_contract begun
   pub standing : (d : Contract) → IsAmong d begun → IsAmong d (ready book marks c)
@@ -31,20 +28,3 @@ pub record IsSpent (book : Book) (marks : Marks) (c : Contract) (Before After : 
   pub noted : IfOk r (λ _. (d : Contract) → IsAmong d begun → After d)
   pub kept : IfOk r (λ _. (d : Contract) → Before d → After d)
   pub asks : new ≤ old + sum_by (asked_of book) begun
-
--- what a call in a studied book asks for a contract of the old table is paid for by transmits and applications of it
--- that the old memo does not note, and the new one does
-abbrev pub Spends : {E : Type 0} → StudiedBook → (of : List Node → Contract) →
-    (old : List Node) → (memo : List (Option ℕ)) →
-    (new : List Node) → (new_memo : List (Option ℕ)) → (asks new_asks : ℕ) → Result ℕ E → Type 0
-Spends s of old memo new new_memo asks new_asks result =
-    IsSpent (book_of s.book) (marks_of s) (of old) (IsNoted old (noted memo)) (IsNoted new (noted new_memo))
-    asks new_asks result
-
--- what such a call asks is paid for so where the contract itself is yet to be noted
-abbrev pub SpendsAnew : {E : Type 0} → StudiedBook → (of : List Node → Contract) →
-    (old : List Node) → (memo : List (Option ℕ)) →
-    (new : List Node) → (new_memo : List (Option ℕ)) → (asks new_asks : ℕ) → Result ℕ E → Type 0
-SpendsAnew s of old memo new new_memo asks new_asks result =
-    IsSpent (book_of s.book) (marks_of s) (of old) (IsNoted old (noted memo)) (IsNotedBut (of old) new (noted new_memo))
-    asks new_asks result

@@ -1,4 +1,4 @@
-use Rattle.std.proofs.Common.{◌≡◌, ◌∙◌, ℕ, List, [], arith, ap, sym, subst, length}
+use Rattle.std.proofs.Common.{◌≡◌, ◌∙◌, ℕ, List, [], arith, ap, sym, subst, length, Some}
 use Rattle.std.proofs.lemmas.List.{length-map}
 use Rattle.poets_syntax.specs.Applied.{CountsFit}
 use Rattle.poets_syntax.specs.Book.{book_of}
@@ -24,18 +24,18 @@ same_contract_at old new q i = ap (λ rows. nth (grown [] rows) i) q
 same_length : (old new : List Node) → rows_of new ≡ rows_of old → length new ≡ length old
 same_length old new q = omega (arith, ap length q, length-map old row_of, length-map new row_of)
 
-pub derive-requires-clause-studied : goal.derive-requires-clause-studied
-derive-requires-clause-studied g c =
-    IsStudied-book (book_of c.args.studied.now.book) c.args.studied.now.marks c.book-book.ensures.studied
-
 pub derive-requires-clause-within : goal.derive-requires-clause-within
 derive-requires-clause-within g c =
     omega (arith, same_length c.args.rows.now c.in_ok-arena.arena c.in_ok-arena.ensures, c.root-start.ensures.root)
 
-pub derive-requires-clause-fits : goal.derive-requires-clause-fits
-derive-requires-clause-fits g c =
+pub derive-requires-clause-ready : goal.derive-requires-clause-ready
+derive-requires-clause-ready g c =
     let here = same_contract_at c.args.rows.now c.in_ok-arena.arena c.in_ok-arena.ensures c.root-start.result ∙ c.root-start.ensures.contract in
-    subst (CountsFit (book_of c.args.studied.now.book)) (sym here) c.requires
+    record {
+      studied = IsStudied-book (book_of c.args.studied.now.book) c.args.studied.now.marks c.book-book.ensures.studied;
+      fits = subst (CountsFit (book_of c.args.studied.now.book)) (sym here) c.requires;
+      notes = λ k v h. (let none : noted [] k ≡ Some v = subst (λ m. noted m k ≡ Some v) c.new-memo.ensures h in absurd cc);
+    }
 
 pub returns-in_err-place-clause-asks : goal.returns-in_err-place-clause-asks
 returns-in_err-place-clause-asks g c =
@@ -48,7 +48,7 @@ returns-clause-residual g c =
     let book = book_of c.args.studied.now.book in
     let marks = marks_of c.args.studied.now in
     let here = same_contract_at c.args.rows.now c.in_ok-arena.arena c.in_ok-arena.ensures c.root-start.result ∙ c.root-start.ensures.contract in
-    rw (c.nodes.ensures.nodes, c.in_ok-place.ensures.derived.stands.contract ∙ ap (after book marks c.args.event.now) here) at c.rows_at.ensures
+    rw (c.nodes.ensures.nodes, c.in_ok-place.ensures.found.contract ∙ ap (after book marks c.args.event.now) here) at c.rows_at.ensures
 
 pub returns-clause-asks : goal.returns-clause-asks
 returns-clause-asks g c =
@@ -64,7 +64,7 @@ returns-in_err-place-clause-once g c =
     let start = c.root-start.result in
     let here = same_contract_at c.args.rows.now arena c.in_ok-arena.ensures start ∙ c.root-start.ensures.contract in
     let all = spent_once book marks (contract_at arena start) (IsNoted arena (noted c.new-memo.result))
-    (IsNoted c.derive.new.arena (noted c.derive.new.memo)) c.args.asks.now c.derive.new.asks c.derive.result c.derive.ensures.once in
+    (IsNoted c.derive.new.table.arena (noted c.derive.new.table.memo)) c.args.asks.now c.derive.new.asks c.derive.result c.derive.ensures.once in
     omega (arith, all, ap (once book marks) here)
 
 pub returns-clause-once : goal.returns-clause-once
@@ -75,5 +75,5 @@ returns-clause-once g c =
     let start = c.root-start.result in
     let here = same_contract_at c.args.rows.now arena c.in_ok-arena.ensures start ∙ c.root-start.ensures.contract in
     let all = spent_once book marks (contract_at arena start) (IsNoted arena (noted c.new-memo.result))
-    (IsNoted c.derive.new.arena (noted c.derive.new.memo)) c.args.asks.now c.derive.new.asks c.derive.result c.derive.ensures.once in
+    (IsNoted c.derive.new.table.arena (noted c.derive.new.table.memo)) c.args.asks.now c.derive.new.asks c.derive.result c.derive.ensures.once in
     omega (arith, all, ap (once book marks) here)

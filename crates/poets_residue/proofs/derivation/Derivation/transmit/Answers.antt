@@ -7,14 +7,14 @@ use Rattle.poets_meaning.specs.Truth.{is_true}
 use Rattle.poets_meaning.specs.Studied.{marks_of}
 use Rattle.poets_cons.specs.Table.{contract_at}
 use Rattle.poets_residue.proofs.Equations.{after-transmit}
-use Rattle.poets_residue.proofs.transmits.transmit_at.Goals as goal
+use Rattle.poets_residue.proofs.derivation.Derivation.transmit.Goals as goal
 
 pub returns-then-not-holds-clause-residual : goal.returns-then-not-holds-clause-residual
 returns-then-not-holds-clause-residual g c =
-    let k : is_true (val (declared_of c.args.studied.now.book.decls.names) (taken c.args.binders.now c.args.event.now []) (expression_of c.args.when.now)) ≡ false =
+    let k : is_true (val (declared_of c.args.self.now.studied.now.book.decls.names) (taken c.args.binders.now c.args.self.now.event.now []) (expression_of c.args.when.now)) ≡ false =
     sym (rw c.book.ensures.book at c.holds.ensures.value) ∙ c.if-not-holds.true in
     rw (
-      after-transmit (book_of c.args.studied.now.book) (marks_of c.args.studied.now) c.args.event.now
+      after-transmit (book_of c.args.self.now.studied.now.book) (marks_of c.args.self.now.studied.now) c.args.self.now.event.now
           c.args.binders.now (expression_of c.args.when.now) (contract_at c.args.arena.now c.args.then),
       k,
     )
@@ -22,10 +22,10 @@ returns-then-not-holds-clause-residual g c =
 
 pub returns-clause-residual : goal.returns-clause-residual
 returns-clause-residual g c =
-    let k : is_true (val (declared_of c.args.studied.now.book.decls.names) (taken c.args.binders.now c.args.event.now []) (expression_of c.args.when.now)) ≡ true =
+    let k : is_true (val (declared_of c.args.self.now.studied.now.book.decls.names) (taken c.args.binders.now c.args.self.now.event.now []) (expression_of c.args.when.now)) ≡ true =
     sym (rw c.book.ensures.book at c.holds.ensures.value) ∙ c.if-not-holds.false in
     rw (
-      after-transmit (book_of c.args.studied.now.book) (marks_of c.args.studied.now) c.args.event.now
+      after-transmit (book_of c.args.self.now.studied.now.book) (marks_of c.args.self.now.studied.now) c.args.self.now.event.now
           c.args.binders.now (expression_of c.args.when.now) (contract_at c.args.arena.now c.args.then),
       k,
     )

@@ -4,7 +4,7 @@ use Rattle.poets_meaning.proofs.Arguments.{arguments-replace}
 use Rattle.poets_norm.specs.Questions.{questions}
 use Rattle.poets_norm.proofs.Asked.{questions-replace}
 use Rattle.poets_cons.specs.Table.{contract_at}
-use Rattle.poets_residue.proofs.transmits.taken_on.Goals as goal
+use Rattle.poets_residue.proofs.derivation.Derivation.taken_on.Goals as goal
 
 pub returns-clause-asks : goal.returns-clause-asks
 returns-clause-asks g c =
