@@ -49,35 +49,35 @@ const SECOND_BEFORE_FIVE: &str = "count(2) ; transmit(a, b, r, t | amount(r) = 5
 const EITHER_COUNTED: &str = "count(2) || count(1) + count(1) || count(2)";
 
 // O. Success || O. U. Success
-const BOTH_WANT_OIL: &str = "transmit(a, b, r, t | kind(r) = kind([1 Oil])). Success
-|| transmit(a, b, r, t | kind(r) = kind([1 Oil])). transmit(a, b, r, t | kind(r) = kind([1 USD])). Success";
+const BOTH_WANT_OIL: &str = "transmit(a, b, r, t | kind(r) = Oil). Success
+|| transmit(a, b, r, t | kind(r) = Oil). transmit(a, b, r, t | kind(r) = USD). Success";
 
 // O. U. Success + O. Success || U. Success
 const TWO_WAYS: &str =
-    "transmit(a, b, r, t | kind(r) = kind([1 Oil])). transmit(a, b, r, t | kind(r) = kind([1 USD])). Success
-+ transmit(a, b, r, t | kind(r) = kind([1 Oil])). Success || transmit(a, b, r, t | kind(r) = kind([1 USD])). Success";
+    "transmit(a, b, r, t | kind(r) = Oil). transmit(a, b, r, t | kind(r) = USD). Success
++ transmit(a, b, r, t | kind(r) = Oil). Success || transmit(a, b, r, t | kind(r) = USD). Success";
 
 // O. Success so many times side by side
-const TEN_SIDES: &str = "transmit(a, b, r, t | kind(r) = kind([1 Oil])). Success
-|| transmit(a, b, r, t | kind(r) = kind([1 Oil])). Success
-|| transmit(a, b, r, t | kind(r) = kind([1 Oil])). Success
-|| transmit(a, b, r, t | kind(r) = kind([1 Oil])). Success
-|| transmit(a, b, r, t | kind(r) = kind([1 Oil])). Success
-|| transmit(a, b, r, t | kind(r) = kind([1 Oil])). Success
-|| transmit(a, b, r, t | kind(r) = kind([1 Oil])). Success
-|| transmit(a, b, r, t | kind(r) = kind([1 Oil])). Success
-|| transmit(a, b, r, t | kind(r) = kind([1 Oil])). Success
-|| transmit(a, b, r, t | kind(r) = kind([1 Oil])). Success";
+const TEN_SIDES: &str = "transmit(a, b, r, t | kind(r) = Oil). Success
+|| transmit(a, b, r, t | kind(r) = Oil). Success
+|| transmit(a, b, r, t | kind(r) = Oil). Success
+|| transmit(a, b, r, t | kind(r) = Oil). Success
+|| transmit(a, b, r, t | kind(r) = Oil). Success
+|| transmit(a, b, r, t | kind(r) = Oil). Success
+|| transmit(a, b, r, t | kind(r) = Oil). Success
+|| transmit(a, b, r, t | kind(r) = Oil). Success
+|| transmit(a, b, r, t | kind(r) = Oil). Success
+|| transmit(a, b, r, t | kind(r) = Oil). Success";
 
-const NINE_SIDES: &str = "transmit(a, b, r, t | kind(r) = kind([1 Oil])). Success
-|| transmit(a, b, r, t | kind(r) = kind([1 Oil])). Success
-|| transmit(a, b, r, t | kind(r) = kind([1 Oil])). Success
-|| transmit(a, b, r, t | kind(r) = kind([1 Oil])). Success
-|| transmit(a, b, r, t | kind(r) = kind([1 Oil])). Success
-|| transmit(a, b, r, t | kind(r) = kind([1 Oil])). Success
-|| transmit(a, b, r, t | kind(r) = kind([1 Oil])). Success
-|| transmit(a, b, r, t | kind(r) = kind([1 Oil])). Success
-|| transmit(a, b, r, t | kind(r) = kind([1 Oil])). Success";
+const NINE_SIDES: &str = "transmit(a, b, r, t | kind(r) = Oil). Success
+|| transmit(a, b, r, t | kind(r) = Oil). Success
+|| transmit(a, b, r, t | kind(r) = Oil). Success
+|| transmit(a, b, r, t | kind(r) = Oil). Success
+|| transmit(a, b, r, t | kind(r) = Oil). Success
+|| transmit(a, b, r, t | kind(r) = Oil). Success
+|| transmit(a, b, r, t | kind(r) = Oil). Success
+|| transmit(a, b, r, t | kind(r) = Oil). Success
+|| transmit(a, b, r, t | kind(r) = Oil). Success";
 
 // What an event leaves: the contract, how many rows it has, and how much was asked.
 type Left<'a> = (&'a str, u64, u64);
