@@ -1,5 +1,5 @@
 -- Parts of a session's history.
-use Rattle.std.proofs.Common.{◌≡◌, ℕ, suc, ◌+◌, ◌≤◌, List, ◌++◌, length, ◌∙◌, ap, subst, arith}
+use Rattle.std.proofs.Common.{suc, ◌+◌, ◌≤◌, List, ◌++◌, length, ◌∙◌, ap, subst, arith}
 use Rattle.poets_command.specs.Calls.{Call, calls_of}
 use Rattle.poets_command.specs.Plain.{Entry}
 use Rattle.poets_command.specs.Said.{Statement}

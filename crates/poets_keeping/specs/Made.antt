@@ -1,5 +1,6 @@
 -- Calls of scripts that are made after earlier ones, and kept.
-use Rattle.std.specs.Prelude.{◌≡◌, ℕ, nat_eq, Bool, if◌then◌else◌, List, [], ◌++◌, All, length, take, Option, Some, None, IfSome}
+use Rattle.std.specs.Prelude.{◌≡◌, ℕ, nat_eq, Bool, if◌then◌else◌, List, [], ◌++◌, All, length, take}
+use Rattle.std.specs.Prelude.{Option, Some, None, IfSome}
 use Rattle.poets_lex.specs.Table.{Table}
 use Rattle.poets_command.specs.Calls.{calls_of, history_of}
 use Rattle.poets_command.specs.Plain.{Command, Entry}
@@ -54,8 +55,8 @@ kept_status stored history = if nat_eq stored (length history.items) then DONE e
 module _ {D : Type 0} (seen : D → Seen) (faults : D → ℕ) where
   -- how it ends that the calls of scripts are made after the history p and kept, and the lines of the stored ones
   -- written, numbered on; by the change of the sink
-  pub data KeepsScripts (rules : Rules) (names : Table) (p : List Entry) (scripts : List (List Command)) (disk disk' : D)
-      (sink : Change) : (status : ℕ) → List Entry → (stored : ℕ) → Type 0 where
+  pub data KeepsScripts (rules : Rules) (names : Table) (p : List Entry) (scripts : List (List Command))
+      (disk disk' : D) (sink : Change) : (status : ℕ) → List Entry → (stored : ℕ) → Type 0 where
     -- all calls were made
     Made :
         {stored status : ℕ} (h : Listed code.Entry) →

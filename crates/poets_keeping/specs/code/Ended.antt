@@ -1,12 +1,10 @@
 -- How the parts of a run end, by the sessions of the code.
-use Rattle.std.specs.Prelude.{◌≡◌, ℕ, ◌≤◌, nat_eq, if◌then◌else◌, length, List, []}
+use Rattle.std.specs.Prelude.{◌≡◌, ℕ, ◌≤◌, length, List, []}
 use Rattle.poets_command.specs.Calls.{history_of}
 use Rattle.poets_command.specs.Said.{Statement}
-use Rattle.poets_command.specs.declared.call.Entry as code
-use Rattle.poets_value.specs.Listed.{Listed}
 use Rattle.poets_opening.specs.Limits.{longest}
 use Rattle.poets_writing.specs.declared.outcome.TheConstants.{DONE, NO_MEMORY}
-use Rattle.poets_keeping.specs.declared.outcome.TheConstants.{DAMAGED, DISK_FAULT}
+use Rattle.poets_keeping.specs.declared.outcome.TheConstants.{DAMAGED}
 use Rattle.poets_command.specs.Declarations.{book_from, reports_of}
 use Rattle.poets_command.specs.Plain.{Entry}
 use Rattle.poets_journal.specs.Texts.{Texts}

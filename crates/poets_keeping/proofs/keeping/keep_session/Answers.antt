@@ -4,7 +4,6 @@ use Rattle.poets_disk.specs.Disks.{GoesOn}
 use Rattle.poets_disk.proofs.Moments.{goes_on}
 use Rattle.poets_journal.specs.Journals.{texts_of}
 use Rattle.poets_journal.specs.Starts.{HasStartCause, OnDamaged, disk_of}
-use Rattle.poets_writing.specs.Writing.{stream}
 use Rattle.poets_keeping.specs.Journals.{FileIsDamaged, FoundDamage, HeldTexts, OnlyStarted, damaged_line}
 use Rattle.poets_keeping.specs.Keeping.{IsKeptAs}
 use Rattle.poets_keeping.proofs.Kept.{held_none, holds_line_of, keeps_as, keeps_none, keeps_told, keeps_unstarted, only_started, some_held}

@@ -1,4 +1,4 @@
-use Rattle.std.proofs.Common.{◌≡◌, ◌≤◌, Err, refl, sym, ◌∙◌, ap, subst, arith}
+use Rattle.std.proofs.Common.{◌≤◌, Err, refl, sym, ◌∙◌, ap, subst}
 use Rattle.poets_io.specs.Causes.{Rose}
 use Rattle.poets_command.specs.Calls.{history_of}
 use Rattle.poets_journal.specs.Journals.{texts_of}
