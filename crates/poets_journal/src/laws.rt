@@ -4,6 +4,7 @@ ghost use Rattle.poets_journal.specs.Texts.{HoldsTexts, IsDamaged, Text, Texts};
 
 /// A file holds one list of texts alone, and a damaged one holds none.
 pub fn texts_of_a_file()
-    ensures one { (file : Text) (texts others : Texts) → HoldsTexts file texts → HoldsTexts file others → texts ≡ others }
+    ensures one { (file : Text) (texts others : Texts)
+        → HoldsTexts file texts → HoldsTexts file others → texts ≡ others }
     ensures none { (file : Text) (number : ℕ) (texts : Texts) → IsDamaged file number → ¬ (HoldsTexts file texts) }
 {}

@@ -1,5 +1,6 @@
 //! A journal is started: the texts that a disk holds are read, whatever a crash left of its file.
-ghost use Rattle.std.specs.Prelude.{◌≡◌, ◌≢◌, ◌<◌, ◌≤◌, ◌+◌, false, [], ◌∷◌, true, drop, length, option_map, IfOk, IfSome, OnOk, IsErrOf};
+ghost use Rattle.std.specs.Prelude.{◌≡◌, ◌≢◌, ◌<◌, ◌≤◌, ◌+◌, false, [], ◌∷◌, true, drop, length, option_map};
+ghost use Rattle.std.specs.Prelude.{IfOk, IfSome, OnOk, IsErrOf};
 ghost use Rattle.poets_io.specs.Causes.{HasCause, Rose};
 ghost use Rattle.poets_disk.specs.Disks.{Rests, GoesOn, During, IsSure, MayLeave, longest_file};
 ghost use Rattle.poets_journal.specs.Texts.{HoldsTexts, IsClosed, IsDamaged, Texts};
