@@ -48,13 +48,13 @@ exported_are_documents names x table can = record {
   between = names;
   book = record {
     statements = statements_in x;
-    read = statements_spoken names table (statements_in x) (statements_written names x can.book) can.short_book;
+    read = statements_spoken names table (statements_in x) (statements_written names x can.book) can.short.book;
     declare = books_declare_themselves names x can.book;
     declared = can.book.declared;
   };
   said =
       phrases_said names table (flat_map entry_phrases x.history)
       (entries_spoken names table (declared_in x.declared) x.history (entries_good names x table can)
-      can.short_history);
+      can.short.history);
   entries = entries_readable names x table can;
 }

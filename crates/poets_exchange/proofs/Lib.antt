@@ -9,3 +9,5 @@ pub mod Utf8Texts
 pub mod Counts
 pub mod SoundDocuments
 pub mod ReadBack
+pub mod Listed
+pub mod JournalDocuments

@@ -1,12 +1,16 @@
 -- What is exported so that it can be read back.
 use Rattle.std.specs.Prelude.{◌<◌, ◌^◌, List, ◌++◌, map, All}
 use Rattle.std.specs.List.{flat_map}
+use Rattle.poets_value.specs.declared.value.Name.{Name}
+use Rattle.poets_value.specs.declared.value.Ty.{Ty}
 use Rattle.poets_lex.specs.declared.token.Tok.{Tok}
 use Rattle.poets_lex.specs.declared.token.Token.{Token}
 use Rattle.poets_lex.specs.Table.{Table}
 use Rattle.poets_lex.specs.Lexes.{Lexes}
 use Rattle.poets_syntax.specs.Plain.{Book}
+use Rattle.poets_command.specs.Plain.{Entry}
 use Rattle.poets_command.specs.Said.{Statement}
+use Rattle.poets_command.specs.Declarations.{book_from, reports_of}
 use Rattle.poets_command.specs.Taken.{IsTaken}
 use Rattle.poets_history.specs.Histories.{IsLegal}
 use Rattle.poets_grammar.specs.Tokens.{toks}
@@ -56,9 +60,24 @@ pub record CanWriteHistoryIn (names : Table) (x : Exported) : Type 0 where
   pub commands : All (λ e. IsTaken (book_in x) x.reports e.command × CanWriteCommand names e.command) x.history
   pub clerks : All (λ e. e.clerk < 2 ^ 32) x.history
 
--- so it can be exported, and each of its texts is short enough to be read back
+-- each of its texts is short enough to be read back
+pub record AreShort (names : Table) (x : Exported) : Type 0 where
+  pub book : All (IsShort names) (map Sentence (statements_in x))
+  pub history : All (IsShort names) (flat_map entry_phrases x.history)
+
+-- so it can be exported and read back
 pub record IsExportable (names : Table) (x : Exported) : Type 0 where
   pub book : CanWriteBookIn names x
   pub history : CanWriteHistoryIn names x
-  pub short_book : All (IsShort names) (map Sentence (statements_in x))
-  pub short_history : All (IsShort names) (flat_map entry_phrases x.history)
+  pub short : AreShort names x
+
+-- ---- what is exported of a journal
+
+-- the book and the reports that the statements declare, with its declared names in a list, and a history
+abbrev pub exported_from : List Statement → (declared : List (Name × Ty)) → List Entry → Exported
+exported_from statements declared h = record {
+  declared = declared;
+  templates = (book_from statements).templates;
+  reports = reports_of statements;
+  history = h;
+}

@@ -1,18 +1,22 @@
 -- The laws of what is exported, as statements: it is read back.
 use Rattle.std.specs.Prelude.{◌≡◌, ◌<◌, ◌^◌, List, length, map}
 use Rattle.std.specs.List.Sorted.{IsStrictlySortedBy}
+use Rattle.poets_value.specs.declared.value.Name.{Name}
+use Rattle.poets_value.specs.declared.value.Ty.{Ty}
 use Rattle.poets_value.specs.Names.{name_cmp}
 use Rattle.poets_lex.specs.Table.{Table, IsTable}
 use Rattle.poets_command.specs.Calls.{calls_of}
+use Rattle.poets_command.specs.Declarations.{book_from, declared_by, reports_of}
+use Rattle.poets_command.specs.Plain.{Entry}
 use Rattle.poets_command.specs.Said.{Statement}
 use Rattle.poets_history.specs.Histories.{IsLegal}
 use Rattle.poets_session.specs.Sessions.{Text, IsSession, journal_of}
 use Rattle.poets_session.specs.declared.form.Form.{Form}
-use Rattle.poets_json.specs.Plain.{Exported}
+use Rattle.poets_json.specs.Plain.{AreDeclaredNames, Exported}
 use Rattle.poets_json.specs.Document.{document, document_bytes}
 use Rattle.poets_import.specs.Reading.{Declare, IsDocumentOf, IsReadAs}
 use Rattle.poets_exchange.specs.Exportable.{CanWriteBookIn, CanWriteHistoryIn, IsExportable}
-use Rattle.poets_exchange.specs.Exportable.{book_in, statements_in}
+use Rattle.poets_exchange.specs.Exportable.{AreShort, book_in, exported_from, statements_in}
 
 -- the statements of a book declare that book, and its reports
 abbrev pub BooksDeclareThemselves : Type 0
@@ -49,3 +53,15 @@ abbrev pub ExportedAreReadBack : Type 0
 ExportedAreReadBack =
     (names : Table) (x : Exported) → IsTable names → IsExportable names x → length x.history < 2 ^ 64 →
     IsReadAs names (document_bytes names x) names x × IsReadAsOnly names x
+
+-- where a journal was exported, its document is read back as just the journal's book and that history, with the names
+-- of the session, as far as no text of it is too deep
+abbrev pub JournalsAreReadBack : Type 0
+JournalsAreReadBack =
+    (text : Text) (form : Form) (names : Table) (statements : List Statement) (declared : List (Name × Ty))
+    (h : List Entry) →
+    IsSession text form names statements → AreDeclaredNames (declared_by statements) declared →
+    IsLegal (book_from statements) (reports_of statements) h → calls_of h ≡ journal_of statements →
+    AreShort names (exported_from statements declared h) → length h < 2 ^ 64 →
+    IsReadAs names (document_bytes names (exported_from statements declared h)) names
+    (exported_from statements declared h) × IsReadAsOnly names (exported_from statements declared h)

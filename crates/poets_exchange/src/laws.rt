@@ -1,6 +1,7 @@
 //! The laws of what is exported, each stated by a function that does nothing.
 ghost use Rattle.poets_exchange.specs.Laws.{BooksDeclareThemselves, SessionBooksCanBeExported};
 ghost use Rattle.poets_exchange.specs.Laws.{JournalsCanBeExported, ExportedAreDocuments, ExportedAreReadBack};
+ghost use Rattle.poets_exchange.specs.Laws.{JournalsAreReadBack};
 
 /// The statements of a book that is exported declare that book, and its reports.
 pub fn books_declare_themselves()
@@ -26,4 +27,10 @@ pub fn exported_are_documents()
 /// and as nothing else.
 pub fn exported_are_read_back()
     ensures { ExportedAreReadBack }
+{}
+
+/// The bytes of the document of a journal, as `poets export` writes it, are read as the book of the journal and the
+/// history, with the same names, and as nothing else.
+pub fn journals_are_read_back()
+    ensures { JournalsAreReadBack }
 {}

@@ -1,8 +1,10 @@
 -- What is exported, as plain data.
-use Rattle.std.specs.Prelude.{List, map}
+use Rattle.std.specs.Prelude.{◌≡◌, ◌↔◌, List, map, Contains, Some}
+use Rattle.std.specs.List.Sorted.{IsStrictlyIncreasing}
 use Rattle.poets_value.specs.declared.value.Name.{Name}
 use Rattle.poets_value.specs.declared.value.Ty.{Ty}
 use Rattle.poets_value.specs.Listed.{Listed}
+use Rattle.poets_expr.specs.Env.{Declared}
 use Rattle.poets_syntax.specs.declared.term.Book.{Book}
 use Rattle.poets_syntax.specs.Book.{template_of}
 use Rattle.poets_report.specs.declared.report.Report as code_report
@@ -11,6 +13,11 @@ use Rattle.poets_report.specs.Reports.{report_of}
 use Rattle.poets_command.specs.Plain.{Template, Report, Entry}
 use Rattle.poets_command.specs.Calls.{history_of}
 use Rattle.poets_json.specs.declared.exported.Exported as code
+
+-- these are the declared names, each once, by rising numbers and with its type
+pub record AreDeclaredNames (declared : Declared) (all : List (Name × Ty)) : Type 0 where
+  pub rise : IsStrictlyIncreasing (map (λ d. d.0.id) all)
+  pub each : (x : Name) (ty : Ty) → (declared x ≡ Some ty) ↔ Contains all (x, ty)
 
 -- the declared names with their types, in the order of their numbers, the templates, the reports, and a history
 pub record Exported : Type 0 where

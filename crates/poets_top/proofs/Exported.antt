@@ -30,8 +30,8 @@ use Rattle.poets_command.specs.Said.{Statement}
 use Rattle.poets_rules.specs.Rules as R
 use Rattle.poets_rules.specs.declared.rules.Rules.{Rules}
 use Rattle.poets_json.specs.Document.{document_bytes}
-use Rattle.poets_json.specs.Plain.{exported_with}
-use Rattle.poets_top.specs.Exporting.{AreDeclared, IsDocumentLine}
+use Rattle.poets_json.specs.Plain.{AreDeclaredNames, exported_with}
+use Rattle.poets_top.specs.Exporting.{IsDocumentLine}
 
 -- of what a session was read for
 pub document_of_session : (rules own : Rules) (statements : List Statement) (names : Table) (h : List Entry) (line : List ℕ) → own ≡ rules →
@@ -60,7 +60,7 @@ same_names : (x y : Name) → eq_by_cmp name_cmp x y ≡ true → x ≡ y
 same_names x y e = name_one x y (sym (order_tells x y) ∙ e)
 
 -- the entries of the map
-pub entries_are_declared : (m : BTreeMap Name Ty) → IsOrdered name_cmp m → All (λ e. get name_cmp m e.0 ≡ Some e.1) m.entries → AreDeclared (declared_of m) m.entries
+pub entries_are_declared : (m : BTreeMap Name Ty) → IsOrdered name_cmp m → All (λ e. get name_cmp m e.0 ≡ Some e.1) m.entries → AreDeclaredNames (declared_of m) m.entries
 entries_are_declared m ordered found = record {
   rise = IsStrictlyIncreasing-from_sorted (map (λ d. d.0.id) m.entries) (names_rise m.entries ordered);
   each = λ x ty. (λ is. Contains-from_lookup same_names x ty m.entries is, λ here. All-contains (λ e. get name_cmp m e.0 ≡ Some e.1) m.entries (x, ty) found here);

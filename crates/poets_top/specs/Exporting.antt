@@ -1,32 +1,26 @@
 -- The word `export`.
-use Rattle.std.specs.Prelude.{◌≡◌, ◌↔◌, ℕ, List, [], ◌∷◌, ◌++◌, map, Contains, Option, Some}
+use Rattle.std.specs.Prelude.{◌≡◌, ℕ, List, [], ◌∷◌, ◌++◌, Option}
 use Rattle.std.specs.Io.KnownBytes.{Appends}
-use Rattle.std.specs.List.Sorted.{IsStrictlyIncreasing}
 use Rattle.poets_value.specs.declared.value.Name.{Name}
 use Rattle.poets_value.specs.declared.value.Ty.{Ty}
 use Rattle.poets_io.specs.Streams.{GivesAll}
 use Rattle.poets_lex.specs.Table.{Table}
-use Rattle.poets_expr.specs.Env.{Declared}
 use Rattle.poets_syntax.specs.Plain.{Book}
 use Rattle.poets_report.specs.Plain.{Report}
 use Rattle.poets_command.specs.Plain.{Entry}
 use Rattle.poets_command.specs.Said.{Statement}
 use Rattle.poets_command.specs.Declarations.{book_from, reports_of}
 use Rattle.poets_json.specs.Document.{document_bytes}
+use Rattle.poets_json.specs.Plain.{AreDeclaredNames}
 use Rattle.poets_session.specs.declared.form.Form.TheVariants as F
 use Rattle.poets_session.specs.Sessions.{Text, IsSession}
 use Rattle.poets_top.specs.Replaying.{IsReplayOf}
-
--- these are the declared names, each once, by rising numbers and with its type
-pub record AreDeclared (declared : Declared) (all : List (Name × Ty)) : Type 0 where
-  pub rise : IsStrictlyIncreasing (map (λ d. d.0.id) all)
-  pub each : (x : Name) (ty : Ty) → (declared x ≡ Some ty) ↔ Contains all (x, ty)
 
 -- the line is the document of a book, its reports and a history
 pub record IsDocumentLine (names : Table) (book : Book) (reports : List Report) (h : List Entry)
     (line : List ℕ) : Type 0 where
   pub declared : List (Name × Ty)
-  pub are : AreDeclared book.declared declared
+  pub are : AreDeclaredNames book.declared declared
   pub is :
       line
       ≡ document_bytes names
