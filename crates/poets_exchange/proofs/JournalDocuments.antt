@@ -1,5 +1,5 @@
 -- The document of a journal is read back.
-use Rattle.std.proofs.Common.{List, refl, subst}
+use Rattle.std.proofs.Common.{refl, subst}
 use Rattle.poets_syntax.specs.Plain.{Book}
 use Rattle.poets_command.specs.Declarations.{declared_by, reports_of}
 use Rattle.poets_history.specs.Histories.{IsLegal}

@@ -2,7 +2,7 @@
 use Rattle.std.proofs.Common.{◌≡◌, ℕ, zero, suc, ◌<◌, Bool, true, false, List, [], ◌∷◌, length, map, get_or, Option, Some, None, refl, sym, ap, ◌∙◌, arith, Less}
 use Rattle.std.specs.Prelude.{Contains, if◌then◌else◌}
 use Rattle.std.specs.List.{AllByRecursion}
-use Rattle.std.specs.List.Sorted.{IsStrictlyIncreasing, IsStrictlySortedBy}
+use Rattle.std.specs.List.Sorted.{IsStrictlySortedBy}
 use Rattle.std.specs.Ordering.{eq_by_cmp, nat_cmp}
 use Rattle.std.proofs.lemmas.Bool.Decides.{nat_tests}
 use Rattle.std.proofs.lemmas.Map.Keys.{sorted_from_strictly_increasing}
@@ -12,6 +12,7 @@ use Rattle.poets_value.specs.declared.value.Ty.{Ty}
 use Rattle.poets_value.specs.Names.{name_cmp}
 use Rattle.poets_expr.specs.Env.{Declared, same_name}
 use Rattle.poets_expr.proofs.SameTrees.{name_one}
+use Rattle.poets_types.proofs.Tables.{same_is_eq}
 use Rattle.poets_json.specs.Plain.{AreDeclaredNames}
 use Rattle.poets_import.specs.Reading.{declared_in}
 use Rattle.poets_import.proofs.Decls.{looked_up}
@@ -33,11 +34,8 @@ sorted_names (d ∷ ds) h = (all_above d.0 ds h.0, sorted_names ds h.1)
 
 -- ---- what the list says of a name
 
-order_tells : (x y : Name) → eq_by_cmp name_cmp x y ≡ same_name x y
-order_tells x y = grind (arith, nat_tests)
-
 same_names : (x y : Name) → eq_by_cmp name_cmp x y ≡ true → x ≡ y
-same_names x y e = name_one x y (sym (order_tells x y) ∙ e)
+same_names x y e = sym (name_one y x (same_is_eq y x ∙ e))
 
 listed : (ds : List (Name × Ty)) (x : Name) (ty : Ty) → declared_in ds x ≡ Some ty → Contains ds (x, ty)
 listed ds x ty e = Contains-from_lookup same_names x ty ds (looked_up ds x ∙ e)

@@ -47,12 +47,15 @@ abbrev pub IsReadAsOnly : Table → Exported → Type 0
 IsReadAsOnly names x =
     (after : Table) (y : Exported) → IsReadAs names (document_bytes names x) after y → (after ≡ names) × (y ≡ x)
 
--- the bytes of the document are read as what was exported, with the same table, and as nothing else; no number in the
--- replies to fewer than 2 ^ 64 commands is too large for JSON
+-- the bytes of the document are read as x, with the same table, and as nothing else
+abbrev pub IsReadBack : Table → Exported → Type 0
+IsReadBack names x = IsReadAs names (document_bytes names x) names x × IsReadAsOnly names x
+
+-- what is exported is read back; no number in the replies to fewer than 2 ^ 64 commands is too large for JSON
 abbrev pub ExportedAreReadBack : Type 0
 ExportedAreReadBack =
     (names : Table) (x : Exported) → IsTable names → IsExportable names x → length x.history < 2 ^ 64 →
-    IsReadAs names (document_bytes names x) names x × IsReadAsOnly names x
+    IsReadBack names x
 
 -- where a journal was exported, its document is read back as just the journal's book and that history, with the names
 -- of the session, as far as no text of it is too deep
@@ -63,5 +66,4 @@ JournalsAreReadBack =
     IsSession text form names statements → AreDeclaredNames (declared_by statements) declared →
     IsLegal (book_from statements) (reports_of statements) h → calls_of h ≡ journal_of statements →
     AreShort names (exported_from statements declared h) → length h < 2 ^ 64 →
-    IsReadAs names (document_bytes names (exported_from statements declared h)) names
-    (exported_from statements declared h) × IsReadAsOnly names (exported_from statements declared h)
+    IsReadBack names (exported_from statements declared h)

@@ -65,57 +65,33 @@ module _ (P : Reply → Type 0) where
   -- what holds of each reply that has these words
   pub if_answered : ((a : Answer) → P (Reply.Answered a)) → (r : Reply) (n : ℕ) → Words r n → n ≡ 1 → P r
   if_answered f r n (Answered a) e = f a
-  if_answered f r n (Folio rows total) e = absurd (omega (arith, e))
-  if_answered f r n (NoContract x) e = absurd (omega (arith, e))
-  if_answered f r n (Late d) e = absurd (omega (arith, e))
-  if_answered f r n (Shown c m may_end ended) e = absurd (omega (arith, e))
-  if_answered f r n (Other q told) e = absurd (omega (arith, e))
+  if_answered f r n said e = absurd (omega (arith, e))
 
   pub if_folio :
       ((rows : List (Name × Answer)) (total : Option (Option Value)) → P (Reply.Folio rows total)) →
       (r : Reply) (n : ℕ) → Words r n → n ≡ 2 → P r
-  if_folio f r n (Answered a) e = absurd (omega (arith, e))
   if_folio f r n (Folio rows total) e = f rows total
-  if_folio f r n (NoContract x) e = absurd (omega (arith, e))
-  if_folio f r n (Late d) e = absurd (omega (arith, e))
-  if_folio f r n (Shown c m may_end ended) e = absurd (omega (arith, e))
-  if_folio f r n (Other q told) e = absurd (omega (arith, e))
+  if_folio f r n said e = absurd (omega (arith, e))
 
   pub if_no_contract : ((x : Name) → P (Reply.NoContract x)) → (r : Reply) (n : ℕ) → Words r n → n ≡ 3 → P r
-  if_no_contract f r n (Answered a) e = absurd (omega (arith, e))
-  if_no_contract f r n (Folio rows total) e = absurd (omega (arith, e))
   if_no_contract f r n (NoContract x) e = f x
-  if_no_contract f r n (Late d) e = absurd (omega (arith, e))
-  if_no_contract f r n (Shown c m may_end ended) e = absurd (omega (arith, e))
-  if_no_contract f r n (Other q told) e = absurd (omega (arith, e))
+  if_no_contract f r n said e = absurd (omega (arith, e))
 
   pub if_late : ((day : ℤ) → P (Reply.Late day)) → (r : Reply) (n : ℕ) → Words r n → n ≡ 4 → P r
-  if_late f r n (Answered a) e = absurd (omega (arith, e))
-  if_late f r n (Folio rows total) e = absurd (omega (arith, e))
-  if_late f r n (NoContract x) e = absurd (omega (arith, e))
   if_late f r n (Late d) e = f d
-  if_late f r n (Shown c m may_end ended) e = absurd (omega (arith, e))
-  if_late f r n (Other q told) e = absurd (omega (arith, e))
+  if_late f r n said e = absurd (omega (arith, e))
 
   pub if_shown :
       ((c : Contract) (count : ℕ) (may_end ended : Bool) → P (Reply.Shown c count may_end ended)) →
       (r : Reply) (n : ℕ) → Words r n → n ≡ 5 → P r
-  if_shown f r n (Answered a) e = absurd (omega (arith, e))
-  if_shown f r n (Folio rows total) e = absurd (omega (arith, e))
-  if_shown f r n (NoContract x) e = absurd (omega (arith, e))
-  if_shown f r n (Late d) e = absurd (omega (arith, e))
   if_shown f r n (Shown c m may_end ended) e = f c m may_end ended
-  if_shown f r n (Other q told) e = absurd (omega (arith, e))
+  if_shown f r n said e = absurd (omega (arith, e))
 
   pub if_other :
       ((r : Reply) → ((names : Table) → plain_reply (kind_text r) (reply_data names r) ≡ Some r) → P r) →
       (r : Reply) (n : ℕ) → Words r n → n ≡ 0 → P r
-  if_other f r n (Answered a) e = absurd (omega (arith, e))
-  if_other f r n (Folio rows total) e = absurd (omega (arith, e))
-  if_other f r n (NoContract x) e = absurd (omega (arith, e))
-  if_other f r n (Late d) e = absurd (omega (arith, e))
-  if_other f r n (Shown c m may_end ended) e = absurd (omega (arith, e))
   if_other f r n (Other q told) e = f q told
+  if_other f r n said e = absurd (omega (arith, e))
 
 -- ---- replies without values
 
