@@ -51,7 +51,7 @@ abbrev pub IsWholeKey : Option Expression → Type 0
 IsWholeKey None = Unit {0}
 IsWholeKey (Some key) = IsWholeExpression key
 
--- so is each number in the statement, and each day
+-- each number in the statement is a whole number of the language, and each day one of its days
 abbrev pub IsWholeStatement : Statement → Type 0
 IsWholeStatement (Template t) = IsWholeContract t.body
 IsWholeStatement (Report q) = IsWholeExpression q.start × IsWholeExpression q.step × IsWholeKey q.key

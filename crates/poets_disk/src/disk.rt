@@ -38,7 +38,7 @@ pub trait Disk {
         ensures writes { Writes at piece.now (seen self.old) (seen self.new) }
         ensures cause { HasCause (faults self.old) (faults self.new) result };
 
-    /// After it a crash leaves what a read gives.
+    /// After a sync that succeeded a crash leaves what a read gives.
     fn sync(&mut self) -> Result<(), Failed>
         ensures sure { OnOk result (IsSure (seen self.new)) }
         ensures rests { Rests (seen self.old) (seen self.new) }

@@ -10,7 +10,7 @@ operated (Undefined t) = 0
 operated (Named x) = 0
 operated _ = 1
 
--- each predicate counts 1, and each argument that is neither a literal nor a name
+-- each predicate counts 1, and each argument that is neither a literal, a name nor `undefined`
 abbrev pub questions : Contract → ℕ
 questions Success = 0
 questions Failure = 0

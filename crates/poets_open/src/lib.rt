@@ -1,4 +1,4 @@
-//! What a contract takes next.
+//! The transmissions that a contract is open for.
 #![tactic(auto)]
 
 mod bodies;

@@ -50,7 +50,7 @@ CommandsOfSessionsReadBack =
 abbrev pub IsStorableCall : Table → Arc CodeCommand Global → Type 0
 IsStorableCall names call = IsStorable HasText stored_text names (arc_value call)
 
--- each call of each script has
+-- each call of each script has a text which fits a record
 abbrev pub AreStorableScripts : Table → List (Listed (Arc CodeCommand Global)) → Type 0
 AreStorableScripts names scripts = All (λ script. All (IsStorableCall names) script.items) scripts
 

@@ -24,8 +24,10 @@ IsWholeValue (V.Kind k) = Unit {0}
 IsWholeValue (V.Resource r) = IsWholeResource r
 IsWholeValue (V.Day d) = IsTrue (is_day d)
 
+-- the amount of the event's resource is a whole number of the language, and its day one of its days
 abbrev pub IsWholeEvent : Event → Type 0
 IsWholeEvent e = IsWholeResource e.what × IsTrue (is_day e.day)
 
+-- each event of the trace is whole
 abbrev pub IsWholeTrace : List Event → Type 0
 IsWholeTrace events = All IsWholeEvent events
