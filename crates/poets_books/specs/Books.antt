@@ -19,7 +19,8 @@ abbrev pub declaration : (List Name → Statement) → List Name → List Statem
 declaration declares [] = []
 declaration declares (x ∷ xs) = declares (x ∷ xs) ∷ []
 
--- the statements of a book: of its agents and of its kinds, where there are any, then of its templates and of the reports
+-- the statements of a book: of its agents and of its kinds, where there are any, then of its
+-- templates and of the reports
 abbrev pub book_statements : (declared : List (Name × Ty)) → List Template → List Report → List Statement
 book_statements declared templates reports =
     declaration Agents (names_with T.Agent declared) ++ declaration Kinds (names_with T.Kind declared)

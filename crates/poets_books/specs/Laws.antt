@@ -4,7 +4,8 @@ use Rattle.poets_expr.specs.Expression.{Expression}
 use Rattle.poets_expr.specs.Whole.{IsWholeExpression}
 use Rattle.poets_syntax.specs.Whole.{IsWholeContract}
 use Rattle.poets_command.specs.Taken.{IsWholeCommand}
-use Rattle.poets_command.specs.Said.{Statement, Agents, Kinds, Template, Report, Clerk, Journal, Command, Numbered}
+use Rattle.poets_command.specs.Said.{Statement, Agents, Kinds, Template, Report, Clerk, Journal}
+use Rattle.poets_command.specs.Said.{Command, Numbered}
 use Rattle.poets_command.specs.Plain as plain
 use Rattle.poets_lex.specs.declared.token.Token.{Token}
 use Rattle.poets_lex.specs.Table.{Table, IsTable}

@@ -26,13 +26,15 @@ kind_text (Reply.Folio rows total) = codes "portfolio"
 kind_text (Reply.Watching n) = codes "watching"
 kind_text (Reply.NoWatch n) = codes "no watch"
 
--- the reply is printed with these words: what was shown is printed by its parts alone, and an answer by its form
+-- the reply is printed with these words: what was shown is printed by its parts alone, and an
+-- answer by its form
 abbrev pub IsPrintedWithKind : Reply → Type 0
 IsPrintedWithKind (Reply.Shown c n may_end ended) = ⊥
 IsPrintedWithKind (Reply.Answered a) = ⊥
 IsPrintedWithKind _ = Unit {0}
 
--- the printed text of a reply begins with the words that say what it is, where it is printed with them
+-- the printed text of a reply begins with the words that say what it is, where it is printed with
+-- them
 abbrev pub RepliesBeginWithKinds : Type 0
 RepliesBeginWithKinds =
     (names : Table) (reply : Reply) → IsPrintedWithKind reply →

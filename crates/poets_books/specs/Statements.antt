@@ -6,7 +6,8 @@ use Rattle.poets_report.specs.Plain.{Template, Report}
 use Rattle.poets_command.specs.Said.{Statement, Agents, Kinds, Clerk, Journal, Command, Numbered}
 use Rattle.poets_command.specs.Said as said
 use Rattle.poets_lex.specs.Table.{Table}
-use Rattle.poets_print.specs.Texts.{name_text, type_text, listed, expression_text, binders_text, contract_text}
+use Rattle.poets_print.specs.Texts.{name_text, type_text, listed, expression_text, binders_text}
+use Rattle.poets_print.specs.Texts.{contract_text}
 use Rattle.poets_print.specs.Lines.{command_text}
 use Rattle.poets_printed.specs.Numbered.{numbered_text}
 

@@ -11,7 +11,8 @@ use Rattle.poets_syntax.specs.Contract as C
 use Rattle.poets_syntax.specs.Same.{same_binders, same_args}
 use Rattle.poets_meaning.specs.Between.{Between}
 
--- the parts of a `||` are those of its first contract, then those of its second; every other form is its own one part
+-- the parts of a `||` are those of its first contract, then those of its second; every other form
+-- is its own one part
 abbrev pub parts : Contract → List Contract
 parts (C.Par a b) = parts a ++ parts b
 parts C.Success = C.Success ∷ []
@@ -22,8 +23,8 @@ parts (C.Seq a b) = C.Seq a b ∷ []
 parts (C.App f args) = C.App f args ∷ []
 
 mutual
-  -- of one form, with the same binders, predicate, name and arguments, and with alike contracts below; two `||` have
-  -- parts that are alike in some order
+  -- of one form, with the same binders, predicate, name and arguments, and with alike contracts
+  -- below; two `||` have parts that are alike in some order
   pub data Alike : Contract → Contract → Type 0 where
     Success : Alike C.Success C.Success
     Failure : Alike C.Failure C.Failure
@@ -33,7 +34,8 @@ mutual
     Seq : {a b c d : Contract} → Alike a c → Alike b d → Alike (C.Seq a b) (C.Seq c d)
     App : {f : Name} {args : List Expression} → Alike (C.App f args) (C.App f args)
 
-  -- the second list can be put in an order in which its contracts are alike to those of the first, one by one
+  -- the second list can be put in an order in which its contracts are alike to those of the first,
+  -- one by one
   pub data AreAlike : List Contract → List Contract → Type 0 where
     None : AreAlike [] []
     One :
@@ -45,7 +47,8 @@ abbrev pub without_first : (Contract → Bool) → List Contract → List Contra
 without_first test [] = []
 without_first test (c ∷ cs) = if test c then cs else c ∷ without_first test cs
 
--- each test takes the first contract that passes it and that no earlier test took; no test and no contract is left over
+-- each test takes the first contract that passes it and that no earlier test took; no test and no
+-- contract is left over
 abbrev pub pass : (tests : List (Contract → Bool)) → List Contract → Bool
 pass [] [] = true
 pass [] (c ∷ cs) = false

@@ -18,7 +18,8 @@ AlikeItself = (c : Contract) → Alike c c
 abbrev pub AlikeBothWays : Type 0
 AlikeBothWays = (c d : Contract) → Alike c d → Alike d c
 
--- where the first is alike to the second, and the second to the third, the first is alike to the third
+-- where the first is alike to the second, and the second to the third, the first is alike to the
+-- third
 abbrev pub AlikeJoined : Type 0
 AlikeJoined = (c d e : Contract) → Alike c d → Alike d e → Alike c e
 

@@ -1,5 +1,6 @@
 -- Contracts worked by hand: what performs them, and what is left of them after events.
-use Rattle.std.specs.Prelude.{◌↔◌, ℕ, zero, suc, ◌+◌, nat_lt, true, ◌||◌, List, [], ◌∷◌, Some, None, pos, if◌then◌else◌}
+use Rattle.std.specs.Prelude.{◌↔◌, ℕ, zero, suc, ◌+◌, nat_lt, true, ◌||◌, List, [], ◌∷◌, Some, None}
+use Rattle.std.specs.Prelude.{pos, if◌then◌else◌}
 use Rattle.poets_value.specs.declared.value.Name.{Name}
 use Rattle.poets_value.specs.declared.value.Ty.TheVariants as T
 use Rattle.poets_value.specs.declared.value.Value.TheVariants as V

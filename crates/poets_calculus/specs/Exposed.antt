@@ -7,8 +7,8 @@ use Rattle.poets_meaning.specs.Marks.{Marks}
 use Rattle.poets_meaning.specs.Exposed.{EachExposed}
 use Rattle.poets_calculus.specs.Residual.{body_of}
 
--- so many unfoldings in a row are enough: the exposed applications of templates fit them, and after so many there is
--- none
+-- so many unfoldings in a row are enough: the exposed applications of templates fit them, and after
+-- so many there is none
 abbrev pub UnfoldsWithin : ℕ → Book → Marks → Contract → Type 0
 UnfoldsWithin zero book marks c = EachExposed (λ f args. template_in book.templates f ≡ None) marks c
 UnfoldsWithin (suc d) book marks c =

@@ -1,5 +1,6 @@
 -- The normal form of a contract.
-use Rattle.std.specs.Prelude.{not, List, [], ◌∷◌, ◌++◌, filter, fold, Option, Some, None, if◌then◌else◌}
+use Rattle.std.specs.Prelude.{not, List, [], ◌∷◌, ◌++◌, filter, fold, Option, Some, None}
+use Rattle.std.specs.Prelude.{if◌then◌else◌}
 use Rattle.poets_value.specs.declared.value.Name.{Name}
 use Rattle.poets_expr.specs.Expression.{Expression}
 use Rattle.poets_expr.specs.Env.{Declared}
@@ -12,7 +13,8 @@ use Rattle.poets_syntax.specs.Book.{template_in}
 use Rattle.poets_meaning.specs.Marks.{Marks}
 use Rattle.poets_calculus.specs.Alike.{alike, parts}
 
--- the alternatives of a choice, from the left; `Failure` has none, and every other form is its own one alternative
+-- the alternatives of a choice, from the left; `Failure` has none, and every other form is its own
+-- one alternative
 abbrev pub alternatives : Contract → List Contract
 alternatives (Plus a b) = alternatives a ++ alternatives b
 alternatives Failure = []
@@ -32,7 +34,8 @@ abbrev pub choice : List Contract → Contract
 choice [] = Failure
 choice (c ∷ cs) = fold Plus c cs
 
--- the choice of two contracts: the alternatives of the first, then those of the second; of alike ones the first is kept
+-- the choice of two contracts: the alternatives of the first, then those of the second; of alike
+-- ones the first is kept
 abbrev pub plus : Contract → Contract → Contract
 plus a b = choice (distinct (alternatives a ++ alternatives b))
 
@@ -41,8 +44,8 @@ abbrev pub side_by_side : List Contract → Contract
 side_by_side [] = Success
 side_by_side (c ∷ cs) = fold Par c cs
 
--- two contracts side by side: `Failure` where either is `Failure`, the other where one is `Success`, and otherwise the
--- parts of the first, then those of the second, grouped to the left
+-- two contracts side by side: `Failure` where either is `Failure`, the other where one is
+-- `Success`, and otherwise the parts of the first, then those of the second, grouped to the left
 abbrev pub par : Contract → Contract → Contract
 par Failure b = Failure
 par a Failure = Failure
@@ -50,7 +53,8 @@ par Success b = b
 par a Success = a
 par a b = side_by_side (parts a ++ parts b)
 
--- two contracts in sequence: `Failure` where either is `Failure`, and the other where one is `Success`
+-- two contracts in sequence: `Failure` where either is `Failure`, and the other where one is
+-- `Success`
 abbrev pub seq : Contract → Contract → Contract
 seq Failure b = Failure
 seq a Failure = Failure
@@ -63,7 +67,8 @@ abbrev pub send : Binders → Expression → Contract → Contract
 send b p Failure = Failure
 send b p c = Transmit b p c
 
--- each closed argument that is no literal is replaced by the literal of its value, of its parameter's type
+-- each closed argument that is no literal is replaced by the literal of its value, of its
+-- parameter's type
 abbrev pub folded : Declared → List Param → List Expression → List Expression
 folded declared (p ∷ params) (a ∷ args) = fold_closed declared a p.ty ∷ folded declared params args
 folded declared params args = args

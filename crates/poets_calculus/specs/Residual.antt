@@ -1,5 +1,5 @@
--- The residual of a closed contract in normal form by an event: as a function, with a depth of unfolding, and as a
--- relation.
+-- The residual of a closed contract in normal form by an event: as a function, with a depth of
+-- unfolding, and as a relation.
 use Rattle.std.specs.Prelude.{◌≡◌, ℕ, zero, suc, length, fold, Option, Some, None, if◌then◌else◌}
 use Rattle.std.specs.Prelude.{List, []}
 use Rattle.poets_value.specs.declared.value.Name.{Name}

@@ -1,5 +1,6 @@
 -- The history that clerks make with their scripts, and the replies to its calls.
-use Rattle.std.specs.Prelude.{◌≡◌, ℕ, ◌+◌, ◌<◌, List, length, take, All, Contains, Option, Some, slice_get}
+use Rattle.std.specs.Prelude.{◌≡◌, ℕ, ◌+◌, ◌<◌, List, length, take, All, Contains, Option, Some}
+use Rattle.std.specs.Prelude.{slice_get}
 use mathlib.Core.List.{IsPrefix}
 use Rattle.poets_machine.specs.Histories.{own_calls}
 use Rattle.poets_turn.specs.Settings.{OnlyClerks}

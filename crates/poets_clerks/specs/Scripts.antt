@@ -1,5 +1,6 @@
 -- What comes of the scripts of clerks.
-use Rattle.std.specs.Prelude.{◌≡◌, ◌⊎◌, ℕ, ◌+◌, ◌<◌, ◌≤◌, Bool, true, false, List, [], ◌∷◌, ◌++◌, length, map, take}
+use Rattle.std.specs.Prelude.{◌≡◌, ◌⊎◌, ℕ, ◌+◌, ◌<◌, ◌≤◌, Bool, true, false, List, [], ◌∷◌, ◌++◌}
+use Rattle.std.specs.Prelude.{length, map, take}
 use Rattle.std.specs.Prelude.{All}
 use Rattle.std.specs.declared.alloc.Global.{Global}
 use Rattle.std.specs.declared.sync.Arc.{Arc}
@@ -47,7 +48,8 @@ module _ {C R : Type 0} (answers : List (ℕ × C) → ℕ → C → R → Type 
   AreAnswers front clerk low (c ∷ calls) (d ∷ done) =
       IsAnswer front clerk c d.0 d.1 × (low ≤ d.0) × AreAnswers front clerk (d.0 + 1) calls done
 
-  -- one call more has this answer, and the clerk, which saw this and had made these calls, now saw that and made those
+  -- one call more has this answer, and the clerk, which saw this and had made these calls, now saw
+  -- that and made those
   pub record IsAnswered (clerk : ℕ) (saw saw' : List (ℕ × C)) (made made' : List C) (call : C) (d : ℕ × R) :
       Type 0 where
     pub longer : IsPrefix saw saw'

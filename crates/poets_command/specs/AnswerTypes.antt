@@ -18,8 +18,8 @@ abbrev pub IsAnswerOfTypes : (key value : Ty) → Answer → Type 0
 IsAnswerOfTypes key value (Single v) = IsOfType v value
 IsAnswerOfTypes key value (Rows rows) = All (λ r. IsOfType r.0 key × IsOfType r.1 value) rows
 
--- all keys of a typed report have one type, and its values the report's type, whatever its typed arguments and the
--- declared events
+-- all keys of a typed report have one type, and its values the report's type, whatever its typed
+-- arguments and the declared events
 abbrev pub AnswersHaveTypes : Type 0
 AnswersHaveTypes = (book : Book) (reports : List Name) (q : Report) → IsTypedReport book reports q →
     (key : Ty) × ((args : List Expression) (events : List Event) (a : Answer) →

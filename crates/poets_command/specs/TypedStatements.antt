@@ -7,8 +7,10 @@ use Rattle.poets_value.specs.declared.value.Ty.TheVariants as T
 use Rattle.poets_expr.specs.Expression.{Expression}
 use Rattle.poets_expr.specs.Env.{Declared}
 use Rattle.poets_syntax.specs.Plain.{Book, Unknown}
-use Rattle.poets_syntax.specs.TypeOf.{Verdict, Passes, Fails, ◌>>=◌, Scope, must_be, name_type, type_of}
-use Rattle.poets_syntax.specs.Typed.{is_among, in_use, check_new, names_bound, types_bound, scope_of}
+use Rattle.poets_syntax.specs.TypeOf.{Verdict, Passes, Fails, ◌>>=◌, Scope, must_be, name_type}
+use Rattle.poets_syntax.specs.TypeOf.{type_of}
+use Rattle.poets_syntax.specs.Typed.{is_among, in_use, check_new, names_bound, types_bound}
+use Rattle.poets_syntax.specs.Typed.{scope_of}
 use Rattle.poets_syntax.specs.Typed.{check_type, check_arguments, check_contract}
 use Rattle.poets_command.specs.Reports.{report_in}
 use Rattle.poets_command.specs.Said.{Statement, Template, Report, Command, Numbered}
@@ -62,7 +64,8 @@ abbrev pub check_report_arguments : Declared → Name → Option plain.Report �
 check_report_arguments declared x None args = Fails (Unknown x)
 check_report_arguments declared x (Some q) args = check_arguments declared [] x q.params args
 
--- the first fault of a command; contracts' names are a space of their own, in which nothing is declared
+-- the first fault of a command; contracts' names are a space of their own, in which nothing is
+-- declared
 abbrev pub check_command : Book → List plain.Report → plain.Command → Verdict (Unit {0})
 check_command book reports (plain.Command.Register x c) = check_contract book (report_names reports) [] c
 check_command book reports (plain.Command.Transmit x e) = check_event book.declared e
@@ -104,7 +107,8 @@ abbrev pub first_of : TypeFault → TypeFault → TypeFault
 first_of None later = later
 first_of (Some fault) later = Some fault
 
--- the first fault of statements under what the book among them declares: names that stand twice come before all others
+-- the first fault of statements under what the book among them declares: names that stand twice
+-- come before all others
 abbrev pub first_fault : List Statement → TypeFault
 first_fault statements =
     first_of (twice_from 1 [] statements) (mistyped_from 1 (book_from statements) (reports_of statements) statements)

@@ -22,8 +22,8 @@ pub data HasKey (declared : Declared) (scope : Scope) : Option Expression → Ty
   NoKey : HasKey declared scope None
   AKey : {e : Expression} {t : Ty} → Has declared scope e t → HasKey declared scope (Some e)
 
--- a report: new parameters; a start of its type; new names for the value so far and the parts of an event; a step of
--- its type; and a key, which does not see the value so far
+-- a report: new parameters; a start of its type; new names for the value so far and the parts of an
+-- event; a step of its type; and a key, which does not see the value so far
 pub record IsTypedReport (book : Book) (reports : List Name) (q : Report) : Type 0 where
   pub params : AreNew (in_use book reports) [] (map (λ p. p.name) q.params)
   pub start : Has book.declared (scope_of q.params) q.start q.ty

@@ -7,6 +7,7 @@ use Rattle.poets_syntax.specs.Replace.{replace}
 use Rattle.poets_cons.specs.declared.node.Node.{Node}
 use Rattle.poets_cons.specs.Table.{contract_at}
 
--- the contract of the row with a number, its names replaced, where a later pair hides an earlier one
+-- the contract of the row with a number, its names replaced, where a later pair hides an earlier
+-- one
 abbrev pub replaced_at : List (Name × Given) → List Node → ℕ → Contract
 replaced_at pairs nodes i = replace (reverse pairs) (contract_at nodes i)

@@ -1,5 +1,6 @@
 -- The line of a demonstration.
-use Rattle.std.specs.Prelude.{ℕ, ℤ, pos, ◌+ℤ◌, Bool, true, false, List, [], ◌∷◌, ◌++◌, Option, Some, map, fold, length}
+use Rattle.std.specs.Prelude.{ℕ, ℤ, pos, ◌+ℤ◌, Bool, true, false, List, [], ◌∷◌, ◌++◌, Option, Some}
+use Rattle.std.specs.Prelude.{map, fold, length}
 use Rattle.std.specs.Prelude.{codes}
 use Rattle.std.specs.Fmt.{decimal, signed_decimal}
 use Rattle.std.specs.List.{count_by}
@@ -27,7 +28,8 @@ abbrev pub is_refused : Reply → Bool
 is_refused Reply.Unmatched = true
 is_refused _ = false
 
--- what a total counts for: a whole number counts as itself, and a missing or undefined total, and any other value, as 0
+-- what a total counts for: a whole number counts as itself, and a missing or undefined total, and
+-- any other value, as 0
 abbrev pub amount_of : (total : Option (Option Value)) → ℤ
 amount_of (Some (Some (V.Int n))) = n
 amount_of _ = pos 0

@@ -11,8 +11,8 @@ numbers_to n = range_with_len 1 n
 abbrev pub line : List ℕ → List ℕ
 line text = text ++ 10 ∷ []
 
--- the contract of a sale: the shop hands over the oil, and within 30 days the buyer pays three dollars for each unit of
--- it
+-- the contract of a sale: the shop hands over the oil, and within 30 days the buyer pays three
+-- dollars for each unit of it
 abbrev pub sale_template : List ℕ
 sale_template =
     codes "template sale(s: Agent, b: Agent, n: Int) = "

@@ -1,8 +1,9 @@
 -- What is seen of a disk, and what its calls do to it.
-use Rattle.std.specs.Prelude.{◌≡◌, ℕ, ◌+◌, ◌-◌, ◌^◌, ◌≤◌, ◌↔◌, ◌⊎◌, max, List, ◌++◌, length, take, drop, Option, Some}
+use Rattle.std.specs.Prelude.{◌≡◌, ℕ, ◌+◌, ◌-◌, ◌^◌, ◌≤◌, ◌↔◌, ◌⊎◌, max, List, ◌++◌, length, take}
+use Rattle.std.specs.Prelude.{drop, Option, Some}
 
--- a disk at a moment: the bytes that a read gives, where they are told, how many moments there were so far, and the
--- images of each, which are what a crash at that moment may leave
+-- a disk at a moment: the bytes that a read gives, where they are told, how many moments there were
+-- so far, and the images of each, which are what a crash at that moment may leave
 pub record Seen : Type 1 where
   pub bytes : Option (List ℕ)
   pub clock : ℕ
@@ -44,8 +45,8 @@ IsSure disk = (image : List ℕ) → MayLeave disk image → disk.bytes ≡ Some
 abbrev pub over : ℕ → List ℕ → List ℕ → List ℕ
 over at piece bytes = take at bytes ++ (piece ++ drop (at + length piece) bytes)
 
--- after a write of so many bytes that may have been cut short: any bytes in the range and past the old end, an end
--- between the old and the new one, and the same bytes elsewhere
+-- after a write of so many bytes that may have been cut short: any bytes in the range and past the
+-- old end, an end between the old and the new one, and the same bytes elsewhere
 pub record IsTorn (at count : ℕ) (old new : List ℕ) : Type 0 where
   pub before : take at new ≡ take at old
   pub after : drop (at + count) new ≡ drop (at + count) old
@@ -67,7 +68,8 @@ pub record Writes (at : ℕ) (piece : List ℕ) (old new : Seen) : Type 0 where
 abbrev pub longest_file : ℕ
 longest_file = 2 ^ 63 - 1
 
--- the buffer begins with so many bytes of the file, from a place on; none only where there is none, or no room
+-- the buffer begins with so many bytes of the file, from a place on; none only where there is none,
+-- or no room
 pub record Gives (at : ℕ) (count : ℕ) (buf file : List ℕ) : Type 0 where
   pub within : count ≤ length file - at
   pub same : take count buf ≡ take count (drop at file)

@@ -1,8 +1,10 @@
--- How a disk in memory keeps its calls: a mark for each, and all bytes that were written, piece after piece.
+-- How a disk in memory keeps its calls: a mark for each, and all bytes that were written, piece
+-- after piece.
 use Rattle.std.specs.Prelude.{ℕ, List, [], ◌∷◌, take, drop}
 use Rattle.poets_disk.specs.Memory.{DiskCall, wrote, failed_write, synced, failed_sync, MemoryFile}
 use Rattle.poets_disk.specs.declared.memory.Mark.{Mark}
-use Rattle.poets_disk.specs.declared.memory.Mark.TheVariants.{Wrote, FailedWrite, Synced, FailedSync}
+use Rattle.poets_disk.specs.declared.memory.Mark.TheVariants.{Wrote, FailedWrite, Synced}
+use Rattle.poets_disk.specs.declared.memory.Mark.TheVariants.{FailedSync}
 use Rattle.poets_disk.specs.declared.memory.MemoryDisk.TheInside.{Inside}
 
 -- the calls that the marks stand for, whose pieces are these bytes

@@ -16,8 +16,8 @@ pub data DiskCall : Type 0 where
   -- a sync failed
   failed_sync : DiskCall
 
--- a disk in memory: the bytes that it was made with, its calls since then, the numbers of those that fail, counted from
--- 1, and how many faults there were
+-- a disk in memory: the bytes that it was made with, its calls since then, the numbers of those
+-- that fail, counted from 1, and how many faults there were
 pub record MemoryFile : Type 0 where
   pub first : List ℕ
   pub calls : List DiskCall
@@ -80,7 +80,8 @@ most_calls = 300_000
 abbrev pub NextFails : MemoryFile → Type 0
 NextFails m = Contains m.fails (length m.calls + 1) ⊎ (most_calls ≤ length m.calls)
 
--- a write of so many bytes from that place on passes the longest file, or the room for what was written
+-- a write of so many bytes from that place on passes the longest file, or the room for what was
+-- written
 abbrev pub PassesRoom : MemoryFile → ℕ → ℕ → Type 0
 PassesRoom m at count = (longest_text < at + count) ⊎ (longest_text < written_by m.calls + count)
 

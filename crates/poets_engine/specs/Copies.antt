@@ -21,8 +21,8 @@ IsReport reports x copy = report_in reports x ≡ Some (report_of (arc_value cop
 abbrev pub AreReports : List plain.Report → List (Arc Report Global) → Type 0
 AreReports reports copies = All (λ copy. IsReport reports (arc_value {X = Report} copy).name copy) copies
 
--- the declared names, where they were copied, are those of the rules, and each copied report is the one that its name
--- has among those of the rules
+-- the declared names, where they were copied, are those of the rules, and each copied report is the
+-- one that its name has among those of the rules
 pub record AreCopies (rules : Rules) (copies : Copies) : Type 0 where
   pub decls : IfSome copies.decls (λ d. declared_of (arc_value d).names ≡ (book_of_rules rules).declared)
   pub reports : AreReports (reports_of_rules rules) copies.reports.items

@@ -23,8 +23,8 @@ use Rattle.poets_engine.specs.Rows.{owed_after}
 use Rattle.poets_engine.specs.State.{State}
 use Rattle.poets_engine.specs.Store.{StoreView}
 
--- the most evaluations that the residual of a contract takes: no more than it is wide, and no more than where each
--- different part is derived once
+-- the most evaluations that the residual of a contract takes: no more than it is wide, and no more
+-- than where each different part is derived once
 abbrev pub asked_in : StudiedBook → Contract → ℕ
 asked_in s c = min (width_in s c) (once_in s c)
 
@@ -36,7 +36,8 @@ abbrev pub asked_of_number : StudiedBook → List (RowView Term (List Node)) →
 asked_of_number s rows None = 0
 asked_of_number s rows (Some n) = asked_of_row s (slice_get rows (n - 1))
 
--- the most evaluations that the residual of what is owed on the contract with a name takes; 0 where there is none
+-- the most evaluations that the residual of what is owed on the contract with a name takes; 0 where
+-- there is none
 abbrev pub asked_owed : StudiedBook → List (RowView Term (List Node)) → Name → ℕ
 asked_owed s rows x = asked_of_number s rows (number_named x rows)
 
@@ -45,8 +46,8 @@ abbrev pub sum_from : (ℕ → ℕ) → (first count : ℕ) → ℕ
 sum_from f first zero = 0
 sum_from f first (suc count) = f first + sum_from f (suc first) count
 
--- the most evaluations that what is owed on a row takes without its event at a place, from 0: those of the residuals
--- from 255 events ahead of it on
+-- the most evaluations that what is owed on a row takes without its event at a place, from 0: those
+-- of the residuals from 255 events ahead of it on
 abbrev pub asked_to_renew : StudiedBook → RowView Term (List Node) → (place : ℕ) → ℕ
 asked_to_renew s r place =
     let left = remove r.events place in
@@ -65,14 +66,14 @@ abbrev pub asked_to_void_number : StudiedBook → StoreView → (place : ℕ) �
 asked_to_void_number s store place None = 0
 asked_to_void_number s store place (Some n) = asked_to_void_row s store n place (slice_get store.rows (n - 1))
 
--- the most evaluations that a withdrawal of the event at a place, from 1, of the contract with a name takes; 0 where
--- there is no contract
+-- the most evaluations that a withdrawal of the event at a place, from 1, of the contract with a
+-- name takes; 0 where there is no contract
 abbrev pub asked_to_void : Rules → StoreView → Name → (place : ℕ) → ℕ
 asked_to_void rules store x k = asked_to_void_number rules.studied store (k - 1) (number_named x store.rows)
 
--- the most evaluations that a command takes: a transmission asks as a residual does, and each watch for its key and its
--- next value; a withdrawal asks for what comes behind the event; a tally asks for its arguments and its start, and at
--- each event for its key and its next value
+-- the most evaluations that a command takes: a transmission asks as a residual does, and each watch
+-- for its key and its next value; a withdrawal asks for what comes behind the event; a tally asks
+-- for its arguments and its start, and at each event for its key and its next value
 abbrev pub most_evaluations : Rules → StoreView → Command → ℕ
 most_evaluations rules store (Command.Register x c) = size c
 most_evaluations rules store (Command.Transmit x e) = asked_owed rules.studied store.rows x + 2 * length store.watches

@@ -1,5 +1,6 @@
 -- What an engine keeps is the ledger of its history.
-use Rattle.std.specs.Prelude.{◌≡◌, ℕ, suc, ◌≤◌, ◌≤ℤ◌, List, [], ◌∷◌, map, length, take, All, Some, false}
+use Rattle.std.specs.Prelude.{◌≡◌, ℕ, suc, ◌≤◌, ◌≤ℤ◌, List, [], ◌∷◌, map, length, take, All, Some}
+use Rattle.std.specs.Prelude.{false}
 use Rattle.std.specs.List.{AllZip}
 use Rattle.poets_value.specs.declared.value.Name.{Name}
 use Rattle.poets_value.specs.declared.event.Event.{Event}
@@ -66,7 +67,8 @@ abbrev pub RowsAre : StudiedBook → Ledger → ℕ → List (RowView Term (List
 RowsAre s l i [] = Unit {0}
 RowsAre s l i (r ∷ rows) = RowIs s l i r × RowsAre s l (suc i) rows
 
--- the watch is of the report with the name, under the values of the arguments, and has its answer over all events
+-- the watch is of the report with the name, under the values of the arguments, and has its answer
+-- over all events
 pub record WatchIs (rules : Rules) (l : Ledger) (asked : Name × List Expression) (w : WatchView) : Type 0 where
   pub report : report_in (reports_of_rules rules) asked.0 ≡ Some (report_of w.report)
   pub args : w.args ≡ map (val (book_of_rules rules).declared []) asked.1

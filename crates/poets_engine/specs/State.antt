@@ -34,7 +34,8 @@ commands_of history = map (λ p. (p.0, arc_value p.1)) history
 abbrev pub plain_calls : List (ℕ × Command) → List Call
 plain_calls calls = map (λ p. (p.0, command_of p.1)) calls
 
--- the engine's calls are those of a legal history, and what it keeps is what that history amounts to
+-- the engine's calls are those of a legal history, and what it keeps is what that history amounts
+-- to
 pub record HasLegalHistory (e : State) : Type 0 where
   pub entries : List plain.Entry
   pub legal : IsLegal (book_of_rules e.rules) (reports_of_rules e.rules) entries
@@ -49,13 +50,15 @@ AddsCall clerk command old new = new.calls ≡ old.calls ++ (clerk, arc_value co
 abbrev pub IsKeptUnlessChanged : Body → (old new : State) → Type 0
 IsKeptUnlessChanged body old new = has_changed body ≡ false → new.store ≡ old.store
 
--- the kept value has the place of the call after those calls, and owes the right reply to the command there
+-- the kept value has the place of the call after those calls, and owes the right reply to the
+-- command there
 pub record Owes (book : Book) (reports : List Report) (calls : List Call) (command : plain.Command)
     (kept : Kept) : Type 0 where
   pub place : kept.place ≡ length calls
   pub reply : OwesReply book reports calls command kept.body
 
--- the kept value has the place of the call after the engine's calls, and owes the right reply to the command there
+-- the kept value has the place of the call after the engine's calls, and owes the right reply to
+-- the command there
 abbrev pub OwesNext : State → Command → Kept → Type 0
 OwesNext e command kept =
     Owes (book_of_rules e.rules) (reports_of_rules e.rules) (plain_calls e.calls) (command_of command) kept

@@ -24,8 +24,9 @@ use Rattle.poets_engine.specs.declared.kept.Body.TheVariants.{Done, Folio}
 abbrev pub IsPartIn : Ledger → Name → Part → Type 0
 IsPartIn l x part = (part.name ≡ x) × (joined part.events.pieces ≡ trace l (number_of l x))
 
--- all listed contracts are there after the history of a ledger, and the work holds the declared names, the report with
--- the name, the values of the arguments, and the recorded events of each listed contract in order
+-- all listed contracts are there after the history of a ledger, and the work holds the declared
+-- names, the report with the name, the values of the arguments, and the recorded events of each
+-- listed contract in order
 pub record HoldsPortfolio
     (book : Book) (reports : List Report) (l : Ledger) (x : Name) (args : List Expression) (over : List Name)
     (work : FolioWork) : Type 0 where

@@ -20,7 +20,8 @@ use Rattle.poets_books.specs.Books.{book_statements}
 use Rattle.poets_books.specs.Laws.{CanWriteReport}
 use Rattle.poets_named.specs.Written.{CanWriteBook, AreTypedRules}
 use Rattle.poets_json.specs.Plain.{Exported}
-use Rattle.poets_import.specs.Phrases.{Phrase, Sentence, Owed, phrase_text, registration, entry_phrases}
+use Rattle.poets_import.specs.Phrases.{Phrase, Sentence, Owed, phrase_text, registration}
+use Rattle.poets_import.specs.Phrases.{entry_phrases}
 use Rattle.poets_import.specs.Reading.{AreDeclared, declared_in}
 
 -- ---- how short
@@ -30,7 +31,8 @@ abbrev pub whole_tokens : Phrase → List Tok → List Tok
 whole_tokens (Owed c) tokens = registration ++ tokens
 whole_tokens _ tokens = tokens
 
--- however the text of the phrase is cut into tokens, they are not too deep for a statement that was printed
+-- however the text of the phrase is cut into tokens, they are not too deep for a statement that was
+-- printed
 abbrev pub IsShort : Table → Phrase → Type 0
 IsShort names phrase =
     (tokens : List Token) (after : Table) → Lexes names (phrase_text names phrase) 0 tokens after →
@@ -46,15 +48,16 @@ book_in x = record { declared = declared_in x.declared; templates = x.templates 
 abbrev pub statements_in : Exported → List Statement
 statements_in x = book_statements x.declared x.templates x.reports
 
--- the declared names are agents and kinds, in order; the book and its reports are typed, and can be written with the
--- names
+-- the declared names are agents and kinds, in order; the book and its reports are typed, and can be
+-- written with the names
 pub record CanWriteBookIn (names : Table) (x : Exported) : Type 0 where
   pub declared : AreDeclared x.declared
   pub book : CanWriteBook names (book_in x)
   pub rules : AreTypedRules (book_in x) x.reports
   pub reports : All (CanWriteReport names) x.reports
 
--- each reply is right, and each command is one that an engine takes, and can be written with the names
+-- each reply is right, and each command is one that an engine takes, and can be written with the
+-- names
 pub record CanWriteHistoryIn (names : Table) (x : Exported) : Type 0 where
   pub legal : IsLegal (book_in x) x.reports x.history
   pub commands : All (λ e. IsTaken (book_in x) x.reports e.command × CanWriteCommand names e.command) x.history
@@ -73,7 +76,8 @@ pub record IsExportable (names : Table) (x : Exported) : Type 0 where
 
 -- ---- what is exported of a journal
 
--- the book and the reports that the statements declare, with its declared names in a list, and a history
+-- the book and the reports that the statements declare, with its declared names in a list, and a
+-- history
 abbrev pub exported_from : List Statement → (declared : List (Name × Ty)) → List Entry → Exported
 exported_from statements declared h = record {
   declared = declared;

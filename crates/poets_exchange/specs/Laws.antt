@@ -22,7 +22,8 @@ use Rattle.poets_exchange.specs.Exportable.{AreShort, book_in, exported_from, st
 abbrev pub BooksDeclareThemselves : Type 0
 BooksDeclareThemselves = (names : Table) (x : Exported) → CanWriteBookIn names x → Declare (statements_in x) x
 
--- the book that a session declares can be exported with the session's names, where its declared names stand in order
+-- the book that a session declares can be exported with the session's names, where its declared
+-- names stand in order
 abbrev pub SessionBooksCanBeExported : Type 0
 SessionBooksCanBeExported =
     (text : Text) (form : Form) (names : Table) (statements : List Statement) (x : Exported) →
@@ -42,7 +43,8 @@ ExportedAreDocuments =
     (names : Table) (x : Exported) → IsTable names → IsExportable names x →
     IsDocumentOf names (document names x) names x
 
--- whatever the bytes of the document are read as, with whatever table: it is x, and the table is the same
+-- whatever the bytes of the document are read as, with whatever table: it is x, and the table is
+-- the same
 abbrev pub IsReadAsOnly : Table → Exported → Type 0
 IsReadAsOnly names x =
     (after : Table) (y : Exported) → IsReadAs names (document_bytes names x) after y → (after ≡ names) × (y ≡ x)
@@ -51,14 +53,15 @@ IsReadAsOnly names x =
 abbrev pub IsReadBack : Table → Exported → Type 0
 IsReadBack names x = IsReadAs names (document_bytes names x) names x × IsReadAsOnly names x
 
--- what is exported is read back; no number in the replies to fewer than 2 ^ 64 commands is too large for JSON
+-- what is exported is read back; no number in the replies to fewer than 2 ^ 64 commands is too
+-- large for JSON
 abbrev pub ExportedAreReadBack : Type 0
 ExportedAreReadBack =
     (names : Table) (x : Exported) → IsTable names → IsExportable names x → length x.history < 2 ^ 64 →
     IsReadBack names x
 
--- where a journal was exported, its document is read back as just the journal's book and that history, with the names
--- of the session, as far as no text of it is too deep
+-- where a journal was exported, its document is read back as just the journal's book and that
+-- history, with the names of the session, as far as no text of it is too deep
 abbrev pub JournalsAreReadBack : Type 0
 JournalsAreReadBack =
     (text : Text) (form : Form) (names : Table) (statements : List Statement) (declared : List (Name × Ty))

@@ -1,11 +1,13 @@
 -- Closed expressions, and the literals of their values.
-use Rattle.std.specs.Prelude.{◌≡◌, Bool, true, false, not, ◌&&◌, is_some, [], Option, Some, None, if◌then◌else◌}
+use Rattle.std.specs.Prelude.{◌≡◌, Bool, true, false, not, ◌&&◌, is_some, [], Option, Some, None}
+use Rattle.std.specs.Prelude.{if◌then◌else◌}
 use Rattle.poets_value.specs.declared.value.Name.{Name}
 use Rattle.poets_value.specs.declared.value.Ty.{Ty}
 use Rattle.poets_value.specs.declared.value.Ty.TheVariants as T
 use Rattle.poets_value.specs.declared.value.Value.{Value}
 use Rattle.poets_value.specs.declared.value.Value.TheVariants as V
-use Rattle.poets_expr.specs.Expression.{EachLiteral, Expression, Literal, Undefined, Named, Unary, Make, Binary, If}
+use Rattle.poets_expr.specs.Expression.{EachLiteral, Expression, Literal, Undefined, Named, Unary}
+use Rattle.poets_expr.specs.Expression.{Make, Binary, If}
 use Rattle.poets_expr.specs.Env.{Declared, Env, value_in}
 use Rattle.poets_expr.specs.Val.{val}
 use Rattle.poets_expr.specs.Subst.{literal_of}

@@ -2,7 +2,8 @@
 use Rattle.std.specs.Prelude.{not, List, [], ◌∷◌, ◌++◌, filter, fold, if◌then◌else◌}
 use Rattle.std.specs.List.{list_any}
 use Rattle.poets_value.specs.declared.value.Name.{Name}
-use Rattle.poets_expr.specs.Expression.{Expression, Literal, Undefined, Named, Unary, Make, Binary, If}
+use Rattle.poets_expr.specs.Expression.{Expression, Literal, Undefined, Named, Unary, Make, Binary}
+use Rattle.poets_expr.specs.Expression.{If}
 use Rattle.poets_expr.specs.Env.{same_name}
 
 -- the names in the order in which they stand, repeats too

@@ -20,15 +20,15 @@ abbrev pub UndeclaredPairsKeepDeclared : Type 0
 UndeclaredPairsKeepDeclared =
     (declared : Declared) (env : Env) → PairsAreUndeclared declared env → KeepsDeclared declared env
 
--- an expression with names replaced by literals has the value that it has with these names and values as the newest
--- pairs of the environment
+-- an expression with names replaced by literals has the value that it has with these names and
+-- values as the newest pairs of the environment
 abbrev pub ReplacedKeepsValue : Type 0
 ReplacedKeepsValue = (declared : Declared) (given : Givens) (env : Env) (e : Expression) →
     AreDeclared declared given → PairsAreUndeclared declared env →
     val declared env (subst given e) ≡ val declared (env_of given ++ env) e
 
--- an expression with names replaced by literals has in the empty environment the value that it has with these names and
--- values as the only pairs
+-- an expression with names replaced by literals has in the empty environment the value that it has
+-- with these names and values as the only pairs
 abbrev pub ReplacedKeepsValueAlone : Type 0
 ReplacedKeepsValueAlone = (declared : Declared) (given : Givens) (e : Expression) → AreDeclared declared given →
     val declared [] (subst given e) ≡ val declared (env_of given) e
@@ -40,7 +40,8 @@ LiteralHasValue =
     IsDeclared declared o →
     val declared env (literal_of o t) ≡ o
 
--- folding keeps the value, where a closed expression has no value that is an undeclared agent or kind
+-- folding keeps the value, where a closed expression has no value that is an undeclared agent or
+-- kind
 abbrev pub FoldedKeepsValue : Type 0
 FoldedKeepsValue = (declared : Declared) (env : Env) (e : Expression) (t : Ty) → PairsAreUndeclared declared env →
     (IsTrue (is_closed declared e) → IsDeclared declared (val declared [] e)) →

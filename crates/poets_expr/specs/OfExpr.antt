@@ -1,4 +1,5 @@
--- What the definitions say of an `Expr` of the code, by its environments and tables of declared names.
+-- What the definitions say of an `Expr` of the code, by its environments and tables of declared
+-- names.
 use Rattle.std.specs.Prelude.{Bool, List, Option, reverse}
 use Rattle.poets_value.specs.declared.value.Name.{Name}
 use Rattle.poets_value.specs.declared.value.Ty.{Ty}
@@ -21,7 +22,8 @@ value_of_expr env e = val (declared_of env.decls.now.names) (reverse env.pairs.n
 abbrev pub is_folded_expr : Decls → Expr → Bool
 is_folded_expr decls e = is_folded (declared_of decls.names) (expression_of e)
 
--- the tree of an `Expr` once it is folded: the literal of its value, where it is closed and no literal yet
+-- the tree of an `Expr` once it is folded: the literal of its value, where it is closed and no
+-- literal yet
 abbrev pub folded_expr : Decls → Expr → Ty → Expression
 folded_expr decls e ty = fold_closed (declared_of decls.names) (expression_of e) ty
 

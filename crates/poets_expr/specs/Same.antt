@@ -4,7 +4,8 @@ use Rattle.poets_value.specs.declared.value.Ty.{Ty}
 use Rattle.poets_value.specs.declared.value.Ty.TheVariants as T
 use Rattle.poets_expr.specs.declared.expr.Op.{Op}
 use Rattle.poets_expr.specs.declared.expr.Op.TheVariants as O
-use Rattle.poets_expr.specs.Expression.{UnaryOp, Minus, Not, AmountOf, KindOf, Expression, Literal, Undefined, Named}
+use Rattle.poets_expr.specs.Expression.{UnaryOp, Minus, Not, AmountOf, KindOf, Expression, Literal}
+use Rattle.poets_expr.specs.Expression.{Undefined, Named}
 use Rattle.poets_expr.specs.Expression.{Unary, Make, Binary, If}
 use Rattle.poets_expr.specs.Env.{same_name}
 use Rattle.poets_expr.specs.Val.{same_value}

@@ -1,6 +1,7 @@
 -- The number of nodes of an expression: each literal and each name is one node.
 use Rattle.std.specs.Prelude.{ℕ, ◌+◌, List, [], ◌∷◌}
-use Rattle.poets_expr.specs.Expression.{Expression, Literal, Undefined, Named, Unary, Make, Binary, If}
+use Rattle.poets_expr.specs.Expression.{Expression, Literal, Undefined, Named, Unary, Make, Binary}
+use Rattle.poets_expr.specs.Expression.{If}
 
 -- the number of nodes of an expression
 abbrev pub nodes : Expression → ℕ

@@ -1,12 +1,15 @@
 -- The value of an expression.
-use Rattle.std.specs.Prelude.{Bool, true, false, not, ◌&&◌, nat_eq, ℤ, pos, negsuc, ◌+ℤ◌, ◌-ℤ◌, ◌*ℤ◌, neg_ℤ, int_lt}
-use Rattle.std.specs.Prelude.{int_le, int_div, int_rem, Option, Some, None, unwrap_or, if◌then◌else◌}
+use Rattle.std.specs.Prelude.{Bool, true, false, not, ◌&&◌, nat_eq, ℤ, pos, negsuc, ◌+ℤ◌, ◌-ℤ◌}
+use Rattle.std.specs.Prelude.{◌*ℤ◌, neg_ℤ, int_lt}
+use Rattle.std.specs.Prelude.{int_le, int_div, int_rem, Option, Some, None, unwrap_or}
+use Rattle.std.specs.Prelude.{if◌then◌else◌}
 use Rattle.poets_value.specs.declared.value.Value.{Value}
 use Rattle.poets_value.specs.declared.value.Value.TheVariants as V
 use Rattle.poets_value.specs.Whole.{is_whole, is_day}
 use Rattle.poets_expr.specs.declared.expr.Op.{Op}
 use Rattle.poets_expr.specs.declared.expr.Op.TheVariants as O
-use Rattle.poets_expr.specs.Expression.{UnaryOp, Minus, Not, AmountOf, KindOf, Expression, Literal, Undefined, Named}
+use Rattle.poets_expr.specs.Expression.{UnaryOp, Minus, Not, AmountOf, KindOf, Expression, Literal}
+use Rattle.poets_expr.specs.Expression.{Undefined, Named}
 use Rattle.poets_expr.specs.Expression.{Unary, Make, Binary, If}
 use Rattle.poets_expr.specs.Env.{Declared, Env, value_in, same_name}
 
@@ -74,8 +77,8 @@ abbrev pub product : Value → Value → Option Value
 product (V.Int x) (V.Int y) = whole (x *ℤ y)
 product _ _ = None
 
--- `x / y` by `int_div`, which cuts towards zero, and `x % y` by `int_rem`, which has the sign of x; undefined where y
--- is zero
+-- `x / y` by `int_div`, which cuts towards zero, and `x % y` by `int_rem`, which has the sign of x;
+-- undefined where y is zero
 abbrev pub divided : (ℤ → ℤ → ℤ) → Value → Value → Option Value
 divided f (V.Int x) (V.Int y) = if int_eq y (pos 0) then None else whole (f x y)
 divided f _ _ = None
@@ -91,7 +94,8 @@ abbrev pub truth_value : Option Value → Option Value
 truth_value (Some (V.Bool b)) = truth b
 truth_value _ = None
 
--- `and`, where b is false, and `or`, where b is true: b where the first part is b, and else the second part
+-- `and`, where b is false, and `or`, where b is true: b where the first part is b, and else the
+-- second part
 abbrev pub decided : Bool → Option Value → Option Value → Option Value
 decided b None y = None
 decided b (Some (V.Bool x)) y = if bool_eq x b then truth b else truth_value y

@@ -1,3 +1,4 @@
--- What ties the code to the definitions: invariants of its loops and structs, and what its private functions promise.
+-- What ties the code to the definitions: invariants of its loops and structs, and what its private
+-- functions promise.
 pub mod Parts
 pub mod Sums

@@ -1,5 +1,5 @@
--- The grammar of contracts. `ReadsContract rule ts c rest` says that the tokens ts are what the rule says, with the
--- tree c, and then the tokens rest.
+-- The grammar of contracts. `ReadsContract rule ts c rest` says that the tokens ts are what the
+-- rule says, with the tree c, and then the tokens rest.
 use Rattle.std.specs.Prelude.{List, [], ◌∷◌}
 use Rattle.poets_value.specs.declared.value.Name.{Name}
 use Rattle.poets_expr.specs.Expression.{Expression}

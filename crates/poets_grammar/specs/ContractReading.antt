@@ -1,4 +1,5 @@
--- Reading of contracts as functions on lists. What is a contract ContractGrammar.antt says; that both agree is proved.
+-- Reading of contracts as functions on lists. What is a contract ContractGrammar.antt says; that
+-- both agree is proved.
 use Rattle.std.specs.Prelude.{ℕ, zero, suc, List, ◌∷◌, length, Option, Some, None}
 use Rattle.poets_value.specs.declared.value.Name.{Name}
 use Rattle.poets_syntax.specs.declared.term.Binders.{Binders}
@@ -10,7 +11,8 @@ use Rattle.poets_lex.specs.declared.token.Sign.{Sign}
 use Rattle.poets_lex.specs.declared.token.Sign.TheVariants as S
 use Rattle.poets_lex.specs.declared.token.Tok.{Tok}
 use Rattle.poets_lex.specs.declared.token.Tok.TheVariants as K
-use Rattle.poets_grammar.specs.Reading.{Reading, ◌>>=◌, behind_sign, name, whole, joined, expression, arguments}
+use Rattle.poets_grammar.specs.Reading.{Reading, ◌>>=◌, behind_sign, name, whole, joined}
+use Rattle.poets_grammar.specs.Reading.{expression, arguments}
 
 abbrev pub ContractReader : Type 0
 ContractReader = List Tok → Reading Contract

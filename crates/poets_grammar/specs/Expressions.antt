@@ -1,5 +1,5 @@
--- The grammar of expressions. `ReadsExpression rule ts e rest` says that the tokens ts are what the rule says, with the
--- tree e, and then the tokens rest.
+-- The grammar of expressions. `ReadsExpression rule ts e rest` says that the tokens ts are what the
+-- rule says, with the tree e, and then the tokens rest.
 use Rattle.std.specs.Prelude.{◌≡◌, ℕ, List, [], ◌∷◌, Some, Bool, true, false, ℤ, pos, neg_ℤ}
 use Rattle.poets_value.specs.declared.value.Name.{Name}
 use Rattle.poets_value.specs.declared.value.Ty.{Ty}
@@ -73,7 +73,8 @@ pub data ReadsExpression : Rule → List Tok → Expression → List Tok → Typ
       {ts mid rest : List Tok} {a b : Expression} {t : Tok} {o : Op} →
       infix_operator t ≡ Some (6, o) → ReadsExpression Product ts a (t ∷ mid) → ReadsExpression Prefixed mid b rest →
       ReadsExpression Product ts (E.Binary o a b) rest
-  -- prefixed = "-" NUMBER | "-" prefixed | primary, where a "-" directly before a NUMBER is the first
+  -- prefixed = "-" NUMBER | "-" prefixed | primary, where a "-" directly before a NUMBER is the
+  -- first
   NegativeNumber :
       {n : ℕ} {rest : List Tok} →
       ReadsExpression Prefixed (K.Sign S.Minus ∷ K.Number (pos n) ∷ rest) (E.Literal (V.Int (neg_ℤ (pos n)))) rest
@@ -103,7 +104,8 @@ pub data ReadsExpression : Rule → List Tok → Expression → List Tok → Typ
       ReadsExpression Primary
       (K.Sign S.LeftBracket ∷ K.Sign S.Minus ∷ K.Number (pos n) ∷ K.Name x ∷ K.Sign S.RightBracket ∷ rest)
       (E.Literal (V.Resource (record { amount = neg_ℤ (pos n); kind = x }))) rest
-  -- | "amount" "(" disjunction ")" | "kind" "(" disjunction ")" | "res" "(" disjunction "," disjunction ")"
+  -- | "amount" "(" disjunction ")" | "kind" "(" disjunction ")" | "res" "(" disjunction ","
+  -- disjunction ")"
   AmountOf :
       {ts rest : List Tok} {e : Expression} →
       ReadsExpression Disjunction ts e (K.Sign S.RightParen ∷ rest) →

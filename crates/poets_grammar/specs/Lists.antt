@@ -1,5 +1,5 @@
--- Lists of the grammar, over what one item of them is. `ReadsList Item ts xs rest` says that the tokens ts are the
--- items xs with commas between them, and then the tokens rest.
+-- Lists of the grammar, over what one item of them is. `ReadsList Item ts xs rest` says that the
+-- tokens ts are the items xs with commas between them, and then the tokens rest.
 use Rattle.std.specs.Prelude.{List, [], ◌∷◌}
 use Rattle.poets_value.specs.declared.value.Name.{Name}
 use Rattle.poets_lex.specs.declared.token.Sign.TheVariants as S

@@ -1,13 +1,16 @@
--- Reading of expressions as functions on lists: what stands at the front of the tokens, as long as possible, and what
--- stands after it. What is an expression Expressions.antt says; that both agree is proved.
-use Rattle.std.specs.Prelude.{ℕ, zero, suc, ◌+◌, nat_eq, Bool, true, false, if◌then◌else◌, List, [], ◌∷◌, length}
+-- Reading of expressions as functions on lists: what stands at the front of the tokens, as long as
+-- possible, and what stands after it. What is an expression Expressions.antt says; that both agree
+-- is proved.
+use Rattle.std.specs.Prelude.{ℕ, zero, suc, ◌+◌, nat_eq, Bool, true, false, if◌then◌else◌, List, []}
+use Rattle.std.specs.Prelude.{◌∷◌, length}
 use Rattle.std.specs.Prelude.{Option, Some, None, ℤ, pos, neg_ℤ}
 use Rattle.poets_value.specs.declared.value.Name.{Name}
 use Rattle.poets_value.specs.declared.value.Ty.{Ty}
 use Rattle.poets_value.specs.declared.value.Resource.{Resource}
 use Rattle.poets_value.specs.declared.value.Value.TheVariants as V
 use Rattle.poets_expr.specs.declared.expr.Op.{Op}
-use Rattle.poets_expr.specs.Expression.{UnaryOp, Minus, Not, AmountOf, KindOf, Expression, Literal, Undefined, Named}
+use Rattle.poets_expr.specs.Expression.{UnaryOp, Minus, Not, AmountOf, KindOf, Expression, Literal}
+use Rattle.poets_expr.specs.Expression.{Undefined, Named}
 use Rattle.poets_expr.specs.Expression.{Unary, Make, Binary, If}
 use Rattle.poets_lex.specs.declared.token.Word.{Word}
 use Rattle.poets_lex.specs.declared.token.Word.TheVariants as W

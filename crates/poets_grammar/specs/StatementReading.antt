@@ -1,19 +1,23 @@
--- Reading of statements as functions on lists. What is a statement Statements.antt says; that both agree is proved.
+-- Reading of statements as functions on lists. What is a statement Statements.antt says; that both
+-- agree is proved.
 use Rattle.std.specs.Prelude.{ℕ, List, [], ◌∷◌, Option, Some, None, ℤ, pos}
 use Rattle.poets_value.specs.declared.value.Name.{Name}
 use Rattle.poets_value.specs.declared.value.Ty.{Ty}
 use Rattle.poets_expr.specs.Expression.{Expression}
 use Rattle.poets_syntax.specs.declared.term.Binders.{Binders}
 use Rattle.poets_syntax.specs.declared.term.Param.{Param}
-use Rattle.poets_command.specs.Plain.{Register, Transmit, Void, End, Show, Tally, Portfolio, Watch, Read}
-use Rattle.poets_command.specs.Said.{Statement, Agents, Kinds, Template, Report, Clerk, Journal, Command, Numbered}
+use Rattle.poets_command.specs.Plain.{Register, Transmit, Void, End, Show, Tally, Portfolio, Watch}
+use Rattle.poets_command.specs.Plain.{Read}
+use Rattle.poets_command.specs.Said.{Statement, Agents, Kinds, Template, Report, Clerk, Journal}
+use Rattle.poets_command.specs.Said.{Command, Numbered}
 use Rattle.poets_command.specs.Plain as plain
 use Rattle.poets_lex.specs.declared.token.Word.{Word}
 use Rattle.poets_lex.specs.declared.token.Word.TheVariants as W
 use Rattle.poets_lex.specs.declared.token.Sign.TheVariants as S
 use Rattle.poets_lex.specs.declared.token.Tok.{Tok}
 use Rattle.poets_lex.specs.declared.token.Tok.TheVariants as K
-use Rattle.poets_grammar.specs.Reading.{Reading, ◌>>=◌, behind_sign, behind_word, name, number, type_name, whole}
+use Rattle.poets_grammar.specs.Reading.{Reading, ◌>>=◌, behind_sign, behind_word, name, number}
+use Rattle.poets_grammar.specs.Reading.{type_name, whole}
 use Rattle.poets_grammar.specs.Reading.{listed, bracketed, expression, whole_expression, arguments}
 use Rattle.poets_grammar.specs.ContractReading.{binders, whole_contract}
 

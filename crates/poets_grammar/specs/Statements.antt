@@ -16,7 +16,8 @@ use Rattle.poets_lex.specs.declared.token.Tok.{Tok}
 use Rattle.poets_lex.specs.declared.token.Tok.TheVariants as K
 use Rattle.poets_grammar.specs.Tokens.{type_of}
 use Rattle.poets_grammar.specs.Lists.{ReadsBracketed, ReadsNames}
-use Rattle.poets_grammar.specs.Expressions.{ReadsExpression, Disjunction, IsExpression, ReadsArguments}
+use Rattle.poets_grammar.specs.Expressions.{ReadsExpression, Disjunction, IsExpression}
+use Rattle.poets_grammar.specs.Expressions.{ReadsArguments}
 use Rattle.poets_grammar.specs.ContractGrammar.{ReadsBinders, IsContract}
 
 -- NAME ":" type
@@ -42,7 +43,8 @@ pub data IsCommand : List Tok → plain.Command → Type 0 where
   Register :
       {x : Name} {ts : List Tok} {c : Contract} →
       IsContract ts c → IsCommand (K.Word W.Register ∷ K.Name x ∷ K.Sign S.Equal ∷ ts) (plain.Register x c)
-  -- "transmit" NAME NAME NAME NUMBER NAME DAY: the contract, the sender, the receiver, the amount, the kind and the day
+  -- "transmit" NAME NAME NAME NUMBER NAME DAY: the contract, the sender, the receiver, the amount,
+  -- the kind and the day
   Transmit :
       {x sender receiver kind : Name} {n : ℕ} {day : ℤ} →
       IsCommand

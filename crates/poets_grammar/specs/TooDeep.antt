@@ -6,7 +6,8 @@ use Rattle.poets_lex.specs.declared.token.Sign.{Sign}
 use Rattle.poets_lex.specs.declared.token.Sign.TheVariants as S
 use Rattle.poets_lex.specs.declared.token.Tok.{Tok}
 use Rattle.poets_lex.specs.declared.token.Tok.TheVariants as K
-use Rattle.poets_grammar.specs.declared.limits.TheConstants.{MOST_OPEN, MOST_OPEN_STORED, MOST_OPERATORS}
+use Rattle.poets_grammar.specs.declared.limits.TheConstants.{MOST_OPEN, MOST_OPEN_STORED}
+use Rattle.poets_grammar.specs.declared.limits.TheConstants.{MOST_OPERATORS}
 
 -- ---- brackets
 
@@ -66,7 +67,8 @@ most_open_stored = MOST_OPEN_STORED
 abbrev pub most_operators : ℕ
 most_operators = MOST_OPERATORS
 
--- more brackets than the most are open after some of the first tokens, or there are more than 1,000 operators
+-- more brackets than the most are open after some of the first tokens, or there are more than 1,000
+-- operators
 pub data IsDeeper (most : ℕ) (tokens : List Tok) : Type 0 where
   Nested : (count : ℕ) → most < open_at_end (take count tokens) → IsDeeper most tokens
   Long : most_operators < operators tokens → IsDeeper most tokens
@@ -75,6 +77,7 @@ pub data IsDeeper (most : ℕ) (tokens : List Tok) : Type 0 where
 abbrev pub IsTooDeep : List Tok → Type 0
 IsTooDeep tokens = IsDeeper most_open tokens
 
--- too deep for a statement that was printed and kept, in which 201 may be open: `- -5` is printed as `-(-5)`
+-- too deep for a statement that was printed and kept, in which 201 may be open: `- -5` is printed
+-- as `-(-5)`
 abbrev pub IsTooDeepStored : List Tok → Type 0
 IsTooDeepStored tokens = IsDeeper most_open_stored tokens

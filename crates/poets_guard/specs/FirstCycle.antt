@@ -19,6 +19,7 @@ pub record IsFirstOf (Edge : Name → Name → Type 0) (names cycle : List Name)
   pub is_cycle : IsCycle Edge cycle
   pub none : All (λ f. ¬ (LiesOnCycle Edge f)) earlier
 
--- the list is a cycle of unguarded edges, and begins with the first declared template that lies on one
+-- the list is a cycle of unguarded edges, and begins with the first declared template that lies on
+-- one
 abbrev pub IsFirstCycle : Book → List Name → Type 0
 IsFirstCycle book cycle = IsFirstOf (UnguardedEdge book) (map (λ t. t.name) book.templates) cycle

@@ -17,7 +17,8 @@ registration _ _ = None
 abbrev pub registered : List Entry → List (Name × Contract)
 registered h = filter_map (λ e. registration e.command e.reply) h
 
--- the number, counted from 1, of the first contract with the name that these entries registered, or 0
+-- the number, counted from 1, of the first contract with the name that these entries registered, or
+-- 0
 abbrev pub number_after : List Entry → Name → ℕ
 number_after before x = number_in (contract_from 1 x (registered before))
 
@@ -26,14 +27,15 @@ abbrev pub with_before : List Entry → List (List Entry × Entry)
 with_before [] = []
 with_before (e ∷ h) = ([], e) ∷ map (λ p. (e ∷ p.0, p.1)) (with_before h)
 
--- what an entry makes of the log: an accepted transmission adds the contract's number and the event at the end, and
--- an accepted withdrawal takes out the pair of the contract that has its place
+-- what an entry makes of the log: an accepted transmission adds the contract's number and the event
+-- at the end, and an accepted withdrawal takes out the pair of the contract that has its place
 abbrev pub logged : List Entry → Command → Reply → List (ℕ × Event) → List (ℕ × Event)
 logged before (Command.Transmit x e) (Reply.Recorded count may_end) log = log ++ (number_after before x, e) ∷ []
 logged before (Command.Void x k) (Reply.Voided count may_end) log = without (number_after before x) k log
 logged before _ _ log = log
 
--- the history gone through in order: the contracts' numbers and the events that were recorded and not withdrawn
+-- the history gone through in order: the contracts' numbers and the events that were recorded and
+-- not withdrawn
 abbrev pub log_of : List Entry → List (ℕ × Event)
 log_of h = fold (λ log p. logged p.0 p.1.command p.1.reply log) [] (with_before h)
 

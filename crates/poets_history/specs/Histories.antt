@@ -1,4 +1,5 @@
--- Histories of a book and its reports. The marks that a frame has beside these are determined by the book.
+-- Histories of a book and its reports. The marks that a frame has beside these are determined by
+-- the book.
 use Rattle.std.specs.Prelude.{◌≡◌, ℕ, List, [], ◌++◌, Some, All, ⊤, ◌↔◌}
 use Rattle.poets_value.specs.declared.event.Event.{Event}
 use Rattle.poets_syntax.specs.Plain.{Book}
@@ -31,7 +32,8 @@ RepliesIn book reports l command reply = InFrame book reports (λ f. Replies f l
 abbrev pub AnswersIn : Book → List Report → List Call → Command → Reply → Type 0
 AnswersIn book reports calls command reply = InFrame book reports (λ f. Answers f calls command reply)
 
--- where a residual is shown of a contract of the ledger, exactly the completions of its recorded trace perform it
+-- where a residual is shown of a contract of the ledger, exactly the completions of its recorded
+-- trace perform it
 abbrev pub ShowsWhatIsOwed : Book → Ledger → Command → Reply → Type 0
 ShowsWhatIsOwed book l (Command.Show x) (Reply.Shown residual count may_end ended) =
     (number : ℕ) (original : Contract) → contract_named l x ≡ Some (number, original) →

@@ -34,7 +34,8 @@ OneFrame = (f f' : Frame) (h : List Entry) → f.book ≡ f'.book → f.reports 
 abbrev pub AnyFrame : Type 0
 AnyFrame = (f : Frame) (h : List Entry) → IsLegal f.book f.reports h ↔ Legal f h
 
--- which reply answers a command after calls, for a book and its reports, may be asked in any frame of them
+-- which reply answers a command after calls, for a book and its reports, may be asked in any frame
+-- of them
 abbrev pub AnyFrameAnswers : Type 0
 AnyFrameAnswers = (f : Frame) (calls : List Call) (command : Command) (r : Reply) →
     AnswersIn f.book f.reports calls command r ↔ Answers f calls command r

@@ -13,7 +13,8 @@ use Rattle.poets_command.specs.Plain.{Command, Reply, Entry}
 pub record Ledger : Type 0 where
   -- the names and the originals of the accepted registrations; their places count from 1
   pub contracts : List (Name × Contract)
-  -- the contracts' numbers and the events of the accepted transmissions, but for the events that were withdrawn
+  -- the contracts' numbers and the events of the accepted transmissions, but for the events that
+  -- were withdrawn
   pub log : List (ℕ × Event)
   -- the numbers of the ended contracts
   pub ends : List ℕ

@@ -20,7 +20,8 @@ use Rattle.poets_command.specs.Plain.{Command, Reply, Entry}
 use Rattle.poets_command.specs.Calls.{Call, calls_of}
 use Rattle.poets_command.specs.Reports.{report_in}
 use Rattle.poets_command.specs.Totals.{total_of}
-use Rattle.poets_history.specs.Ledger.{Ledger, ledger_of, contract_named, number_of, trace, events, is_ended, late_day}
+use Rattle.poets_history.specs.Ledger.{Ledger, ledger_of, contract_named, number_of, trace, events}
+use Rattle.poets_history.specs.Ledger.{is_ended, late_day}
 use Rattle.poets_history.specs.Ledger.{first_absent, watch_at}
 use Rattle.poets_history.specs.Frame.{Frame}
 
@@ -77,7 +78,8 @@ trace_with l i e = trace l i ++ e ∷ []
 abbrev pub HasPlace : List Event → (place : ℕ) → Type 0
 HasPlace s k = (1 ≤ k) × (k ≤ length s)
 
--- the contract with the name has this number and this original, was not ended, and its trace has that place
+-- the contract with the name has this number and this original, was not ended, and its trace has
+-- that place
 abbrev pub IsOpenAt : (place : ℕ) → Ledger → Name → ℕ → Contract → Type 0
 IsOpenAt k l x i o = IsOpen l x i o × HasPlace (trace l i) k
 
@@ -206,7 +208,8 @@ pub data Legal (f : Frame) : List Entry → Type 0 where
   Empty : Legal f []
   More : {h : List Entry} (e : Entry) → Legal f h → Replies f (ledger_of h) e.command e.reply → Legal f (h ++ e ∷ [])
 
--- after those calls this is the reply to the command: it is the one after the legal history of these calls
+-- after those calls this is the reply to the command: it is the one after the legal history of
+-- these calls
 pub record Answers (f : Frame) (calls : List Call) (command : Command) (r : Reply) : Type 0 where
   pub history : List Entry
   pub legal : Legal f history

@@ -7,7 +7,8 @@ use Rattle.poets_history.specs.Histories.{IsLegal}
 use Rattle.poets_history.specs.Ledger.{ledger_of, events}
 use Rattle.poets_engine.specs.State.{State, plain_calls}
 
--- one evaluation for the start of the report at most, and two for each recorded event of the engine's history
+-- one evaluation for the start of the report at most, and two for each recorded event of the
+-- engine's history
 abbrev pub AsksTwiceAnEvent : State → (asked asked' : ℕ) → Type 0
 AsksTwiceAnEvent e asked asked' =
     (h : List Entry) → IsLegal (book_of_rules e.rules) (reports_of_rules e.rules) h →

@@ -49,7 +49,8 @@ Say tokens (Sentence s) = AreSentence tokens s
 Say tokens (Owed c) = AreSentence (registration ++ tokens) (Command (plain.Register some_name c))
 Say tokens (Called x) = tokens ≡ K.Name x ∷ []
 
--- the text is cut into tokens that say this; names are numbered on from the table before to the table after
+-- the text is cut into tokens that say this; names are numbered on from the table before to the
+-- table after
 pub record Says (before : Table) (text : List ℕ) (phrase : Phrase) (after : Table) : Type 0 where
   pub tokens : List Token
   pub cut : Lexes before text 0 tokens after
@@ -57,7 +58,8 @@ pub record Says (before : Table) (text : List ℕ) (phrase : Phrase) (after : Ta
 
 -- ---- the texts of a document
 
--- the texts are these statements, one after the other, each from the table that the one ahead of it left
+-- the texts are these statements, one after the other, each from the table that the one ahead of it
+-- left
 pub data AreStatements : Table → List (List ℕ) → List Statement → Table → Type 0 where
   NoTexts : {names : Table} → AreStatements names [] [] names
   Text :

@@ -47,8 +47,8 @@ HasReplied names declared (plain.Folio rows total) =
     All (λ part. HasValues names declared part.1) rows × HasTotal names declared total
 HasReplied names declared _ = Unit {0}
 
--- the entry's clerk has a number below 2 ^ 32, and in its reply the values are as declared, and a day is one of the
--- language's
+-- the entry's clerk has a number below 2 ^ 32, and in its reply the values are as declared, and a
+-- day is one of the language's
 abbrev pub IsReadable : Table → Declared → plain.Entry → Type 0
 IsReadable names declared e = (e.clerk < 2 ^ 32) × HasReplied names declared e.reply
 
@@ -69,8 +69,8 @@ pub record Declare (statements : List Statement) (x : Exported) : Type 0 where
   pub templates : flat_map template_in_statement statements ≡ x.templates
   pub reports : reports_of statements ≡ x.reports
 
--- the texts of the book are statements that declare it; names are numbered on from the table before to the table
--- between
+-- the texts of the book are statements that declare it; names are numbered on from the table before
+-- to the table between
 pub record IsBookRead (before : Table) (names : Table) (x : Exported) (between : Table) : Type 0 where
   pub statements : List Statement
   pub read : AreStatements before (book_texts names x.declared x.templates x.reports) statements between
@@ -79,8 +79,8 @@ pub record IsBookRead (before : Table) (names : Table) (x : Exported) (between :
 
 -- ---- the document
 
--- the value is the document of x, which is readable; the names of its texts are numbered on from the table before to
--- the table after, first those of the book
+-- the value is the document of x, which is readable; the names of its texts are numbered on from
+-- the table before to the table after, first those of the book
 pub record IsDocumentOf (before : Table) (value : Data) (after : Table) (x : Exported) : Type 0 where
   pub document : value ≡ document after x
   pub between : Table

@@ -9,7 +9,8 @@ counted count = min (count + 1) (2 ^ 64 - 1)
 abbrev pub Rose : ℕ → ℕ → Type 0
 Rose before now = counted before ≤ now
 
--- the count of faults never falls: it stays where there is no error, and an error comes only where it rose
+-- the count of faults never falls: it stays where there is no error, and an error comes only where
+-- it rose
 pub record HasCause {T E : Type 0} (before now : ℕ) (result : Result T E) : Type 0 where
   pub later : before ≤ now
   pub kept : OnOk result (now ≡ before)

@@ -2,7 +2,8 @@
 use Rattle.std.specs.Prelude.{ℕ, Bool, refl}
 use Rattle.std.specs.Coded.{Coded, code_by, coded×, coded_ℕ, coded_bool}
 
--- its disk, how many bytes stand ahead of the gate behind which the next text goes, and whether an `append` failed
+-- its disk, how many bytes stand ahead of the gate behind which the next text goes, and whether an
+-- `append` failed
 pub record JournalOf (D : Type 0) : Type 0 where
   pub disk : D
   pub gate : ℕ

@@ -1,5 +1,6 @@
 -- What a machine with a journal keeps.
-use Rattle.std.specs.Prelude.{◌≡◌, ◌⊎◌, ℕ, ◌+◌, ◌≤◌, ◌<◌, ◌^◌, Bool, true, false, List, ◌++◌, length, take, map, refl}
+use Rattle.std.specs.Prelude.{◌≡◌, ◌⊎◌, ℕ, ◌+◌, ◌≤◌, ◌<◌, ◌^◌, Bool, true, false, List, ◌++◌}
+use Rattle.std.specs.Prelude.{length, take, map, refl}
 use Rattle.poets_io.specs.Causes.{Rose}
 use Rattle.std.specs.Coded.{Coded, code_by, coded×, coded_ℕ}
 use Rattle.poets_disk.specs.Disks.{Seen, MayLeave, Since, GoesOn}
@@ -7,8 +8,8 @@ use Rattle.poets_journal.specs.Texts.{HoldsTexts, Texts}
 use Rattle.poets_journal.specs.Journals.{AllHold}
 use Rattle.poets_journal.specs.JournalValue.{JournalOf, journal_code}
 
--- what contracts see of it: the machine, its journal, what gives calls their texts, how many of its first calls are
--- stored, and the disk at its making
+-- what contracts see of it: the machine, its journal, what gives calls their texts, how many of its
+-- first calls are stored, and the disk at its making
 pub record JournaledOf (M D P : Type 0) : Type 0 where
   pub machine : M
   pub journal : JournalOf D
@@ -35,9 +36,10 @@ HoldsFirst earlier texts count file = (count ≤ length texts) × HoldsTexts fil
 abbrev pub HoldsFront : (earlier texts : Texts) → List ℕ → Type 0
 HoldsFront earlier texts file = (count : ℕ) × HoldsFirst earlier texts count file
 
--- what is kept of the texts of a history since the making, whatever texts the disk held then: an image holds these, and
--- then the first so many of the history's, which are stored, or one more; at each moment an image held these, and then
--- some first ones; and where the journal has not failed, all are stored, and the disk had no fault
+-- what is kept of the texts of a history since the making, whatever texts the disk held then: an
+-- image holds these, and then the first so many of the history's, which are stored, or one more; at
+-- each moment an image held these, and then some first ones; and where the journal has not failed,
+-- all are stored, and the disk had no fault
 pub record IsKept (made disk : Seen) (before now : ℕ)
     (failed : Bool) (stored : ℕ) (texts : Texts) : Type 0 where
   pub time : GoesOn made disk

@@ -4,7 +4,8 @@ use Rattle.poets_io.specs.Causes.{Rose}
 use Rattle.poets_disk.specs.Disks.{Seen, MayLeave}
 use Rattle.poets_journal.specs.declared.start.Started.{Started}
 use Rattle.poets_journal.specs.declared.start.StartFault.{StartFault}
-use Rattle.poets_journal.specs.declared.start.StartFault.TheVariants.{Disk as DiskFailed, Damaged, Memory as NoMemory}
+use Rattle.poets_journal.specs.declared.start.StartFault.TheVariants.{Disk as DiskFailed, Damaged}
+use Rattle.poets_journal.specs.declared.start.StartFault.TheVariants.{Memory as NoMemory}
 
 -- the disk that comes back
 abbrev pub disk_of : {D : Type 0} → Result (Started D) (StartFault D) → D
@@ -27,7 +28,8 @@ OnDamaged (Err (DiskFailed disk)) P = Unit {0}
 OnDamaged (Err (Damaged disk number)) P = P number
 OnDamaged (Err (NoMemory disk)) P = Unit {0}
 
--- an image is one of those at the start, or it has at most one byte, and then so has what a read gives
+-- an image is one of those at the start, or it has at most one byte, and then so has what a read
+-- gives
 abbrev pub StaysOrIsShort : (old new : Seen) → List ℕ → Type 0
 StaysOrIsShort old new image = MayLeave old image ⊎ ((length image ≤ 1) × IfSome new.bytes (λ file. length file ≤ 1))
 

@@ -1,4 +1,5 @@
--- Texts in a file: each behind an open gate and its length, and a gate that is not open behind the last one.
+-- Texts in a file: each behind an open gate and its length, and a gate that is not open behind the
+-- last one.
 use Rattle.std.specs.Prelude.{◌≡◌, ◌≢◌, ◌⊎◌, ℕ, ◌+◌, ◌*◌, ◌<◌, ◌≤◌, List, [], ◌∷◌, ◌++◌, length}
 
 -- a text as bytes
@@ -13,8 +14,8 @@ Texts = List Text
 abbrev pub number_of : (a b c d : ℕ) → ℕ
 number_of a b c d = ((a * 256 + b) * 256 + c) * 256 + d
 
--- the bytes are a record of the text, and then the rest: the byte 1, which is the open gate, four bytes with the text's
--- length, and the text
+-- the bytes are a record of the text, and then the rest: the byte 1, which is the open gate, four
+-- bytes with the text's length, and the text
 pub record BeginsWith (text bytes rest : List ℕ) : Type 0 where
   pub a : ℕ
   pub b : ℕ

@@ -1,4 +1,5 @@
--- What ties the code to the definitions: invariants of its loops and structs, and what its private functions promise.
+-- What ties the code to the definitions: invariants of its loops and structs, and what its private
+-- functions promise.
 pub mod Gates
 pub mod Sizes
 pub mod Opens

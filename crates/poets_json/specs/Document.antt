@@ -1,4 +1,5 @@
--- The JSON document of a book, its reports and a history. Members stand in the byte order of their names.
+-- The JSON document of a book, its reports and a history. Members stand in the byte order of their
+-- names.
 use Rattle.std.specs.Prelude.{ℕ, Bool, List, map, Option, Some, None, codes}
 use Rattle.serde_json.specs.Data.{Data, null, boolean, number, unsigned, string, array, object}
 use Rattle.serde_json.specs.Data.{no_items, item, Members, no_members, member, put}
@@ -106,7 +107,8 @@ entry_with clerk command reply =
 abbrev pub entry_data : Table → Entry → Data
 entry_data names e = entry_with e.clerk (command_text names e.command) (reply_data names e.reply)
 
--- the JSON value of a book, its reports and a history: the texts of the book's statements, the format, and the entries
+-- the JSON value of a book, its reports and a history: the texts of the book's statements, the
+-- format, and the entries
 abbrev pub document : Table → Exported → Data
 document names x =
     object (member (codes "book") (list_data string (book_texts names x.declared x.templates x.reports))

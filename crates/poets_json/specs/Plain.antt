@@ -19,7 +19,8 @@ pub record AreDeclaredNames (declared : Declared) (all : List (Name × Ty)) : Ty
   pub rise : IsStrictlyIncreasing (map (λ d. d.0.id) all)
   pub each : (x : Name) (ty : Ty) → (declared x ≡ Some ty) ↔ Contains all (x, ty)
 
--- the declared names with their types, in the order of their numbers, the templates, the reports, and a history
+-- the declared names with their types, in the order of their numbers, the templates, the reports,
+-- and a history
 pub record Exported : Type 0 where
   pub declared : List (Name × Ty)
   pub templates : List Template

@@ -1,5 +1,6 @@
 -- Histories on a disk.
-use Rattle.std.specs.Prelude.{◌≡◌, ◌≢◌, ℕ, ◌+◌, ◌≤◌, ◌⊎◌, List, [], ◌∷◌, ◌++◌, codes, length, option_map, IfSome}
+use Rattle.std.specs.Prelude.{◌≡◌, ◌≢◌, ℕ, ◌+◌, ◌≤◌, ◌⊎◌, List, [], ◌∷◌, ◌++◌, codes, length}
+use Rattle.std.specs.Prelude.{option_map, IfSome}
 use Rattle.std.specs.Fmt.{decimal}
 use Rattle.poets_lex.specs.Table.{Table}
 use Rattle.poets_command.specs.Calls.{calls_of}
@@ -23,15 +24,15 @@ FileHolds disk texts = IfSome disk.bytes (λ file. HoldsTexts file texts)
 abbrev pub FileIsDamaged : Seen → (number : ℕ) → Type 0
 FileIsDamaged disk number = IfSome disk.bytes (λ file. IsDamaged file number)
 
--- nothing was done to the disk but that its journal was started, or begun to be: at each moment a crash leaves what it
--- may have left before, or at most one byte
+-- nothing was done to the disk but that its journal was started, or begun to be: at each moment a
+-- crash leaves what it may have left before, or at most one byte
 pub record OnlyStarted (disk disk' : Seen) : Type 0 where
   pub time : GoesOn disk disk'
   pub during : During disk disk' (StaysOrIsShort disk disk')
 
--- a journal was started without a fault on a disk that held these texts: whatever a crash leaves now holds them too,
--- and a read gives what it gave, but for a closed gate in place of at most one byte; where there are texts, a crash on
--- the way left what it may have left before
+-- a journal was started without a fault on a disk that held these texts: whatever a crash leaves
+-- now holds them too, and a read gives what it gave, but for a closed gate in place of at most one
+-- byte; where there are texts, a crash on the way left what it may have left before
 pub record HeldTexts (disk disk' : Seen) (faults faults' : ℕ) (texts : Texts) : Type 0 where
   pub held : FileHolds disk texts
   pub all : AllHold disk' texts
@@ -39,7 +40,8 @@ pub record HeldTexts (disk disk' : Seen) (faults faults' : ℕ) (texts : Texts) 
   pub faultless : faults' ≡ faults
   pub still : texts ≢ [] → During disk disk' (MayLeave disk)
 
--- no journal was started, since the record with this number is damaged: nothing failed, and a read gives what it gave
+-- no journal was started, since the record with this number is damaged: nothing failed, and a read
+-- gives what it gave
 pub record FoundDamage (disk disk' : Seen) (faults faults' number : ℕ) : Type 0 where
   pub damaged : FileIsDamaged disk number
   pub bytes : disk'.bytes ≡ disk.bytes
@@ -52,8 +54,8 @@ pub record AreAcknowledged (names : Table) (earlier : Texts) (disk disk' : Seen)
   -- a crash now leaves the earlier texts and those of these calls, or of these and the next one
   pub survive : (image : List ℕ) → MayLeave disk' image →
       HoldsFirst earlier (texts_of names h) stored image ⊎ HoldsFirst earlier (texts_of names h) (stored + 1) image
-  -- and where the disk held the earlier texts before, a crash at any moment leaves these, and then those of the first
-  -- calls of the history, however many
+  -- and where the disk held the earlier texts before, a crash at any moment leaves these, and then
+  -- those of the first calls of the history, however many
   pub during : AllHold disk earlier → During disk disk' (HoldsFront earlier (texts_of names h))
 
 -- `refused: journal holds 4 calls`, and LF (10)

@@ -1,5 +1,6 @@
 -- The word `keep`.
-use Rattle.std.specs.Prelude.{◌≡◌, ℕ, suc, ◌≤◌, ◌<◌, List, [], length, take, All, Some, slice_get, Option}
+use Rattle.std.specs.Prelude.{◌≡◌, ℕ, suc, ◌≤◌, ◌<◌, List, [], length, take, All, Some, slice_get}
+use Rattle.std.specs.Prelude.{Option}
 use mathlib.Core.List.{IsPrefix}
 use Rattle.poets_io.specs.Causes.{Rose}
 use Rattle.poets_lex.specs.Table.{Table}
@@ -19,20 +20,22 @@ use Rattle.poets_top.specs.Running.{IsHistoryOf, HasRun}
 use Rattle.poets_writing.specs.Writing.{Stream}
 use Rattle.poets_writing.specs.declared.outcome.TheConstants.{DONE, NO_MEMORY}
 use Rattle.poets_keeping.specs.declared.outcome.TheConstants.{DAMAGED, DISK_FAULT, HOLDS_CALLS}
-use Rattle.poets_keeping.specs.Journals.{AreAcknowledged, FileHolds, FoundDamage, HeldTexts, OnlyStarted}
+use Rattle.poets_keeping.specs.Journals.{AreAcknowledged, FileHolds, FoundDamage, HeldTexts}
+use Rattle.poets_keeping.specs.Journals.{OnlyStarted}
 use Rattle.poets_keeping.specs.Journals.{damaged_line, holds_line, texts_of}
 use Rattle.poets_opening.specs.Unread.{EndsUnread, GaveSession}
 use Rattle.poets_keeping.specs.Writing.{EndsWriting}
 
--- a right history in which the commands of each clerk are a prefix of his script, and no other clerk's stand there
+-- a right history in which the commands of each clerk are a prefix of his script, and no other
+-- clerk's stand there
 pub record IsPartOf (statements : List Statement) (h : List Entry) : Type 0 where
   pub right : IsRightHistory (book_from statements) (reports_of statements) h
   pub own : (place : ℕ) (script : List Command) → slice_get (scripts_of statements) place ≡ Some script →
       IsPrefix (own (suc place) h) script
   pub clerks : All (λ e. (1 ≤ e.clerk) × (e.clerk ≤ length (scripts_of statements))) h
 
--- what comes of a session of clerks whose calls are kept: how many of them are acknowledged, the status, the history,
--- and the text that is to be written
+-- what comes of a session of clerks whose calls are kept: how many of them are acknowledged, the
+-- status, the history, and the text that is to be written
 pub data IsKeptAs (names : Table) (statements : List Statement) (disk disk' : Seen) (faults faults' : ℕ) :
     (stored status : ℕ) → List Entry → (text : List ℕ) → Type 0 where
   -- all calls are acknowledged
@@ -70,7 +73,8 @@ module _ {D : Type 0} (seen : D → Seen) (faults : D → ℕ) where
     NoneMade :
         OnlyStarted (seen disk) (seen disk') → sink' ≡ sink →
         KeepsSession names statements sink sink' disk disk' NO_MEMORY [] 0
-    -- out of memory once calls were made, ahead of all writing: they are some of what the scripts ask for, or all
+    -- out of memory once calls were made, ahead of all writing: they are some of what the scripts
+    -- ask for, or all
     PartMade :
         {stored : ℕ} {made : List Entry} →
         FileHolds (seen disk) [] → IsPartOf statements made →
@@ -81,7 +85,8 @@ module _ {D : Type 0} (seen : D → Seen) (faults : D → ℕ) where
   -- how a run ends that was asked to keep, by its source, its sink and its disk before and after
   pub data EndsKeeping (source source' sink sink' : Stream) (disk disk' : D) :
       (status : ℕ) → List Entry → (stored : ℕ) → Type 0 where
-    -- the source gave no session of clerks, or memory was not enough to read it: the disk was not touched
+    -- the source gave no session of clerks, or memory was not enough to read it: the disk was not
+    -- touched
     Unread :
         {status : ℕ} {h : List Entry} → EndsUnread F.Clerks source source' sink sink' status h → disk' ≡ disk →
         EndsKeeping source source' sink sink' disk disk' status h 0
@@ -91,13 +96,14 @@ module _ {D : Type 0} (seen : D → Seen) (faults : D → ℕ) where
         KeepsSession names statements sink sink' disk disk' status h stored →
         EndsKeeping source source' sink sink' disk disk' status h stored
 
--- a session was run, and its calls are kept: what the source had left and the sink held before and after, the disk
--- before and after, how many calls are acknowledged, and the history
+-- a session was run, and its calls are kept: what the source had left and the sink held before and
+-- after, the disk before and after, how many calls are acknowledged, and the history
 pub record HasKept (left left' held held' : Option (List ℕ)) (disk disk' : Seen) (stored : ℕ) (h : List Entry) :
     Type 0 where
   pub run : HasRun left left' held held' h
   pub stored_all : stored ≡ length h
   -- whatever a crash leaves now holds the texts of all calls
   pub kept : (image : List ℕ) → MayLeave disk' image → HoldsTexts image (texts_of run.names h)
-  -- and where the disk held no call before, a crash at any moment of the run left the first calls, however many
+  -- and where the disk held no call before, a crash at any moment of the run left the first calls,
+  -- however many
   pub during : AllHold disk [] → During disk disk' (HoldsFront [] (texts_of run.names h))

@@ -1,5 +1,6 @@
 -- Calls of scripts that are made after earlier ones, and kept.
-use Rattle.std.specs.Prelude.{◌≡◌, ℕ, nat_eq, Bool, if◌then◌else◌, List, [], ◌++◌, All, length, take}
+use Rattle.std.specs.Prelude.{◌≡◌, ℕ, nat_eq, Bool, if◌then◌else◌, List, [], ◌++◌, All, length}
+use Rattle.std.specs.Prelude.{take}
 use Rattle.std.specs.Prelude.{Option, Some, None, IfSome}
 use Rattle.poets_lex.specs.Table.{Table}
 use Rattle.poets_command.specs.Calls.{calls_of, history_of}
@@ -36,8 +37,8 @@ OfTaken engine P = (p : List Entry) → HasTaken engine p → P p
 abbrev pub IsWhole : List Entry → List (List Command) → Listed code.Entry → Type 0
 IsWhole made scripts h = (history_of h.items ≡ made) × HasScripts scripts (calls_of made)
 
--- after the history p a part of the calls of scripts was made, or all of them, and kept on the disk: with p they make a
--- right history, and the first so many of them are stored
+-- after the history p a part of the calls of scripts was made, or all of them, and kept on the
+-- disk: with p they make a right history, and the first so many of them are stored
 pub record AreMade (rules : Rules) (names : Table) (p : List Entry) (scripts : List (List Command)) (disk disk' : Seen)
     (faults faults' : ℕ) (stored : ℕ) (whole : Option (Listed code.Entry)) : Type 0 where
   pub made : List Entry
@@ -53,8 +54,8 @@ abbrev pub kept_status : (stored : ℕ) → Listed code.Entry → ℕ
 kept_status stored history = if nat_eq stored (length history.items) then DONE else DISK_FAULT
 
 module _ {D : Type 0} (seen : D → Seen) (faults : D → ℕ) where
-  -- how it ends that the calls of scripts are made after the history p and kept, and the lines of the stored ones
-  -- written, numbered on; by the change of the sink
+  -- how it ends that the calls of scripts are made after the history p and kept, and the lines of
+  -- the stored ones written, numbered on; by the change of the sink
   pub data KeepsScripts (rules : Rules) (names : Table) (p : List Entry) (scripts : List (List Command))
       (disk disk' : D) (sink : Change) : (status : ℕ) → List Entry → (stored : ℕ) → Type 0 where
     -- all calls were made

@@ -18,20 +18,21 @@ use Rattle.poets_session.specs.Sessions.{Text, IsSession}
 use Rattle.poets_writing.specs.Writing.{Stream}
 use Rattle.poets_writing.specs.declared.outcome.TheConstants.{DONE, NO_MEMORY}
 use Rattle.poets_keeping.specs.declared.outcome.TheConstants.{DAMAGED, DISK_FAULT}
-use Rattle.poets_keeping.specs.Journals.{FileHolds, FoundDamage, HeldTexts, OnlyStarted, damaged_line}
+use Rattle.poets_keeping.specs.Journals.{FileHolds, FoundDamage, HeldTexts, OnlyStarted}
+use Rattle.poets_keeping.specs.Journals.{damaged_line}
 use Rattle.poets_opening.specs.Unread.{EndsUnread, GaveSession}
 use Rattle.poets_keeping.specs.Writing.{EndsWriting}
 
--- the history's calls are those that the texts say; their new names get the next numbers of the table, which is then
--- the second one
+-- the history's calls are those that the texts say; their new names get the next numbers of the
+-- table, which is then the second one
 pub record IsHistoryOfTexts (names : Table) (statements : List Statement) (texts : Texts) (after : Table)
     (h : List Entry) : Type 0 where
   pub stored : AreStoredCalls (book_from statements) (reports_of statements) names texts (calls_of h) after
   pub within : length_of_all texts ≤ most_stored
   pub right : IsRightHistory (book_from statements) (reports_of statements) h
 
--- what comes of a book whose journal is read: how many texts it holds, the status, the history, and the text that is to
--- be written
+-- what comes of a book whose journal is read: how many texts it holds, the status, the history, and
+-- the text that is to be written
 pub data IsRecoveredAs (names : Table) (statements : List Statement) (disk disk' : Seen) (faults faults' : ℕ) :
     (stored status : ℕ) → List Entry → (text : List ℕ) → Type 0 where
   Whole :
@@ -52,7 +53,8 @@ pub data IsRecoveredAs (names : Table) (statements : List Statement) (disk disk'
   NotStarted : Rose faults faults' → IsRecoveredAs names statements disk disk' faults faults' 0 DISK_FAULT [] []
 
 module _ {D : Type 0} (seen : D → Seen) (faults : D → ℕ) where
-  -- how a run ends that makes the calls of a journal under a book, by its sink and its disk before and after
+  -- how a run ends that makes the calls of a journal under a book, by its sink and its disk before
+  -- and after
   pub data RecoversBook (names : Table) (statements : List Statement) (sink sink' : Stream) (disk disk' : D) :
       (status : ℕ) → List Entry → (stored : ℕ) → Type 0 where
     -- what came of the journal was written, or as much of it as the sink or memory allowed
@@ -81,8 +83,8 @@ module _ {D : Type 0} (seen : D → Seen) (faults : D → ℕ) where
         RecoversBook names statements sink sink' disk disk' status h stored →
         EndsRecovering source source' sink sink' disk disk' status h stored
 
--- a journal was recovered: what the source had left and the sink held before and after, the disk before, how many texts
--- it held, and the history
+-- a journal was recovered: what the source had left and the sink held before and after, the disk
+-- before, how many texts it held, and the history
 pub record HasRecovered (left left' held held' : Option (List ℕ)) (disk : Seen) (stored : ℕ) (h : List Entry) :
     Type 0 where
   -- the source was read to its end, and its bytes are the text of a book

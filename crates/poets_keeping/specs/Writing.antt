@@ -8,8 +8,8 @@ use Rattle.poets_io.specs.Streams.{AppendsPart}
 use Rattle.poets_writing.specs.Writing.{Change, HasFailed, Stream}
 use Rattle.poets_writing.specs.declared.outcome.TheConstants.{NO_MEMORY, WRITE_FAULT}
 
--- the text of a run with this status was written to the sink, or as much of it as the sink or memory allowed: the
--- status with which the run then ends
+-- the text of a run with this status was written to the sink, or as much of it as the sink or
+-- memory allowed: the status with which the run then ends
 pub data EndsWriting (status : ℕ) (text : List ℕ) (sink sink' : Stream) : (ended : ℕ) → Type 0 where
   -- it was written whole, without a fault
   Whole : Appends sink.bytes sink'.bytes text → sink'.faults ≡ sink.faults → EndsWriting status text sink sink' status

@@ -31,7 +31,8 @@ outcome_of result = record { status = result.status; history = result.history }
 abbrev pub AreNoKeptForm : List (String Global) → Type 0
 AreNoKeptForm words = AreNoForm words × ¬ (AskForJournal words)
 
--- the run ends with the status 0, and then this holds of how many calls are stored, and of its history
+-- the run ends with the status 0, and then this holds of how many calls are stored, and of its
+-- history
 abbrev pub IfKept : {D : Type 0} → KeptOutcome D → (ℕ → List Entry → Type 0) → Type 0
 IfKept result P = result.status ≡ DONE → P result.stored (history_of result.history.items)
 
@@ -93,8 +94,8 @@ pub data DeservesResuming (text : Text) (file : List ℕ) : (status : ℕ) → T
       OfSession F.Clerks text (λ names statements. (number : ℕ) × IsDamaged file number) →
       DeservesResuming text file DAMAGED
 
--- where source and disk tell their bytes, and no count of faults rose, the run ends with the status that it deserves,
--- or it runs out of memory
+-- where source and disk tell their bytes, and no count of faults rose, the run ends with the status
+-- that it deserves, or it runs out of memory
 abbrev pub EndsDeserved :
     (Deserves : Text → List ℕ → ℕ → Type 0) → (source sink : Change) → Seen → (faults faults' : ℕ) → (status : ℕ) →
     Type 0

@@ -1,5 +1,6 @@
 -- How a text is cut into tokens.
-use Rattle.std.specs.Prelude.{◌≡◌, ◌≢◌, ℕ, ◌+◌, ◌≤◌, ◌<◌, ◌^◌, false, List, [], ◌∷◌, ◌++◌, length, Some, IsTrue, ℤ, pos}
+use Rattle.std.specs.Prelude.{◌≡◌, ◌≢◌, ℕ, ◌+◌, ◌≤◌, ◌<◌, ◌^◌, false, List, [], ◌∷◌, ◌++◌, length}
+use Rattle.std.specs.Prelude.{Some, IsTrue, ℤ, pos}
 use Rattle.std.specs.List.{list_all}
 use Rattle.std.specs.Char.{is_ascii_digit}
 use Rattle.poets_value.specs.Civil.{IsDayText}
@@ -9,7 +10,8 @@ use Rattle.poets_lex.specs.declared.token.Tok.TheVariants as K
 use Rattle.poets_lex.specs.declared.token.Token.{Token}
 use Rattle.poets_lex.specs.declared.fault.LexFault.{LexFault}
 use Rattle.poets_lex.specs.declared.fault.LexFault.TheVariants as F
-use Rattle.poets_lex.specs.Bytes.{is_blank, is_in_line, begins_name, is_in_name, decimal, BeginsWithout, Begins}
+use Rattle.poets_lex.specs.Bytes.{is_blank, is_in_line, begins_name, is_in_name, decimal}
+use Rattle.poets_lex.specs.Bytes.{BeginsWithout, Begins}
 use Rattle.poets_lex.specs.Texts.{word_text, sign_text}
 use Rattle.poets_lex.specs.Table.{Table, HasNameShape, IsName, place_of, with_text}
 
@@ -72,8 +74,8 @@ pub data Reads : Table → List ℕ → ℕ → List Token → Table → List �
       Piece before place bytes text here between → Reads between text (place + length bytes) tokens after rest →
       Reads before (bytes ++ text) place (here ++ tokens) after rest
 
--- the whole text, which begins at the place, is these tokens; names are numbered from the table before to the table
--- after
+-- the whole text, which begins at the place, is these tokens; names are numbered from the table
+-- before to the table after
 abbrev pub Lexes : Table → List ℕ → ℕ → List Token → Table → Type 0
 Lexes before text place tokens after = Reads before text place tokens after []
 

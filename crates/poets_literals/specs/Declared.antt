@@ -14,7 +14,8 @@ use Rattle.poets_print.specs.Texts.{name_text, value_text}
 abbrev pub IsNumber : ℤ → Type 0
 IsNumber z = (neg_ℤ (pos (2 ^ 63)) ≤ℤ z) × (z <ℤ pos (2 ^ 63))
 
--- the name is the place where its text stands first, as is each name of a table in which no text stands twice
+-- the name is the place where its text stands first, as is each name of a table in which no text
+-- stands twice
 abbrev pub IsPlaced : Table → Name → Type 0
 IsPlaced names x = place_of (name_text names x) names ≡ Some x.id
 

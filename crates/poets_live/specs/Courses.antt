@@ -14,7 +14,8 @@ use Rattle.poets_live.specs.declared.course.TheConstants.{APART}
 abbrev pub apart : ℕ
 apart = APART
 
--- a fold, its marks, and how many events stand behind the last one; there is room for so many marks more
+-- a fold, its marks, and how many events stand behind the last one; there is room for so many marks
+-- more
 pub record CourseView : Type 0 where
   pub fold : FoldView
   pub marks : List (Option Value)

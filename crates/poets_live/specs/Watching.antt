@@ -1,6 +1,7 @@
--- Reports that are kept live, as plain data. `Follows` and `Begins` speak of their answers by `IsAnswer`; all else only
--- ties the code to them.
-use Rattle.std.specs.Prelude.{◌≡◌, ℕ, ◌*◌, ◌-◌, ◌<◌, List, [], ◌∷◌, ◌++◌, Option, Some, None, slice_get}
+-- Reports that are kept live, as plain data. `Follows` and `Begins` speak of their answers by
+-- `IsAnswer`; all else only ties the code to them.
+use Rattle.std.specs.Prelude.{◌≡◌, ℕ, ◌*◌, ◌-◌, ◌<◌, List, [], ◌∷◌, ◌++◌, Option, Some, None}
+use Rattle.std.specs.Prelude.{slice_get}
 use Rattle.std.specs.List.{All, AllZip}
 use Rattle.poets_value.specs.declared.event.Event.{Event}
 use Rattle.poets_value.specs.declared.value.Value.{Value}
@@ -63,7 +64,8 @@ pub record WatchesView : Type 0 where
   pub watches : List WatchView
   pub rooms : List Room
 
--- the watch was begun under these declared names, and has its report's answer over these events, and marks on its way
+-- the watch was begun under these declared names, and has its report's answer over these events,
+-- and marks on its way
 pub record Follows (declared : Declared) (events : List Event) (w : WatchView) : Type 0 where
   pub begun : w.start ≡ start declared (report_of w.report) w.args
   pub answers : IsAnswer declared (report_of w.report) w.args events w.answer
@@ -111,7 +113,8 @@ AllLead declared events watches moves = AllZip (Leads declared events) watches m
 abbrev pub AllLeadToLog : Decls → List (ℕ × Event) → List WatchView → List Move → Type 0
 AllLeadToLog decls log watches moves = AllLead (declared_of decls.names) (events_of log) watches moves
 
--- this is what an event brings to a watch: whatever events it follows, it is led to these and this one
+-- this is what an event brings to a watch: whatever events it follows, it is led to these and this
+-- one
 abbrev pub Brought : Declared → Event → WatchView → Move → Type 0
 Brought declared e w step =
     (events : List Event) → Follows declared events w → Leads declared (events ++ e ∷ []) w step
@@ -139,8 +142,8 @@ pub record IsSeen (declared : Declared) (e : Event) (old new : WatchState) (step
   pub brought : Brought declared e old.watch step
   pub room : HasRoomIn new.watch new.room step
 
--- how many expressions a report asks at most to leave out the event at a place of so many: without a key one for each
--- event from 255 ahead of it on, and with a key two for each event
+-- how many expressions a report asks at most to leave out the event at a place of so many: without
+-- a key one for each event from 255 ahead of it on, and with a key two for each event
 abbrev pub asked_by_key : {A : Type 0} → (key : Option A) → (count place : ℕ) → ℕ
 asked_by_key None count place = count - (place - 255)
 asked_by_key (Some key) count place = 2 * count
@@ -159,7 +162,8 @@ pub record Begins
   pub of_args : last.args ≡ args
   pub follows : Follows declared (events_of log) last
 
--- one watch more of the report under the declared names, which begins with the fold of the log; the others stay
+-- one watch more of the report under the declared names, which begins with the fold of the log; the
+-- others stay
 abbrev pub BeginsUnder :
     Decls → Report → Listed (Option Value) → Listed (ℕ × Event) → (old new : WatchesView) → Type 0
 BeginsUnder decls report args log old new =
@@ -173,7 +177,8 @@ IsAnswerOfWatch n watches a = (w : WatchView) → slice_get watches (n - 1) ≡ 
 abbrev pub WhereSingle : ℕ → List WatchView → Type 0 → Type 0
 WhereSingle n watches P = (w : WatchView) → slice_get watches (n - 1) ≡ Some w → IsSingle w.answer → P
 
--- watches that have their answers over events, moved by what an event brings, have them over the events with it
+-- watches that have their answers over events, moved by what an event brings, have them over the
+-- events with it
 abbrev pub OneEventMore : Type 0
 OneEventMore = (declared : Declared) (events : List Event) (e : Event)
     (old : List WatchView) (moves : List Move) (new : List WatchView) →

@@ -6,8 +6,9 @@ use Rattle.std.specs.Arc.{arc_value}
 
 module _ {M C F K E : Type 0} (history : M → List (ℕ × C)) (frame : M → F)
     (owes : F → List (ℕ × C) → ℕ → C → K → Type 0) where
-  -- the machine had a turn for the clerk's call: the history then has the call at its end, and what is kept of it is
-  -- owed after the calls before it; or nothing is kept, and the history is as before
+  -- the machine had a turn for the clerk's call: the history then has the call at its end, and what
+  -- is kept of it is owed after the calls before it; or nothing is kept, and the history is as
+  -- before
   abbrev pub HadTurn : ℕ → Arc C Global → Result K E → (old new : M) → Type 0
   HadTurn clerk call made old new = MatchResult made
       (λ kept. (history new ≡ history old ++ (clerk, arc_value call) ∷ [])

@@ -14,6 +14,7 @@ pub record KeptView : Type 0 where
 abbrev pub IsKept : (before : Option (List ℕ)) → (bytes : List ℕ) → (after : Option (List ℕ)) → Type 0
 IsKept before bytes after = IfSome after (λ all. (kept : List ℕ) × (before ≡ Some kept) × (all ≡ kept ++ bytes))
 
--- what is kept after so many of these bytes were given, if anything is, is what was kept before, and they
+-- what is kept after so many of these bytes were given, if anything is, is what was kept before,
+-- and they
 abbrev pub IsKeptOf : (before : Option (List ℕ)) → (bytes : List ℕ) → (after : Option (List ℕ)) → (count : ℕ) → Type 0
 IsKeptOf before bytes after count = IsKept before (take count bytes) after

@@ -1,11 +1,12 @@
 -- The lines that show a spot.
-use Rattle.std.specs.Prelude.{ℕ, ◌+◌, ◌-◌, min, max, ◌&&◌, ◌||◌, ◌==◌, nat_le, if◌then◌else◌, List, [], ◌∷◌, ◌++◌, map}
+use Rattle.std.specs.Prelude.{ℕ, ◌+◌, ◌-◌, min, max, ◌&&◌, ◌||◌, ◌==◌, nat_le, if◌then◌else◌, List}
+use Rattle.std.specs.Prelude.{[], ◌∷◌, ◌++◌, map}
 use Rattle.std.specs.Prelude.{take, drop, replicate, codes}
 use Rattle.std.specs.Fmt.{decimal}
 use Rattle.poets_mark.specs.declared.spots.Spot.{Spot}
 
--- a byte is shown: a sign of ASCII that prints (32 to 126) as itself, a tab (9) and CR (13) as a space (32), and any
--- other as `?` (63)
+-- a byte is shown: a sign of ASCII that prints (32 to 126) as itself, a tab (9) and CR (13) as a
+-- space (32), and any other as `?` (63)
 abbrev pub shown : ℕ → ℕ
 shown byte = if nat_le 32 byte && nat_le byte 126 then byte else if byte == 9 || byte == 13 then 32 else 63
 

@@ -28,7 +28,8 @@ abbrev pub IsFaultSpot : Text → Form → Spot → Type 0
 IsFaultSpot text form spot =
     (fault : SessionFault) × IsFirstFault text form fault × IsPlaceOf text fault.what spot.place × IsSpot text spot
 
--- the lines that show where the first fault of the text stands, and after them one that tells a mistake, or none
+-- the lines that show where the first fault of the text stands, and after them one that tells a
+-- mistake, or none
 abbrev pub IsMarkOf : Text → Form → List ℕ → Type 0
 IsMarkOf text form lines =
     (spot : Spot) × (mistake : Option Mistake) × IsFaultSpot text form spot

@@ -1,5 +1,6 @@
 -- Where a fault stands in its text.
-use Rattle.std.specs.Prelude.{◌≡◌, ℕ, zero, suc, ◌-◌, List, [], ◌∷◌, length, Option, None, Some, unwrap_or, drop, ◌≤◌}
+use Rattle.std.specs.Prelude.{◌≡◌, ℕ, zero, suc, ◌-◌, List, [], ◌∷◌, length, Option, None, Some}
+use Rattle.std.specs.Prelude.{unwrap_or, drop, ◌≤◌}
 use Rattle.std.specs.Prelude.{◌⊎◌, slice_get, if◌then◌else◌}
 use Rattle.poets_value.specs.declared.value.Name.{Name}
 use Rattle.poets_lex.specs.declared.token.Tok.TheVariants as K
@@ -37,16 +38,16 @@ abbrev pub first_place : List Token → Option ℕ
 first_place [] = None
 first_place (t ∷ ts) = Some t.from
 
--- the statement with the number, counted from 1, begins here: where its first token stands (its `;;`, if it has no
--- other), or at the end of the text, if there is no such statement
+-- the statement with the number, counted from 1, begins here: where its first token stands (its
+-- `;;`, if it has no other), or at the end of the text, if there is no such statement
 pub record IsBeginOf (text : Text) (number place : ℕ) : Type 0 where
   pub tokens : List Token
   pub names : Table
   pub lexed : Lexes [] text 0 tokens names
   pub here : place ≡ unwrap_or (first_place (statement_tokens (number - 1) tokens)) (length text)
 
--- the statement with the number is left here: at one of its tokens, or at what stands after them, its `;;` or the end
--- of the text
+-- the statement with the number is left here: at one of its tokens, or at what stands after them,
+-- its `;;` or the end of the text
 pub record IsWithin (text : Text) (number place : ℕ) : Type 0 where
   pub tokens : List Token
   pub names : Table
@@ -76,11 +77,13 @@ pub record IsBeginWithout (text : Text) (number : ℕ) (x : Name) (place : ℕ) 
   pub none : LacksName (ahead_of_end (statement_tokens (number - 1) tokens)) x
   pub here : place ≡ unwrap_or (first_place (statement_tokens (number - 1) tokens)) (length text)
 
--- the name stands here in the statement with the number, which begins here if it does not have the name
+-- the name stands here in the statement with the number, which begins here if it does not have the
+-- name
 abbrev pub IsNamePlace : Text → (number : ℕ) → Name → ℕ → Type 0
 IsNamePlace text number x place = IsNameOf text number x place ⊎ IsBeginWithout text number x place
 
--- a fault of names stands at the name, one of types within the statement; want of memory has no place
+-- a fault of names stands at the name, one of types within the statement; want of memory has no
+-- place
 abbrev pub IsTypePlace : Text → (number : ℕ) → TypeCause → ℕ → Type 0
 IsTypePlace text number (T.Twice x) place = IsNamePlace text number x place
 IsTypePlace text number (T.Unknown x) place = IsNamePlace text number x place
@@ -95,8 +98,8 @@ byte_of (L.LongNumber at) = Some at
 byte_of (L.LongName at) = Some at
 byte_of L.Memory = None
 
--- the fault stands here: at the byte, or at the name, or where the statement begins, or within a statement that is no
--- sentence or not typed
+-- the fault stands here: at the byte, or at the name, or where the statement begins, or within a
+-- statement that is no sentence or not typed
 abbrev pub IsPlaceOf : Text → SessionCause → ℕ → Type 0
 IsPlaceOf text (C.Lex fault) place = byte_of fault ≡ Some place
 IsPlaceOf text (C.Syntax number F.NoSentence) place = IsWithin text number place

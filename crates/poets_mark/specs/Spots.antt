@@ -7,14 +7,15 @@ use Rattle.poets_mark.specs.declared.spots.Spot.{Spot}
 abbrev pub IsBreak : List ℕ → ℕ → Type 0
 IsBreak text place = Passes (is_byte 10) text place
 
--- the line of the place begins here: at the begin of the text or after an LF, and no line ends from here up to the
--- place
+-- the line of the place begins here: at the begin of the text or after an LF, and no line ends from
+-- here up to the place
 pub record IsLineBegin (text : List ℕ) (place begin : ℕ) : Type 0 where
   pub before : begin ≤ place
   pub first : (begin ≡ 0) ⊎ IsBreak text (begin - 1)
   pub unbroken : Nowhere (IsBreak text) begin place
 
--- the line of the place ends here: at an LF or at the end of the text, and no line ends from the place up to here
+-- the line of the place ends here: at an LF or at the end of the text, and no line ends from the
+-- place up to here
 pub record IsLineEnd (text : List ℕ) (place end : ℕ) : Type 0 where
   pub after : place ≤ end
   pub inside : end ≤ length text

@@ -6,8 +6,8 @@ use Rattle.poets_syntax.specs.Contract.{Contract}
 use Rattle.poets_syntax.specs.Plain.{Book}
 use Rattle.poets_meaning.specs.Marks.{Nullable, BodySatisfies}
 
--- the contract applies the name outside every transmit, and not in the second part of a `;` whose first part is not
--- nullable
+-- the contract applies the name outside every transmit, and not in the second part of a `;` whose
+-- first part is not nullable
 pub data Exposes (book : Book) : Contract → Name → Type 0 where
   Here : {f : Name} {args : List Expression} → Exposes book (Contract.App f args) f
   PlusLeft : {c₁ c₂ : Contract} {f : Name} → Exposes book c₁ f → Exposes book (Contract.Plus c₁ c₂) f
@@ -21,8 +21,8 @@ pub data Exposes (book : Book) : Contract → Name → Type 0 where
 abbrev pub UnguardedEdge : Book → Name → Name → Type 0
 UnguardedEdge book f g = BodySatisfies book (λ c. Exposes book c g) f
 
--- a path of edges: from the first name to the head of the list, from each of the list to the next, and from its last
--- to the goal
+-- a path of edges: from the first name to the head of the list, from each of the list to the next,
+-- and from its last to the goal
 abbrev pub IsPath : (Edge : Name → Name → Type 0) → (from : Name) → List Name → (goal : Name) → Type 0
 IsPath Edge from [] goal = Edge from goal
 IsPath Edge from (f ∷ names) goal = Edge from f × IsPath Edge f names goal

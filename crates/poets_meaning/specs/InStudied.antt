@@ -25,7 +25,8 @@ found_with is found = option_map_or (λ p. is p.1.now) found false
 abbrev pub nullable_in : StudiedBook → Contract → Bool
 nullable_in s c = nullable (marks_of s) c
 
--- in a studied book each application of a template has as many arguments as it has parameters (`CountsFit`)
+-- in a studied book each application of a template has as many arguments as it has parameters
+-- (`CountsFit`)
 abbrev pub CountsFitIn : StudiedBook → Contract → Type 0
 CountsFitIn s c = CountsFit (book_of s.book) c
 

@@ -24,8 +24,8 @@ Hopeful book c = (n : ℕ) × May book [] c [] n
 abbrev pub BodySatisfies : Book → (Contract → Type 0) → Name → Type 0
 BodySatisfies book Is f = (t : Template) × (template_in book.templates f ≡ Some t) × Is t.body
 
--- each mark is right: nullable exactly where the empty trace performs the template's body, hopeful exactly where some
--- number of granted steps does
+-- each mark is right: nullable exactly where the empty trace performs the template's body, hopeful
+-- exactly where some number of granted steps does
 pub record AreRight (book : Book) (marks : Marks) : Type 0 where
   pub nullable : (f : Name) → IsTrue (marks.nullable f) ↔ BodySatisfies book (Nullable book) f
   pub hopeful : (f : Name) → IsTrue (marks.hopeful f) ↔ BodySatisfies book (Hopeful book) f

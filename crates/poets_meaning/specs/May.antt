@@ -12,7 +12,8 @@ use Rattle.poets_syntax.specs.Book.{template_in, parameter_env, taken, granted}
 use Rattle.poets_meaning.specs.Between.{Between}
 use Rattle.poets_meaning.specs.Perf.{Holds}
 
--- under the environment the contract may be performed by the trace, and then by so many granted steps
+-- under the environment the contract may be performed by the trace, and then by so many granted
+-- steps
 pub data May (book : Book) : Env → Contract → List Event → ℕ → Type 0 where
   Done : {env : Env} → May book env Success [] 0
   Taken :

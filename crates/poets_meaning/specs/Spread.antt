@@ -1,5 +1,6 @@
 -- The spread of a contract, which counts equal subterms once, and the limit of size and spread.
-use Rattle.std.specs.Prelude.{ℕ, ◌+◌, Bool, ◌||◌, nat_lt, List, [], ◌∷◌, ◌++◌, sum_by, if◌then◌else◌}
+use Rattle.std.specs.Prelude.{ℕ, ◌+◌, Bool, ◌||◌, nat_lt, List, [], ◌∷◌, ◌++◌, sum_by}
+use Rattle.std.specs.Prelude.{if◌then◌else◌}
 use Rattle.poets_expr.specs.Size.{nodes, nodes_of_all}
 use Rattle.poets_syntax.specs.Contract.{Contract, Success, Failure, Transmit, Plus, Par, Seq, App}
 use Rattle.poets_syntax.specs.Plain.{Book}
@@ -9,7 +10,8 @@ use Rattle.poets_meaning.specs.Subterms.{subterms, different}
 use Rattle.poets_meaning.specs.Width.{body_in, size, width, widest}
 use Rattle.poets_meaning.specs.declared.sizes.TheConstants.{LARGEST}
 
--- what a subterm counts: 1, 1 more for each contract directly below it, and the size of its own predicate or arguments
+-- what a subterm counts: 1, 1 more for each contract directly below it, and the size of its own
+-- predicate or arguments
 abbrev pub own_count : Contract → ℕ
 own_count Success = 1
 own_count Failure = 1
@@ -19,7 +21,8 @@ own_count (Par a b) = 3
 own_count (Seq a b) = 3
 own_count (App f args) = 1 + nodes_of_all args
 
--- the applications in unguarded positions: outside every transmit, and not after a part that is not nullable
+-- the applications in unguarded positions: outside every transmit, and not after a part that is not
+-- nullable
 abbrev pub exposed : Marks → Contract → List Contract
 exposed marks Success = []
 exposed marks Failure = []
@@ -34,8 +37,8 @@ abbrev pub body_width : Book → Marks → Contract → ℕ
 body_width book marks (App f args) = body_in (template_in book.templates f) (width book marks)
 body_width book marks _ = 0
 
--- the spread: what the different subterms count, and the widths of the bodies of the different applications in
--- unguarded positions
+-- the spread: what the different subterms count, and the widths of the bodies of the different
+-- applications in unguarded positions
 abbrev pub spread : Book → Marks → Contract → ℕ
 spread book marks c =
     sum_by own_count (different (subterms c)) + sum_by (body_width book marks) (different (exposed marks c))

@@ -1,5 +1,5 @@
--- The size of a contract, and its width: the size, where applications in unguarded positions count with the bodies of
--- their templates.
+-- The size of a contract, and its width: the size, where applications in unguarded positions count
+-- with the bodies of their templates.
 use Rattle.std.specs.Prelude.{ℕ, zero, suc, ◌+◌, min, Option, Some, None, length, if◌then◌else◌}
 use Rattle.poets_value.specs.declared.value.Name.{Name}
 use Rattle.poets_expr.specs.Size.{nodes, nodes_of_all}

@@ -25,18 +25,20 @@ use Rattle.poets_history.specs.Histories.{IsLegal}
 use Rattle.poets_print.specs.Laws.{CanWriteContract, CanWriteCommand}
 use Rattle.poets_session.specs.Sessions.{Text, IsSession}
 use Rattle.poets_session.specs.declared.form.Form.{Form}
-use Rattle.poets_named.specs.Written.{IsListedEvent, CanWriteBook, IsWholeReport, AreTypedRules, EachValue}
+use Rattle.poets_named.specs.Written.{IsListedEvent, CanWriteBook, IsWholeReport, AreTypedRules}
+use Rattle.poets_named.specs.Written.{EachValue}
 use Rattle.poets_named.specs.Written.{CanWriteReply}
 
--- a residual can be written with the names of a table, where the contract, the book and the trace can
+-- a residual can be written with the names of a table, where the contract, the book and the trace
+-- can
 abbrev pub ResidualsCanBeWritten : Type 0
 ResidualsCanBeWritten =
     (names : Table) (book : Book) (marks : Marks) (c : Contract) (trace : List Event) →
     CanWriteBook names book → CanWriteContract names c → All (IsListedEvent names) trace →
     CanWriteContract names (residual_after book marks c trace)
 
--- each value that a typed report answers is whole, and an agent or a kind in it is declared as such, where the report,
--- the arguments and the events are whole, and the events are declared
+-- each value that a typed report answers is whole, and an agent or a kind in it is declared as
+-- such, where the report, the arguments and the events are whole, and the events are declared
 abbrev pub AnswersAreDeclared : Type 0
 AnswersAreDeclared =
     (book : Book) (reports : List Name) (q : Report) (args : List Expression) (events : List Event) (a : Answer) →
@@ -46,7 +48,8 @@ AnswersAreDeclared =
     IsAnswer book.declared q (map (val book.declared []) args) events a →
     EachValue (λ v. IsWholeValue v × HasDeclaredNames book.declared (Some v)) a
 
--- each reply of a legal history can be written with the names of a table, where the book and the commands can be
+-- each reply of a legal history can be written with the names of a table, where the book and the
+-- commands can be
 abbrev pub RepliesCanBeWritten : Type 0
 RepliesCanBeWritten =
     (names : Table) (book : Book) (reports : List Report) (h : List Entry) → IsTable names →
@@ -54,13 +57,15 @@ RepliesCanBeWritten =
     All (λ e. IsTaken book reports e.command × CanWriteCommand names e.command) h →
     All (λ e. CanWriteReply names book.declared e.reply) h
 
--- the book of a session can be written with the session's names, and its reports are typed and whole
+-- the book of a session can be written with the session's names, and its reports are typed and
+-- whole
 abbrev pub BooksOfSessionsCanBeWritten : Type 0
 BooksOfSessionsCanBeWritten =
     (text : Text) (form : Form) (names : Table) (statements : List Statement) → IsSession text form names statements →
     CanWriteBook names (book_from statements) × AreTypedRules (book_from statements) (reports_of statements)
 
--- a book that can be written with the names of a table can be written with those of each table that extends it
+-- a book that can be written with the names of a table can be written with those of each table that
+-- extends it
 abbrev pub BooksStayWritten : Type 0
 BooksStayWritten =
     (own names : Table) (book : Book) → Extends own names → CanWriteBook own book → CanWriteBook names book

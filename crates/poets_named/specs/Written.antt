@@ -50,8 +50,8 @@ EachValue P (Rows rows) = All (λ r. IfSome r.0 P × IfSome r.1 P) rows
 abbrev pub EachTotal : (Value → Type 0) → Option (Option Value) → Type 0
 EachTotal P total = IfSome total (λ v. IfSome v P)
 
--- the reply can be written: its names stand in the table, its values are as declared, and the residual that it shows is
--- whole
+-- the reply can be written: its names stand in the table, its values are as declared, and the
+-- residual that it shows is whole
 abbrev pub CanWriteReply : Table → Declared → Reply → Type 0
 CanWriteReply names declared (Reply.NoContract x) = IsListed names x
 CanWriteReply names declared (Reply.Late day) = IsDayNumber day

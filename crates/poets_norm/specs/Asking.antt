@@ -12,7 +12,8 @@ use Rattle.poets_norm.specs.Questions.{operated, questions}
 abbrev pub to_ask : List Expr → ℕ
 to_ask args = sum_by operated (map expression_of args)
 
--- where there is a result, the count of what was asked and what the result may still ask stay within the limit
+-- where there is a result, the count of what was asked and what the result may still ask stay
+-- within the limit
 abbrev pub AsksWithin : {E : Type 0} → Result Term E → (asks limit : ℕ) → Type 0
 AsksWithin result asks limit = IfOk result (λ r. asks + questions (contract_of r) ≤ limit)
 

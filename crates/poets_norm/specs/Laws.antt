@@ -47,7 +47,8 @@ NormalWellFormed = (book : Book) (marks : Marks) (c : Contract) → IsWellFormed
 abbrev pub NormalCountsFit : Type 0
 NormalCountsFit = (book : Book) (marks : Marks) (c : Contract) → CountsFit book c → CountsFit book (normal book marks c)
 
--- the normal form of a typed contract is typed in the same scope, whatever the book and the marks are
+-- the normal form of a typed contract is typed in the same scope, whatever the book and the marks
+-- are
 abbrev pub NormalTyped : Type 0
 NormalTyped = (book : Book) (reports : List Name) (marks : Marks) (scope : Scope) (c : Contract) →
     IsUndeclaredScope book.declared scope → IsTyped book reports scope c →

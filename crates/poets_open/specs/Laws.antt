@@ -21,14 +21,15 @@ SomeStepHolds book e steps = Any (λ t. Holds book (taken t.binders e []) t.when
 abbrev pub HasStepFor : Book → Marks → Event → Contract → Type 0
 HasStepFor book marks e c = SomeStepHolds book e (next book marks c)
 
--- after a declared event a contract in normal form is not `Failure` exactly where one of its steps holds of the event
+-- after a declared event a contract in normal form is not `Failure` exactly where one of its steps
+-- holds of the event
 abbrev pub OpenForEvents : Type 0
 OpenForEvents = (book : Book) (marks : Marks) (e : Event) (c : Contract) →
     IsStudied book marks → IsWellFormed book.declared c → CountsFit book c → normal book marks c ≡ c →
     IsDeclaredEvent book.declared e → (after book marks e c ≢ Failure) ↔ HasStepFor book marks e c
 
--- after a trace and one more declared event what is owed is not `Failure` exactly where one of the steps of what was
--- owed after the trace holds of the event
+-- after a trace and one more declared event what is owed is not `Failure` exactly where one of the
+-- steps of what was owed after the trace holds of the event
 abbrev pub OpenAfterTrace : Type 0
 OpenAfterTrace = (book : Book) (marks : Marks) (o : Contract) (s : List Event) (e : Event) →
     IsStudied book marks → IsWellFormed book.declared o → CountsFit book o → All (IsDeclaredEvent book.declared) s →

@@ -36,8 +36,8 @@ abbrev pub each_once : List Step → List Step
 each_once [] = []
 each_once (s ∷ steps) = s ∷ filter (λ t. not (same_step s t)) (each_once steps)
 
--- the open transmissions, each once: of what stands in unguarded positions of the contract and of the bodies of its
--- applications there (`ready`), the transmits
+-- the open transmissions, each once: of what stands in unguarded positions of the contract and of
+-- the bodies of its applications there (`ready`), the transmits
 abbrev pub next : Book → Marks → Contract → List Step
 next book marks c = each_once (steps_in (ready book marks c))
 

@@ -31,7 +31,8 @@ pub data RefusesSource (form : Form) (source source' : Stream) :
   -- the line of the text's first fault
   Refused : {text : Text} {names : Table} {r : Refusal} → Gave source source' text → IsRefused text form names r →
       RefusesSource form source source' NO_SESSION [] (refusal_text names r)
-  -- it gave more bytes than a session may have; they come in blocks, so that at most a block too many was taken
+  -- it gave more bytes than a session may have; they come in blocks, so that at most a block too
+  -- many was taken
   TooLong : LosesFront (longest + 1) (longest + block) source.bytes source'.bytes → source'.faults ≡ source.faults →
       RefusesSource form source source' TOO_LONG [] too_long_text
 

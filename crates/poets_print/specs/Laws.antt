@@ -3,7 +3,8 @@ use Rattle.std.specs.Prelude.{◌≢◌, ◌<◌, List, [], ◌∷◌, length, A
 use Rattle.poets_value.specs.declared.value.Name.{Name}
 use Rattle.poets_value.specs.declared.value.Value.{Value}
 use Rattle.poets_value.specs.declared.value.Value.TheVariants as V
-use Rattle.poets_expr.specs.Expression.{Expression, Literal, Undefined, Named, Unary, Make, Binary, If}
+use Rattle.poets_expr.specs.Expression.{Expression, Literal, Undefined, Named, Unary, Make, Binary}
+use Rattle.poets_expr.specs.Expression.{If}
 use Rattle.poets_syntax.specs.Contract.{Contract, Success, Failure, Transmit, Plus, Par, Seq, App}
 use Rattle.poets_syntax.specs.Whole.{IsWholeContract}
 use Rattle.poets_command.specs.Taken.{IsWholeCommand}
@@ -71,7 +72,8 @@ ContractReadsBack =
     (names : Table) (c : Contract) → IsTable names → IsWholeContract c → CanWriteContract names c
     → (tokens : List Token) × Lexes names (contract_text names c) 0 tokens names × IsContract (toks tokens) c
 
--- the text of a command is cut into tokens, without a new name, and the tokens are the statement of that command
+-- the text of a command is cut into tokens, without a new name, and the tokens are the statement of
+-- that command
 abbrev pub CommandReadsBack : Type 0
 CommandReadsBack =
     (names : Table) (command : plain.Command) → IsTable names → IsWholeCommand command → CanWriteCommand names command

@@ -13,7 +13,8 @@ level (Unary Not a) = 3
 level (Unary Minus a) = 7
 level _ = 8
 
--- a left part stands in brackets where its level is below its parent's; in a comparison also at the same level
+-- a left part stands in brackets where its level is below its parent's; in a comparison also at the
+-- same level
 abbrev pub left_in_brackets : Op → Expression → Bool
 left_in_brackets o a = if nat_eq (op_level o) 4 then nat_le (level a) 4 else nat_lt (level a) (op_level o)
 

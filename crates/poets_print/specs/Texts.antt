@@ -1,5 +1,6 @@
 -- The printed texts of expressions and contracts.
-use Rattle.std.specs.Prelude.{◌≡◌, ℕ, Bool, true, false, nat_lt, nat_le, List, [], ◌∷◌, ◌++◌, unwrap_or, slice_get}
+use Rattle.std.specs.Prelude.{◌≡◌, ℕ, Bool, true, false, nat_lt, nat_le, List, [], ◌∷◌, ◌++◌}
+use Rattle.std.specs.Prelude.{unwrap_or, slice_get}
 use Rattle.std.specs.Prelude.{codes, String, string_bytes}
 use Rattle.std.specs.Fmt.{signed_decimal}
 use Rattle.std.specs.declared.alloc.Global.{Global}
@@ -13,12 +14,14 @@ use Rattle.poets_value.specs.declared.value.Value.TheVariants as V
 use Rattle.poets_value.specs.Civil.{day_text}
 use Rattle.poets_expr.specs.declared.expr.Op.{Op}
 use Rattle.poets_expr.specs.declared.expr.Op.TheVariants as O
-use Rattle.poets_expr.specs.Expression.{Expression, Minus, Not, AmountOf, KindOf, Literal, Undefined, Named, Unary}
+use Rattle.poets_expr.specs.Expression.{Expression, Minus, Not, AmountOf, KindOf, Literal}
+use Rattle.poets_expr.specs.Expression.{Undefined, Named, Unary}
 use Rattle.poets_expr.specs.Expression.{Make, Binary, If}
 use Rattle.poets_syntax.specs.declared.term.Binders.{Binders}
 use Rattle.poets_syntax.specs.Contract.{Contract, Success, Failure, Transmit, Plus, Par, Seq, App}
 use Rattle.poets_lex.specs.Table.{Table}
-use Rattle.poets_print.specs.Levels.{left_in_brackets, right_in_brackets, negated_in_brackets, denied_in_brackets}
+use Rattle.poets_print.specs.Levels.{left_in_brackets, right_in_brackets, negated_in_brackets}
+use Rattle.poets_print.specs.Levels.{denied_in_brackets}
 use Rattle.poets_print.specs.Levels.{contract_level}
 
 -- the string is this text
@@ -116,8 +119,8 @@ abbrev pub step_text : Table → Binders → Expression → List ℕ
 step_text names b p =
     codes "transmit(" ++ binders_text names b ++ codes " | " ++ expression_text names p ++ codes ")"
 
--- a left part stands in brackets where its level is below its parent's, a right part where it is not above it, and the
--- continuation of a transmit where it is below 4
+-- a left part stands in brackets where its level is below its parent's, a right part where it is
+-- not above it, and the continuation of a transmit where it is below 4
 abbrev pub contract_text : Table → Contract → List ℕ
 contract_text names Success = codes "Success"
 contract_text names Failure = codes "Failure"

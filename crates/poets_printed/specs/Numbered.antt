@@ -18,8 +18,9 @@ use Rattle.poets_print.specs.Laws.{CanWriteCommand}
 abbrev pub numbered_text : Table → ℕ → Command → List ℕ
 numbered_text names clerk command = decimal clerk ++ codes ": " ++ command_text names command
 
--- a command that was not too deep prints with its clerk's number as a text that is cut into tokens, without a new name;
--- the tokens are that statement, and not too deep for one that was printed and kept
+-- a command that was not too deep prints with its clerk's number as a text that is cut into tokens,
+-- without a new name; the tokens are that statement, and not too deep for one that was printed and
+-- kept
 abbrev pub NumberedReadsBack : Type 0
 NumberedReadsBack =
     (names : Table) (clerk : ℕ) (command : Command) (read : List Tok) →
@@ -28,7 +29,8 @@ NumberedReadsBack =
     (tokens : List Token) × Lexes names (numbered_text names clerk command) 0 tokens names
     × IsStatement (toks tokens) (Numbered clerk command) × ¬ (IsTooDeepStored (toks tokens))
 
--- a command prints with its clerk's number as at most 80 bytes for each token that it was read from, and 12 more
+-- a command prints with its clerk's number as at most 80 bytes for each token that it was read
+-- from, and 12 more
 abbrev pub NumberedAreShort : Type 0
 NumberedAreShort =
     (names : Table) (clerk : ℕ) (read : List Tok) (command : Command) →

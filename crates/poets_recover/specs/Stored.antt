@@ -20,8 +20,8 @@ use Rattle.poets_recover.specs.declared.limits.TheConstants.{MOST_STORED}
 
 -- ---- calls
 
--- the text is this call: a clerk's number from 1 to 64, a colon, and a command that is typed in the book and its
--- reports; its names are numbered on from a table
+-- the text is this call: a clerk's number from 1 to 64, a colon, and a command that is typed in the
+-- book and its reports; its names are numbered on from a table
 pub record IsStoredCall
     (book : Book) (reports : List Report) (before : Table) (text : List ℕ) (clerk : ℕ) (command : Command)
     (after : Table) : Type 0 where
@@ -33,8 +33,8 @@ pub record IsStoredCall
   pub to : clerk ≤ most_clerks
   pub typed : IsTypedCommand book reports command
 
--- the texts are these calls, one after the other, where each text is its call as told; each numbers its names on from
--- the table after the one ahead of it
+-- the texts are these calls, one after the other, where each text is its call as told; each numbers
+-- its names on from the table after the one ahead of it
 pub data AreCalls (Is : Table → List ℕ → ℕ → Command → Table → Type 0)
     : Table → List (List ℕ) → List Call → Table → Type 0 where
   NoTexts : {names : Table} → AreCalls Is names [] [] names
@@ -64,7 +64,8 @@ most_stored = MOST_STORED
 
 -- ---- refusals
 
--- after texts with so many bytes and a table of names, the text brings the bytes past the most, or it is no call
+-- after texts with so many bytes and a table of names, the text brings the bytes past the most, or
+-- it is no call
 pub data IsRefused (book : Book) (reports : List Report) (bytes : ℕ) (names : Table) (text : List ℕ) : Type 0 where
   TooMuch : most_stored < bytes + length text → IsRefused book reports bytes names text
   NoCall :

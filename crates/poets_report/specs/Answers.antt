@@ -34,7 +34,8 @@ pub record AreRows
     (declared : Declared) (q : Report) (args : List (Option Value)) (key : Expression) (events : List Event)
     (rows : List KeyRow) : Type 0 where
   pub rising : Rising rows
-  -- there is a row for each key that some event has, with the fold over the events with that key, and there is no other
+  -- there is a row for each key that some event has, with the fold over the events with that key,
+  -- and there is no other
   pub each : (k : Key) (v : Option Value) →
       Contains rows (k, v) ↔ IsFoldOfKey declared q args (key_on declared q args key) events k v
 

@@ -34,7 +34,8 @@ keys_in (R.Keyed rows) = rows.keys
 abbrev pub fold_by : Env → Option Value → Running → FoldView
 fold_by env start running = record { env = env; start = start; answer = answer_in running; keys = keys_in running }
 
--- the fold of a report under arguments stands for these events: it has the answer over them, and goes on from it
+-- the fold of a report under arguments stands for these events: it has the answer over them, and
+-- goes on from it
 pub record StandsFor
     (declared : Declared) (q : Report) (args : List (Option Value)) (events : List Event) (fold : FoldView)
     : Type 0 where
@@ -66,7 +67,8 @@ abbrev pub Changes : Change → Answer → Answer → Type 0
 Changes c (Single v) new = new ≡ Single (unwrap_or c.row v)
 Changes c (Rows rows) new = (rows' : List KeyRow) × (new ≡ Rows rows') × Sets c.key c.row rows rows'
 
--- the change is what an event brings to a fold: put in place, it makes the answer over the events so far and this one
+-- the change is what an event brings to a fold: put in place, it makes the answer over the events
+-- so far and this one
 abbrev pub Brings : Declared → Report → Event → FoldView → Change → Type 0
 Brings declared q e fold c = (args : List (Option Value)) (events : List Event) (new : Answer) →
     StandsFor declared q args events fold → Changes c fold.answer new → IsAnswer declared q args (events ++ e ∷ []) new

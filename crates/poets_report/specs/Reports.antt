@@ -32,8 +32,8 @@ given q args = parameter_env q.params args
 abbrev pub start : Declared → plain.Report → List (Option Value) → Option Value
 start declared q args = val declared (given q args) q.start
 
--- what is carried past an event: the step, under the parameters, then what was carried, then the parts of the event
--- as the newest
+-- what is carried past an event: the step, under the parameters, then what was carried, then the
+-- parts of the event as the newest
 abbrev pub stage : Declared → plain.Report → List (Option Value) → Option Value → Event → Option Value
 stage declared q args carried e = val declared (taken q.binders e ((q.carry, carried) ∷ given q args)) q.step
 

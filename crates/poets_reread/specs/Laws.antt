@@ -9,10 +9,11 @@ use Rattle.poets_command.specs.Plain.{Entry}
 use Rattle.poets_command.specs.Said.{Statement}
 use Rattle.poets_session.specs.declared.form.Form.TheVariants as F
 use Rattle.poets_session.specs.Sessions.{Text, IsReadAs, IsSession}
-use Rattle.poets_reread.specs.Reread.{texts_of_calls, IsReadCall, AreListedNames, AreReread, IsCallOf, BeginScripts}
+use Rattle.poets_reread.specs.Reread.{texts_of_calls, IsReadCall, AreListedNames, AreReread}
+use Rattle.poets_reread.specs.Reread.{IsCallOf, BeginScripts}
 
--- the texts of calls that were read under one table are calls under another, which has the names of the book in the
--- same places
+-- the texts of calls that were read under one table are calls under another, which has the names of
+-- the book in the same places
 abbrev pub TextsAreReread : Type 0
 TextsAreReread =
     (book : Book) (reports : List Report) (own names before : Table) (calls : List Call) →
@@ -20,7 +21,8 @@ TextsAreReread =
     All (IsReadCall book reports names) calls →
     AreReread book reports before (texts_of_calls names calls)
 
--- the texts of calls of a session of clerks are calls of its book, under the book's own table of names
+-- the texts of calls of a session of clerks are calls of its book, under the book's own table of
+-- names
 abbrev pub CallsOfSessionsAreReread : Type 0
 CallsOfSessionsAreReread =
     (text book : Text) (names own : Table) (statements declared : List Statement) (calls : List Call) →
@@ -29,8 +31,8 @@ CallsOfSessionsAreReread =
     All (IsCallOf statements) calls →
     AreReread (book_from declared) (reports_of declared) own (texts_of_calls names calls)
 
--- the texts of the first calls of a history of a session are calls of the session's book, under the book's own table of
--- names
+-- the texts of the first calls of a history of a session are calls of the session's book, under the
+-- book's own table of names
 abbrev pub FirstCallsAreReread : Type 0
 FirstCallsAreReread =
     (text book : Text) (names own : Table) (statements declared : List Statement) (h : List Entry) (count : ℕ) →
@@ -39,7 +41,8 @@ FirstCallsAreReread =
     BeginScripts statements h →
     AreReread (book_from declared) (reports_of declared) own (take count (texts_of_calls names (calls_of h)))
 
--- where a text is a book, a line end (10), and more, the names of the book have their places in the text's table
+-- where a text is a book, a line end (10), and more, the names of the book have their places in the
+-- text's table
 abbrev pub BooksAreNumberedFirst : Type 0
 BooksAreNumberedFirst =
     (book rest : Text) (own names : Table) (declared statements : List Statement) →

@@ -25,8 +25,8 @@ use Rattle.poets_session.specs.Sessions.{scripts_of}
 abbrev pub texts_of_calls : Table → List Call → List (List ℕ)
 texts_of_calls names calls = map (λ call. numbered_text names call.0 call.1) calls
 
--- a call of one of the clerks: its command is typed in the book and its reports and whole, has its names in the table,
--- and was read from tokens that are not too deep
+-- a call of one of the clerks: its command is typed in the book and its reports and whole, has its
+-- names in the table, and was read from tokens that are not too deep
 pub record IsReadCall (book : Book) (reports : List Report) (names : Table) (call : Call) : Type 0 where
   pub from : 1 ≤ call.0
   pub to : call.0 ≤ most_clerks
@@ -40,7 +40,8 @@ pub record IsReadCall (book : Book) (reports : List Report) (names : Table) (cal
 abbrev pub AreListedNames : Book → List Report → Table → Type 0
 AreListedNames book reports names = (x : Name) → in_use book (report_names reports) x ≡ true → IsListed names x
 
--- the texts are calls of the book and its reports, whose names are numbered on from a table, and have these texts again
+-- the texts are calls of the book and its reports, whose names are numbered on from a table, and
+-- have these texts again
 pub record AreReread (book : Book) (reports : List Report) (before : Table) (texts : List (List ℕ)) : Type 0 where
   pub calls : List Call
   pub after : Table

@@ -60,7 +60,8 @@ ResidualWellFormed = (book : Book) (marks : Marks) (e : Event) (c r : Contract) 
     AreWellFormed book → IsDeclaredEvent book.declared e → IsWellFormed book.declared c →
     After book marks e c r → IsWellFormed book.declared r
 
--- with any number of unfoldings `after_at` gives of a well-formed contract, by a declared event, a well-formed one
+-- with any number of unfoldings `after_at` gives of a well-formed contract, by a declared event, a
+-- well-formed one
 abbrev pub ResidualAtWellFormed : Type 0
 ResidualAtWellFormed = (d : ℕ) (book : Book) (marks : Marks) (e : Event) (c : Contract) →
     AreWellFormed book → IsDeclaredEvent book.declared e → IsWellFormed book.declared c →
@@ -87,7 +88,8 @@ TraceFollowed = (book : Book) (marks : Marks) (o : Contract) (s s' : List Event)
     IsStudied book marks → IsWellFormed book.declared o → CountsFit book o → All (IsDeclaredEvent book.declared) s →
     May book [] (residual_after book marks o s) s' n ↔ May book [] o (s ++ s') n
 
--- exactly those traces perform the residual after a trace that perform the contract after that trace
+-- exactly those traces perform the residual after a trace that perform the contract after that
+-- trace
 abbrev pub TracePerformed : Type 0
 TracePerformed = (book : Book) (marks : Marks) (o : Contract) (s s' : List Event) →
     IsStudied book marks → IsWellFormed book.declared o → CountsFit book o → All (IsDeclaredEvent book.declared) s →
@@ -99,7 +101,8 @@ TraceHopeless = (book : Book) (marks : Marks) (o : Contract) (s : List Event) �
     IsStudied book marks → IsWellFormed book.declared o → CountsFit book o → All (IsDeclaredEvent book.declared) s →
     (residual_after book marks o s ≡ Failure) ↔ ¬ ((n : ℕ) × May book [] o s n)
 
--- where the residual after a trace is not `Failure`, some number of granted steps finishes the contract after it
+-- where the residual after a trace is not `Failure`, some number of granted steps finishes the
+-- contract after it
 abbrev pub TraceHopeful : Type 0
 TraceHopeful = (book : Book) (marks : Marks) (o : Contract) (s : List Event) →
     IsStudied book marks → IsWellFormed book.declared o → CountsFit book o → All (IsDeclaredEvent book.declared) s →
@@ -121,14 +124,15 @@ abbrev pub TraceWhole : Type 0
 TraceWhole = (book : Book) (marks : Marks) (o : Contract) (s : List Event) →
     IsWholeBook book → IsWholeContract o → IsWholeTrace s → IsWholeContract (residual_after book marks o s)
 
--- in a guarded book as many unfoldings in a row as there are templates find all that is ready: more find the same
+-- in a guarded book as many unfoldings in a row as there are templates find all that is ready: more
+-- find the same
 abbrev pub EnoughUnfoldings : Type 0
 EnoughUnfoldings = (d : ℕ) (book : Book) (marks : Marks) (c : Contract) →
     AreRight book marks → IsGuarded book → BodiesCountsFit book → CountsFit book c →
     length book.templates ≤ d → ready_at d book marks c ≡ ready book marks c
 
--- in a guarded book there are ready in a contract the transmits and applications in its unguarded positions, and what
--- is ready in the bodies of these applications
+-- in a guarded book there are ready in a contract the transmits and applications in its unguarded
+-- positions, and what is ready in the bodies of these applications
 abbrev pub ReadyUnfolds : Type 0
 ReadyUnfolds = (book : Book) (marks : Marks) (c : Contract) →
     AreRight book marks → IsGuarded book → BodiesCountsFit book → CountsFit book c →

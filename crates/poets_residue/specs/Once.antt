@@ -1,5 +1,6 @@
 -- What a residual asks at most where each different part is derived once.
-use Rattle.std.specs.Prelude.{◌≡◌, ℕ, zero, suc, ◌+◌, true, List, [], ◌∷◌, ◌++◌, length, sum_by, if◌then◌else◌}
+use Rattle.std.specs.Prelude.{◌≡◌, ℕ, zero, suc, ◌+◌, true, List, [], ◌∷◌, ◌++◌, length, sum_by}
+use Rattle.std.specs.Prelude.{if◌then◌else◌}
 use Rattle.std.specs.Set.{unique_keys}
 use Rattle.std.specs.List.{list_any}
 use Rattle.poets_value.specs.declared.value.Name.{Name}
@@ -15,7 +16,8 @@ use Rattle.poets_meaning.specs.Width.{body_in}
 use Rattle.poets_calculus.specs.Residual.{body_of}
 use Rattle.poets_norm.specs.Questions.{operated}
 
--- the transmits and applications in unguarded positions, where `unfolded` gives those of an application's body
+-- the transmits and applications in unguarded positions, where `unfolded` gives those of an
+-- application's body
 abbrev pub ready_by : (Name → List Expression → List Contract) → Marks → Contract → List Contract
 ready_by unfolded marks Success = []
 ready_by unfolded marks Failure = []
@@ -36,15 +38,16 @@ ready_at (suc d) book marks c =
 abbrev pub ready : Book → Marks → Contract → List Contract
 ready book marks c = ready_at (length book.templates) book marks c
 
--- what one of them asks at most: a transmit its predicate and the arguments of its continuation, an application its own
--- arguments that are neither literals nor names, and the arguments of its template's body
+-- what one of them asks at most: a transmit its predicate and the arguments of its continuation, an
+-- application its own arguments that are neither literals nor names, and the arguments of its
+-- template's body
 abbrev pub asked_of : Book → Contract → ℕ
 asked_of book (Transmit b p c) = 1 + arguments c
 asked_of book (App f args) = sum_by operated args + body_in (template_in book.templates f) arguments
 asked_of book _ = 0
 
--- what a residual of the contract asks at most: the sum over the different transmits and applications in its unguarded
--- positions
+-- what a residual of the contract asks at most: the sum over the different transmits and
+-- applications in its unguarded positions
 abbrev pub once : Book → Marks → Contract → ℕ
 once book marks c = sum_by (asked_of book) (unique_keys same_contract (ready book marks c))
 

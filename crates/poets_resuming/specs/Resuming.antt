@@ -1,5 +1,6 @@
 -- The word `resume`.
-use Rattle.std.specs.Prelude.{◌≡◌, ℕ, suc, ◌+◌, ◌≤◌, ◌<◌, List, [], ◌++◌, length, take, All, Some, slice_get, Option}
+use Rattle.std.specs.Prelude.{◌≡◌, ℕ, suc, ◌+◌, ◌≤◌, ◌<◌, List, [], ◌++◌, length, take, All, Some}
+use Rattle.std.specs.Prelude.{slice_get, Option}
 use mathlib.Core.List.{IsPrefix}
 use Rattle.std.specs.Io.KnownBytes.{Appends}
 use Rattle.poets_io.specs.Causes.{Rose}
@@ -21,7 +22,8 @@ use Rattle.poets_session.specs.declared.form.Form.TheVariants as F
 use Rattle.poets_session.specs.Sessions.{Text, IsSession, scripts_of}
 use Rattle.poets_writing.specs.Writing.{Stream}
 use Rattle.poets_writing.specs.declared.outcome.TheConstants.{DONE, NO_MEMORY}
-use Rattle.poets_keeping.specs.Journals.{AreAcknowledged, FileHolds, FoundDamage, HeldTexts, OnlyStarted}
+use Rattle.poets_keeping.specs.Journals.{AreAcknowledged, FileHolds, FoundDamage, HeldTexts}
+use Rattle.poets_keeping.specs.Journals.{OnlyStarted}
 use Rattle.poets_keeping.specs.Journals.{damaged_line, texts_of}
 use Rattle.poets_keeping.specs.Recovering.{IsHistoryOfTexts}
 use Rattle.poets_keeping.specs.Writing.{EndsWriting}
@@ -33,27 +35,29 @@ pub record WasRecovered (names : Table) (statements : List Statement) (disk : Se
   pub held : FileHolds disk texts
   pub history : IsHistoryOfTexts names statements texts after p
 
--- the history h goes on after p: together they are a right history; in h the commands of each clerk are his script, in
--- order, and no other clerk's stand there
+-- the history h goes on after p: together they are a right history; in h the commands of each clerk
+-- are his script, in order, and no other clerk's stand there
 pub record IsGoneOn (statements : List Statement) (p h : List Entry) : Type 0 where
   pub right : IsRightHistory (book_from statements) (reports_of statements) (p ++ h)
   pub own : (place : ℕ) (script : List Command) → slice_get (scripts_of statements) place ≡ Some script →
       own (suc place) h ≡ script
   pub clerks : All (λ e. (1 ≤ e.clerk) × (e.clerk ≤ length (scripts_of statements))) h
 
--- the history h goes on after p with a part of the scripts: in h the commands of each clerk are a prefix of his
+-- the history h goes on after p with a part of the scripts: in h the commands of each clerk are a
+-- prefix of his
 pub record IsPartGoneOn (statements : List Statement) (p h : List Entry) : Type 0 where
   pub right : IsRightHistory (book_from statements) (reports_of statements) (p ++ h)
   pub own : (place : ℕ) (script : List Command) → slice_get (scripts_of statements) place ≡ Some script →
       IsPrefix (own (suc place) h) script
   pub clerks : All (λ e. (1 ≤ e.clerk) × (e.clerk ≤ length (scripts_of statements))) h
 
--- the lines of the history h, numbered on from the entries of p; names that the texts of p have are in the table too
+-- the lines of the history h, numbered on from the entries of p; names that the texts of p have are
+-- in the table too
 abbrev pub lines_behind : Table → (p h : List Entry) → List ℕ
 lines_behind names p h = lines_from names (length p + 1) h
 
--- what comes of a session of clerks by which a journal is gone on with: how many of its calls are acknowledged, the
--- status, the session's own history, and the text that is to be written
+-- what comes of a session of clerks by which a journal is gone on with: how many of its calls are
+-- acknowledged, the status, the session's own history, and the text that is to be written
 pub data IsResumedAs (names : Table) (statements : List Statement) (disk disk' : Seen) (faults faults' : ℕ) :
     (stored status : ℕ) → List Entry → (text : List ℕ) → Type 0 where
   -- all calls are acknowledged
@@ -83,7 +87,8 @@ pub data IsResumedAs (names : Table) (statements : List Statement) (disk disk' :
       IsResumedAs names statements disk disk' faults faults' 0 DISK_FAULT [] []
 
 module _ {D : Type 0} (seen : D → Seen) (faults : D → ℕ) where
-  -- how a run ends that goes on with a journal by the calls of a session, by its sink and its disk before and after
+  -- how a run ends that goes on with a journal by the calls of a session, by its sink and its disk
+  -- before and after
   pub data ResumesSession (names : Table) (statements : List Statement) (sink sink' : Stream) (disk disk' : D) :
       (status : ℕ) → List Entry → (stored : ℕ) → Type 0 where
     -- what came of the session was written, or as much of it as the sink or memory allowed
@@ -96,7 +101,8 @@ module _ {D : Type 0} (seen : D → Seen) (faults : D → ℕ) where
     NoneMade :
         OnlyStarted (seen disk) (seen disk') → sink' ≡ sink →
         ResumesSession names statements sink sink' disk disk' NO_MEMORY [] 0
-    -- out of memory once new calls were made, ahead of all writing: they are some of what the scripts ask for, or all
+    -- out of memory once new calls were made, ahead of all writing: they are some of what the
+    -- scripts ask for, or all
     PartMade :
         (texts : Texts) {after : Table} {p made : List Entry} {stored : ℕ} →
         WasRecovered names statements (seen disk) texts after p → IsPartGoneOn statements p made →
@@ -107,7 +113,8 @@ module _ {D : Type 0} (seen : D → Seen) (faults : D → ℕ) where
   -- how a run ends that was asked to resume, by its source, its sink and its disk before and after
   pub data EndsResuming (source source' sink sink' : Stream) (disk disk' : D) :
       (status : ℕ) → List Entry → (stored : ℕ) → Type 0 where
-    -- the source gave no session of clerks, or memory was not enough to read it: the disk was not touched
+    -- the source gave no session of clerks, or memory was not enough to read it: the disk was not
+    -- touched
     Unread :
         {status : ℕ} {h : List Entry} → EndsUnread F.Clerks source source' sink sink' status h → disk' ≡ disk →
         EndsResuming source source' sink sink' disk disk' status h 0
@@ -117,8 +124,8 @@ module _ {D : Type 0} (seen : D → Seen) (faults : D → ℕ) where
         ResumesSession names statements sink sink' disk disk' status h stored →
         EndsResuming source source' sink sink' disk disk' status h stored
 
--- a journal was gone on with: what the source had left and the sink held before and after, the disk before and after,
--- how many calls of the session are acknowledged, and the session's own history
+-- a journal was gone on with: what the source had left and the sink held before and after, the disk
+-- before and after, how many calls of the session are acknowledged, and the session's own history
 pub record HasResumed (left left' held held' : Option (List ℕ)) (disk disk' : Seen) (stored : ℕ) (h : List Entry) :
     Type 0 where
   -- the source was read to its end, and its bytes are the text of a session of clerks
@@ -139,6 +146,6 @@ pub record HasResumed (left left' held held' : Option (List ℕ)) (disk disk' : 
   pub written : Appends held held' (lines_behind after p h)
   -- whatever a crash leaves now holds the texts of before, and then those of the session's calls
   pub kept : (image : List ℕ) → MayLeave disk' image → HoldsTexts image (texts ++ texts_of after h)
-  -- and where the disk held the texts before, a crash at any moment of the run left them, and then those of the
-  -- session's first calls, however many
+  -- and where the disk held the texts before, a crash at any moment of the run left them, and then
+  -- those of the session's first calls, however many
   pub during : AllHold disk texts → During disk disk' (HoldsFront texts (texts_of after h))

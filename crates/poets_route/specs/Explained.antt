@@ -9,8 +9,8 @@ use Rattle.poets_meaning.specs.Studied.{StudiedBook}
 use Rattle.poets_way.specs.Way.{Way}
 use Rattle.poets_way.specs.Ways.{Ways}
 
--- the contract is well-formed in the studied book (`IsWellFormed`): its binders are no declared names, and the literals
--- in its arguments are of declared kinds
+-- the contract is well-formed in the studied book (`IsWellFormed`): its binders are no declared
+-- names, and the literals in its arguments are of declared kinds
 abbrev pub FormedIn : StudiedBook → Contract → Type 0
 FormedIn s c = IsWellFormed (book_of s.book).declared c
 
@@ -22,7 +22,8 @@ DeclaredIn s e = IsDeclaredEvent (book_of s.book).declared e
 abbrev pub AreDeclaredIn : StudiedBook → List Event → Type 0
 AreDeclaredIn s events = All (DeclaredIn s) events
 
--- the events perform the contract in the way that is given; where none is given they do not perform it
+-- the events perform the contract in the way that is given; where none is given they do not perform
+-- it
 abbrev pub IsExplained : StudiedBook → Contract → List Event → Option Way → Type 0
 IsExplained s c events None = Perf (book_of s.book) [] c events → ⊥
 IsExplained s c events (Some w) = Ways (book_of s.book) [] c events w

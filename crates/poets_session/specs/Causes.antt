@@ -13,7 +13,8 @@ use Rattle.poets_command.specs.Said.{Statement}
 use Rattle.poets_session.specs.Places.{Misplaced, TooMany}
 use Rattle.poets_session.specs.declared.counting.PlaceFault.{PlaceFault}
 use Rattle.poets_session.specs.declared.counting.PlaceFault.TheVariants as P
-use Rattle.poets_session.specs.Refusals.{Refusal, TooDeep, NoSentence, Place, Mistyped, Unguarded, refusal_at_byte}
+use Rattle.poets_session.specs.Refusals.{Refusal, TooDeep, NoSentence, Place, Mistyped, Unguarded}
+use Rattle.poets_session.specs.Refusals.{refusal_at_byte}
 use Rattle.poets_session.specs.Refusals.{AreRefused, IsRefused}
 use Rattle.poets_session.specs.Sessions.{Text}
 use Rattle.poets_session.specs.declared.fault.SessionCause.{SessionCause}

@@ -1,13 +1,16 @@
 -- The laws of sessions, as statements.
-use Rattle.std.specs.Prelude.{◌≡◌, ℕ, true, false, List, [], ◌∷◌, ◌++◌, Some, None, IsSome, All, ◌↔◌}
+use Rattle.std.specs.Prelude.{◌≡◌, ℕ, true, false, List, [], ◌∷◌, ◌++◌, Some, None, IsSome, All}
+use Rattle.std.specs.Prelude.{◌↔◌}
 use Rattle.poets_value.specs.declared.value.Name.{Name}
 use Rattle.poets_lex.specs.Table.{Table, IsTable}
 use Rattle.poets_lex.specs.declared.token.Tok.{Tok}
 use Rattle.poets_command.specs.Said.{Statement}
 use Rattle.poets_grammar.specs.Statements.{IsStatement}
-use Rattle.poets_session.specs.Places.{Misplaced, part_after, is_misplaced, lacks_journal, place_fault}
+use Rattle.poets_session.specs.Places.{Misplaced, part_after, is_misplaced, lacks_journal}
+use Rattle.poets_session.specs.Places.{place_fault}
 use Rattle.poets_session.specs.Shapes.{HasShape, Begins, GoesWrongAt}
-use Rattle.poets_session.specs.Sessions.{Text, AreValid, IsReadAs, IsSession, IsNoSession, scripts_of, journal_of}
+use Rattle.poets_session.specs.Sessions.{Text, AreValid, IsReadAs, IsSession, IsNoSession}
+use Rattle.poets_session.specs.Sessions.{scripts_of, journal_of}
 use Rattle.poets_session.specs.Refusals.{Refusal, Unguarded, AreRefused, IsRefused}
 use Rattle.poets_session.specs.Causes.{IsFirstFaultOf, IsFirstFault}
 use Rattle.poets_session.specs.Texts.{refusal_text}
@@ -45,7 +48,8 @@ OneRefusal =
     (text : Text) (form : Form) (names others : Table) (r s : Refusal)
     → IsRefused text form names r → IsRefused text form others s → AreAlike r s
 
--- statements are refused in one way at most as a session of a form, but for how the first cycle goes on
+-- statements are refused in one way at most as a session of a form, but for how the first cycle
+-- goes on
 abbrev pub OneRefusalOfStatements : Type 0
 OneRefusalOfStatements =
     (form : Form) (statements : List Statement) (r s : Refusal) → AreRefused form statements r →
@@ -75,14 +79,14 @@ SessionsAreWritten =
     (text : Text) (names : Table) (statements : List Statement)
     → IsReadAs text names statements → IsTable names × All (IsWritten names) statements
 
--- what tokens say as a statement is written with a table, where each name among the tokens stands in it, and the
--- numbers and days are those of the language
+-- what tokens say as a statement is written with a table, where each name among the tokens stands
+-- in it, and the numbers and days are those of the language
 abbrev pub StatementIsWritten : Type 0
 StatementIsWritten =
     (names : Table) (ts : List Tok) (s : Statement) → AllFit names ts → IsStatement ts s → IsWritten names s
 
--- the commands of statements that are written with the names of a table are written with them: each can be printed, and
--- reads back
+-- the commands of statements that are written with the names of a table are written with them: each
+-- can be printed, and reads back
 abbrev pub CommandsAreWritten : Type 0
 CommandsAreWritten =
     (names : Table) (statements : List Statement)
@@ -95,8 +99,8 @@ abbrev pub FaultsOfTextsAreListed : Type 0
 FaultsOfTextsAreListed =
     (text : Text) (form : Form) (fault : SessionFault) → IsFirstFault text form fault → HasListedNames fault
 
--- the names in the first fault of statements stand in its table, where the statements are written with the names of
--- that table
+-- the names in the first fault of statements stand in its table, where the statements are written
+-- with the names of that table
 abbrev pub FaultsOfStatementsAreListed : Type 0
 FaultsOfStatementsAreListed =
     (form : Form) (statements : List Statement) (fault : SessionFault)
@@ -112,14 +116,16 @@ MisplacedByShape =
     (form : Form) (before : List Statement) (s : Statement)
     → (is_misplaced form before s ≡ true) ↔ ¬ (Begins form (before ++ s ∷ []))
 
--- statements have a session's shape exactly where each of them stands in its place and no `journal` is missing
+-- statements have a session's shape exactly where each of them stands in its place and no `journal`
+-- is missing
 abbrev pub WholeByShape : Type 0
 WholeByShape =
     (form : Form) (statements : List Statement)
     → HasShape form statements
     ↔ (IsSome (part_after form statements) × (lacks_journal form (part_after form statements) ≡ false))
 
--- the fault `Misplaced` has the number of the first statement, or of the end, with which the shape goes wrong
+-- the fault `Misplaced` has the number of the first statement, or of the end, with which the shape
+-- goes wrong
 abbrev pub FirstMisplaced : Type 0
 FirstMisplaced =
     (form : Form) (statements : List Statement) (number : ℕ)

@@ -18,8 +18,8 @@ abbrev pub is_end : Tok → Bool
 is_end (K.Sign S.DoubleSemicolon) = true
 is_end t = false
 
--- a `;;` ends the statement in front of it; any other token belongs to the statement that goes on after it. Tokens
--- after the last `;;` are a statement that is not ended
+-- a `;;` ends the statement in front of it; any other token belongs to the statement that goes on
+-- after it. Tokens after the last `;;` are a statement that is not ended
 abbrev pub pieces_of : List Tok → List Piece
 pieces_of [] = []
 pieces_of (t ∷ ts) =

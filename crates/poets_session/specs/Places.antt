@@ -1,11 +1,14 @@
 -- Where statements may stand, and how many of them.
-use Rattle.std.specs.Prelude.{ℕ, ◌+◌, Bool, true, false, ◌||◌, not, nat_le, nat_lt, List, [], ◌∷◌, ◌++◌, length, Option}
+use Rattle.std.specs.Prelude.{ℕ, ◌+◌, Bool, true, false, ◌||◌, not, nat_le, nat_lt, List, [], ◌∷◌}
+use Rattle.std.specs.Prelude.{◌++◌, length, Option}
 use Rattle.std.specs.Prelude.{Some, None, is_some, fold, option_and_then, if◌then◌else◌, count_by}
 use Rattle.poets_value.specs.Limits.{most_clerks}
-use Rattle.poets_command.specs.Said.{Statement, Agents, Kinds, Template, Report, Clerk, Journal, Command, Numbered}
+use Rattle.poets_command.specs.Said.{Statement, Agents, Kinds, Template, Report, Clerk, Journal}
+use Rattle.poets_command.specs.Said.{Command, Numbered}
 use Rattle.poets_session.specs.declared.form.Form.{Form}
 use Rattle.poets_session.specs.declared.form.Form.TheVariants as F
-use Rattle.poets_session.specs.declared.counting.TheConstants.{MOST_TEMPLATES, MOST_REPORTS, MOST_COMMANDS}
+use Rattle.poets_session.specs.declared.counting.TheConstants.{MOST_TEMPLATES, MOST_REPORTS}
+use Rattle.poets_session.specs.declared.counting.TheConstants.{MOST_COMMANDS}
 
 -- a part of a session
 pub data Part : Type 0 where
@@ -13,7 +16,8 @@ pub data Part : Type 0 where
   OfClerk : Part
   OfJournal : Part
 
--- the part in which a statement stands that follows one of a part; none where it may not stand there
+-- the part in which a statement stands that follows one of a part; none where it may not stand
+-- there
 abbrev pub next_part : Form → Part → Statement → Option Part
 next_part form OfBook (Agents names) = Some OfBook
 next_part form OfBook (Kinds names) = Some OfBook
@@ -26,7 +30,8 @@ next_part F.Journal OfBook Journal = Some OfJournal
 next_part F.Journal OfJournal (Numbered clerk command) = Some OfJournal
 next_part form part s = None
 
--- the part after statements, none where one of them may not stand in its place; a session begins with its book
+-- the part after statements, none where one of them may not stand in its place; a session begins
+-- with its book
 abbrev pub part_after : Form → List Statement → Option Part
 part_after form statements = fold (λ part s. option_and_then (λ p. next_part form p s) part) (Some OfBook) statements
 
@@ -85,7 +90,8 @@ pub data PlaceFault : Type 0 where
   Misplaced : (statement : ℕ) → PlaceFault
   TooMany : (statement : ℕ) → PlaceFault
 
--- the first such statement after those before; where `journal` is missing, it is the one after the last
+-- the first such statement after those before; where `journal` is missing, it is the one after the
+-- last
 abbrev pub place_fault_after : Form → (before statements : List Statement) → Option PlaceFault
 place_fault_after form before [] =
     if lacks_journal form (part_after form before) then Some (Misplaced (length before + 1)) else None

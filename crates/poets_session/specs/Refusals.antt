@@ -1,5 +1,6 @@
 -- Why a text is no session: its first fault.
-use Rattle.std.specs.Prelude.{◌≡◌, ℕ, suc, List, [], ◌∷◌, ◌++◌, length, Option, Some, None, IsTrue, slice_get}
+use Rattle.std.specs.Prelude.{◌≡◌, ℕ, suc, List, [], ◌∷◌, ◌++◌, length, Option, Some, None, IsTrue}
+use Rattle.std.specs.Prelude.{slice_get}
 use Rattle.std.specs.List.{AllZip}
 use Rattle.poets_value.specs.declared.value.Name.{Name}
 use Rattle.poets_lex.specs.declared.token.Token.{Token}
@@ -64,8 +65,8 @@ pub record IsTemplateAt (statements : List Statement) (number : ℕ) (f : Name) 
   pub stands : slice_get statements place ≡ Some (Template template)
   pub named : template.name ≡ f
 
--- why a text says no statements: a fault of its bytes, else the first statement that says nothing; the names are those
--- of its tokens
+-- why a text says no statements: a fault of its bytes, else the first statement that says nothing;
+-- the names are those of its tokens
 pub data IsUnreadable (text : Text) (names : Table) : Refusal → Type 0 where
   -- a byte that begins no token, a number or a name that is too long
   AtByte : {r : Refusal} (fault : LexFault) → FirstFault [] text fault → refusal_at_byte fault ≡ Some r →
@@ -74,7 +75,8 @@ pub data IsUnreadable (text : Text) (names : Table) : Refusal → Type 0 where
   AtStatement : {tokens : List Token} {r : Refusal} → Lexes [] text 0 tokens names →
       IsStopped (pieces_of (toks tokens)) r → IsUnreadable text names r
 
--- why statements are no valid session of the form: phase by phase, and in each phase the least statement
+-- why statements are no valid session of the form: phase by phase, and in each phase the least
+-- statement
 pub data AreRefused (form : Form) (statements : List Statement) : Refusal → Type 0 where
   -- one that may not stand in its place, or is one too many
   OutOfPlace : {fault : PlaceFault} → place_fault form statements ≡ Some fault →
@@ -84,7 +86,8 @@ pub data AreRefused (form : Form) (statements : List Statement) : Refusal → Ty
       {number : ℕ} {fault : TypeCause} → place_fault form statements ≡ None →
       first_fault statements ≡ Some (number, fault) →
       AreRefused form statements (Mistyped number fault)
-  -- a book with a cycle of unguarded edges: one that begins with the first template that lies on any
+  -- a book with a cycle of unguarded edges: one that begins with the first template that lies on
+  -- any
   NotGuarded :
       {number : ℕ} {cycle : List Name} → place_fault form statements ≡ None → first_fault statements ≡ None →
       (found : IsFirstCycle (book_from statements) cycle) → IsTemplateAt statements number found.first →

@@ -1,9 +1,11 @@
 -- The shape of a session: its book, and what its form has after it.
-use Rattle.std.specs.Prelude.{◌≡◌, ℕ, suc, Bool, true, false, List, [], ◌∷◌, ◌++◌, length, map, All, IsTrue}
+use Rattle.std.specs.Prelude.{◌≡◌, ℕ, suc, Bool, true, false, List, [], ◌∷◌, ◌++◌, length, map, All}
+use Rattle.std.specs.Prelude.{IsTrue}
 use Rattle.std.specs.List.{flat_map}
 use Rattle.poets_command.specs.Calls.{Call}
 use Rattle.poets_command.specs.Plain as plain
-use Rattle.poets_command.specs.Said.{Statement, Agents, Kinds, Template, Report, Clerk, Journal, Command, Numbered}
+use Rattle.poets_command.specs.Said.{Statement, Agents, Kinds, Template, Report, Clerk, Journal}
+use Rattle.poets_command.specs.Said.{Command, Numbered}
 use Rattle.poets_session.specs.declared.form.Form.{Form}
 use Rattle.poets_session.specs.declared.form.Form.TheVariants as F
 
@@ -40,7 +42,8 @@ pub record HasShape (form : Form) (statements : List Statement) : Type 0 where
 abbrev pub Begins : Form → List Statement → Type 0
 Begins form front = (rest : List Statement) × HasShape form (front ++ rest)
 
--- with the first of the rest the statements begin nothing of that shape; where none is left, they have not that shape
+-- with the first of the rest the statements begin nothing of that shape; where none is left, they
+-- have not that shape
 abbrev pub GoesWrong : Form → (front rest : List Statement) → Type 0
 GoesWrong form front [] = ¬ (HasShape form front)
 GoesWrong form front (s ∷ rest) = ¬ (Begins form (front ++ s ∷ []))

@@ -6,7 +6,8 @@ use Rattle.poets_lex.specs.Table.{Table}
 use Rattle.poets_syntax.specs.Plain.{TypeCause, Twice, Unknown, WrongCount, WrongType}
 use Rattle.poets_print.specs.Texts.{name_text, type_text}
 use Rattle.poets_session.specs.Places.{Misplaced, TooMany}
-use Rattle.poets_session.specs.Refusals.{Refusal, BadByte, LongNumber, LongName, TooDeep, NoSentence, Place, Mistyped}
+use Rattle.poets_session.specs.Refusals.{Refusal, BadByte, LongNumber, LongName, TooDeep}
+use Rattle.poets_session.specs.Refusals.{NoSentence, Place, Mistyped}
 use Rattle.poets_session.specs.Refusals.{Unguarded}
 
 -- `refused at byte 13: BadByte`, and LF (10)

@@ -1,5 +1,5 @@
--- What a text says is written with its names, and with numbers and days of the language; and a fault tells names of the
--- text.
+-- What a text says is written with its names, and with numbers and days of the language; and a
+-- fault tells names of the text.
 use Rattle.std.specs.Prelude.{pos, ◌<◌, ◌^◌, IsTrue, List, [], ◌∷◌, All, IfSome}
 use Rattle.poets_value.specs.Whole.{is_day}
 use Rattle.poets_expr.specs.Expression.{Expression}
@@ -9,7 +9,8 @@ use Rattle.poets_syntax.specs.declared.term.Param.{Param}
 use Rattle.poets_syntax.specs.Contract.{Contract}
 use Rattle.poets_syntax.specs.Whole.{IsWholeContract}
 use Rattle.poets_syntax.specs.Plain.{TypeCause, Twice, Unknown, WrongCount, WrongType}
-use Rattle.poets_command.specs.Said.{Statement, Agents, Kinds, Template, Report, Clerk, Journal, Command, Numbered}
+use Rattle.poets_command.specs.Said.{Statement, Agents, Kinds, Template, Report, Clerk, Journal}
+use Rattle.poets_command.specs.Said.{Command, Numbered}
 use Rattle.poets_lex.specs.Table.{Table}
 use Rattle.poets_lex.specs.declared.token.Tok.{Tok}
 use Rattle.poets_lex.specs.declared.token.Tok.TheVariants as K
@@ -61,7 +62,8 @@ pub record IsWrittenReport (names : Table) (q : plain.Report) : Type 0 where
   pub step : IsWrittenExpression names q.step
   pub key : IfSome q.key (IsWrittenExpression names)
 
--- each name of the statement stands in the table, and its numbers and days are those of the language
+-- each name of the statement stands in the table, and its numbers and days are those of the
+-- language
 abbrev pub IsWritten : Table → Statement → Type 0
 IsWritten names (Agents xs) = All (IsListed names) xs
 IsWritten names (Kinds xs) = All (IsListed names) xs

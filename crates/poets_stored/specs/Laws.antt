@@ -1,5 +1,6 @@
 -- The laws of the commands of sessions, as statements.
-use Rattle.std.specs.Prelude.{◌+◌, ◌*◌, ◌^◌, ◌<◌, ◌≤◌, List, ◌++◌, length, map, flat_map, sum_by, All, IsPermutation}
+use Rattle.std.specs.Prelude.{◌+◌, ◌*◌, ◌^◌, ◌<◌, ◌≤◌, List, ◌++◌, length, map, flat_map, sum_by}
+use Rattle.std.specs.Prelude.{All, IsPermutation}
 use Rattle.std.specs.Arc.{arc_value}
 use Rattle.std.specs.declared.alloc.Global.{Global}
 use Rattle.std.specs.declared.sync.Arc.{Arc}
@@ -15,16 +16,19 @@ use Rattle.poets_session.specs.declared.form.Form.{Form}
 use Rattle.poets_session.specs.declared.session.Session.{Session}
 use Rattle.poets_session.specs.Sessions.{Text, IsReadAs, HoldsText, scripts_of, commands_in}
 use Rattle.poets_journal.specs.Keeping.{IsStorable}
-use Rattle.poets_stored.specs.Stored.{HasText, stored_text, IsShortCommand, IsStorableCommand, ReadsBack}
+use Rattle.poets_stored.specs.Stored.{HasText, stored_text, IsShortCommand, IsStorableCommand}
+use Rattle.poets_stored.specs.Stored.{ReadsBack}
 
--- a command of a session has a text of at most 80 bytes for each byte of the session's text, and 12 more
+-- a command of a session has a text of at most 80 bytes for each byte of the session's text, and 12
+-- more
 abbrev pub CommandsOfSessionsAreShort : Type 0
 CommandsOfSessionsAreShort =
     (text : Text) (names : Table) (statements : List Statement) → IsReadAs text names statements →
     All (All (IsShortCommand names (80 * length text + 12))) (scripts_of statements)
 
--- calls that make commands of a session, each at most once, in whatever order and by whichever clerks, have texts of at
--- most 80 bytes together for each byte of the session's text, and 12 more for each call
+-- calls that make commands of a session, each at most once, in whatever order and by whichever
+-- clerks, have texts of at most 80 bytes together for each byte of the session's text, and 12 more
+-- for each call
 abbrev pub CommandsOfSessionsAreShortTogether : Type 0
 CommandsOfSessionsAreShortTogether =
     (text : Text) (names : Table) (statements : List Statement) (calls : List Call) (others : List Command) →
@@ -54,7 +58,8 @@ IsStorableCall names call = IsStorable HasText stored_text names (arc_value call
 abbrev pub AreStorableScripts : Table → List (Listed (Arc CodeCommand Global)) → Type 0
 AreStorableScripts names scripts = All (λ script. All (IsStorableCall names) script.items) scripts
 
--- where the commands of scripts can be stored, the calls that the scripts hold can be put into a journal
+-- where the commands of scripts can be stored, the calls that the scripts hold can be put into a
+-- journal
 abbrev pub CallsAreStorable : Type 0
 CallsAreStorable =
     (names : Table) (scripts : List (Listed (Arc CodeCommand Global))) →

@@ -31,8 +31,8 @@ IsStorableCommand names command =
     CanWriteCommand names command
     × ((clerk : ℕ) → clerk < 2 ^ 32 → length (numbered_text names clerk command) < 2 ^ 32)
 
--- the text under each clerk's number is cut into tokens, without a new name; they are that statement, and not too deep
--- for one that was stored
+-- the text under each clerk's number is cut into tokens, without a new name; they are that
+-- statement, and not too deep for one that was stored
 abbrev pub ReadsBack : Table → Command → Type 0
 ReadsBack names command =
     (clerk : ℕ) → clerk < 2 ^ 63 →

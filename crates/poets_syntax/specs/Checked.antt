@@ -12,7 +12,8 @@ use Rattle.poets_syntax.specs.Typing.{IsTypedBook}
 abbrev pub names_of_templates_and : Book → (reports : List Name) → List Name
 names_of_templates_and book reports = map (λ t. t.name) book.templates ++ reports
 
--- each template is typed, no two templates or reports have one name, and none has the name of an agent or a kind
+-- each template is typed, no two templates or reports have one name, and none has the name of an
+-- agent or a kind
 pub record IsCheckedBook (book : Book) (reports : List Name) : Type 0 where
   pub typed : IsTypedBook book reports
   pub distinct : IsDistinct same_name (names_of_templates_and book reports)

@@ -23,7 +23,8 @@ abbrev pub ReplacedIsWhole : Type 0
 ReplacedIsWhole =
     (given : Givens) (c : Contract) → AreWholeGivens given → IsWholeContract c → IsWholeContract (replace given c)
 
--- a typed contract binds no declared name, and the literals in arguments of its applications are of declared kinds
+-- a typed contract binds no declared name, and the literals in arguments of its applications are of
+-- declared kinds
 abbrev pub TypedIsWellFormed : Type 0
 TypedIsWellFormed = (book : Book) (reports : List Name) (scope : Scope) (c : Contract) →
     IsTyped book reports scope c → IsWellFormed book.declared c
@@ -37,7 +38,8 @@ TypedApplicationsFit = (book : Book) (reports : List Name) (scope : Scope) (c : 
 abbrev pub TypedBodiesFit : Type 0
 TypedBodiesFit = (book : Book) (reports : List Name) → IsTypedBook book reports → BodiesFit book
 
--- where a typed contract applies a template, it is to as many arguments as the template has parameters
+-- where a typed contract applies a template, it is to as many arguments as the template has
+-- parameters
 abbrev pub TypedCountsFit : Type 0
 TypedCountsFit = (book : Book) (reports : List Name) (scope : Scope) (c : Contract) →
     IsTyped book reports scope c → CountsFit book c

@@ -28,8 +28,8 @@ AreOfTypes declared [] = Unit {0}
 AreOfTypes declared (p ∷ given) =
     HasDeclaredNames declared p.1.value × IsOfType p.1.value p.1.ty × AreOfTypes declared given
 
--- the pairs are of the names in the scope, in order; their values are of the names' types, and the agents and kinds are
--- declared
+-- the pairs are of the names in the scope, in order; their values are of the names' types, and the
+-- agents and kinds are declared
 abbrev pub IsTypedEnv : Declared → Scope → Env → Type 0
 IsTypedEnv declared scope env = AllZip (λ s p. (s.0 ≡ p.0) × HasDeclaredNames declared p.1 × IsOfType p.1 s.1) scope env
 

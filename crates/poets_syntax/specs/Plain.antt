@@ -17,7 +17,8 @@ pub record Book : Type 0 where
   pub declared : Declared
   pub templates : List Template
 
--- why something has no type: a name that stands twice, one that is unknown, a wrong number of arguments, a wrong type
+-- why something has no type: a name that stands twice, one that is unknown, a wrong number of
+-- arguments, a wrong type
 pub data TypeCause : Type 0 where
   Twice : Name → TypeCause
   Unknown : Name → TypeCause

@@ -10,6 +10,7 @@ use Rattle.poets_syntax.specs.Contract.{Contract, contract_of}
 abbrev pub GivesContract : {E : Type 0} → Result Term E → Contract → Type 0
 GivesContract result c = IfOk result (λ r. contract_of r ≡ c)
 
--- the second expressions are the first with their names replaced, of two pairs of one name by the later
+-- the second expressions are the first with their names replaced, of two pairs of one name by the
+-- later
 abbrev pub AreReplaced : Givens → (args replaced : List Expr) → Type 0
 AreReplaced pairs args replaced = map expression_of replaced ≡ map (subst (reverse pairs)) (map expression_of args)

@@ -8,7 +8,8 @@ use Rattle.poets_value.specs.declared.value.Value.TheVariants as V
 use Rattle.poets_expr.specs.declared.expr.Op.{Op}
 use Rattle.poets_expr.specs.declared.expr.Op.TheVariants as O
 use Rattle.poets_expr.specs.Expression.{UnaryOp, Minus, Not, AmountOf, KindOf}
-use Rattle.poets_expr.specs.Expression.{Expression, Literal, Undefined, Named, Unary, Make, Binary, If}
+use Rattle.poets_expr.specs.Expression.{Expression, Literal, Undefined, Named, Unary, Make, Binary}
+use Rattle.poets_expr.specs.Expression.{If}
 use Rattle.poets_expr.specs.Env.{Declared, same_name}
 use Rattle.poets_expr.specs.Same.{ty_place}
 use Rattle.poets_syntax.specs.Plain.{TypeCause, Unknown, WrongType}

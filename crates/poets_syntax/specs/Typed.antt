@@ -1,5 +1,6 @@
 -- Typed contracts, or the first fault.
-use Rattle.std.specs.Prelude.{nat_eq, Bool, ◌||◌, is_some, length, map, Option, Some, None, if◌then◌else◌}
+use Rattle.std.specs.Prelude.{nat_eq, Bool, ◌||◌, is_some, length, map, Option, Some, None}
+use Rattle.std.specs.Prelude.{if◌then◌else◌}
 use Rattle.std.specs.Prelude.{List, [], ◌∷◌, ◌++◌}
 use Rattle.std.specs.List.{list_any}
 use Rattle.poets_value.specs.declared.value.Name.{Name}

@@ -1,4 +1,5 @@
--- The rules of typing: which expressions have a type, and which contracts, templates and books are typed.
+-- The rules of typing: which expressions have a type, and which contracts, templates and books are
+-- typed.
 use Rattle.std.specs.Prelude.{◌≡◌, ℤ, Bool, false, List, [], ◌∷◌, ◌++◌, map, Some}
 use Rattle.std.specs.List.{AllZip}
 use Rattle.poets_value.specs.declared.value.Name.{Name}
@@ -10,7 +11,8 @@ use Rattle.poets_value.specs.declared.value.Resource.{Resource}
 use Rattle.poets_expr.specs.declared.expr.Op.{Op}
 use Rattle.poets_expr.specs.declared.expr.Op.TheVariants as O
 use Rattle.poets_expr.specs.Expression.{Minus, Not, AmountOf, KindOf}
-use Rattle.poets_expr.specs.Expression.{Expression, Literal, Undefined, Named, Unary, Make, Binary, If}
+use Rattle.poets_expr.specs.Expression.{Expression, Literal, Undefined, Named, Unary, Make, Binary}
+use Rattle.poets_expr.specs.Expression.{If}
 use Rattle.poets_expr.specs.Env.{Declared}
 use Rattle.poets_syntax.specs.declared.term.Binders.{Binders}
 use Rattle.poets_syntax.specs.declared.term.Param.{Param}

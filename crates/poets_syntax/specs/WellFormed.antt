@@ -1,5 +1,5 @@
--- What typing gives the laws: declared names are bound nowhere, and the literals in arguments of applications are of
--- declared kinds.
+-- What typing gives the laws: declared names are bound nowhere, and the literals in arguments of
+-- applications are of declared kinds.
 use Rattle.std.specs.Prelude.{◌≡◌, List, [], ◌∷◌, Some}
 use Rattle.poets_value.specs.declared.value.Name.{Name}
 use Rattle.poets_value.specs.declared.event.Event.{Event}

@@ -1,6 +1,7 @@
 -- Lists of events in pieces.
 use Rattle.std.specs.Prelude.{◌≡◌, ◌≤◌, ◌<◌, ℕ, ◌+◌, ◌-◌, List, [], ◌∷◌, ◌++◌}
-use Rattle.std.specs.Prelude.{All, Bool, Some, length, map, min, nat_eq, nat_lt, slice_get, suc, if◌then◌else◌}
+use Rattle.std.specs.Prelude.{All, Bool, Some, length, map, min, nat_eq, nat_lt, slice_get, suc}
+use Rattle.std.specs.Prelude.{if◌then◌else◌}
 use Rattle.std.specs.List.{flat_map}
 use Rattle.std.specs.declared.alloc.Global.{Global}
 use Rattle.std.specs.declared.sync.Arc.{Arc}
@@ -45,7 +46,8 @@ last_start (n ∷ n' ∷ starts) = last_start (n' ∷ starts)
 abbrev pub is_full : List Event → (starts : List ℕ) → Bool
 is_full events starts = nat_eq (length events - last_start starts) piece_length
 
--- pieces of at most so many events follow each other: the next one begins behind n, no further than a piece's length
+-- pieces of at most so many events follow each other: the next one begins behind n, no further than
+-- a piece's length
 abbrev pub AreNear : ℕ → (starts : List ℕ) → Type 0
 AreNear n [] = Unit {0}
 AreNear n (m ∷ starts) = (n ≤ m) × (m ≤ n + piece_length) × AreNear m starts
@@ -55,8 +57,8 @@ abbrev pub AreStarts : List ℕ → (count : ℕ) → Type 0
 AreStarts [] count = ⊥
 AreStarts (n ∷ starts) count = (n ≡ 0) × AreNear n (starts ++ count ∷ [])
 
--- the piece with the number has the event at the place: it begins there, or less than a piece's length ahead of it, and
--- the next piece, if there is one, begins behind it
+-- the piece with the number has the event at the place: it begins there, or less than a piece's
+-- length ahead of it, and the next piece, if there is one, begins behind it
 abbrev pub IsPieceOf : (place : ℕ) → List ℕ → (number : ℕ) → Type 0
 IsPieceOf place starts number =
     (n : ℕ) × (slice_get starts number ≡ Some n) × (n ≤ place) × (place < n + piece_length)
@@ -82,7 +84,8 @@ events_view sealed last = record { pieces = pieces_of sealed ++ last.items ∷ [
 abbrev pub AreShort : List (List Event) → Type 0
 AreShort pieces = (length pieces ≤ most_pieces) × All (λ p. length p ≤ piece_length) pieces
 
--- what is kept of a list of events: short pieces that are sealed, how many events they have, and a last one
+-- what is kept of a list of events: short pieces that are sealed, how many events they have, and a
+-- last one
 abbrev pub AreKept : List (List Event) → (ahead : ℕ) → (last : List Event) → Type 0
 AreKept sealed ahead last =
     AreShort sealed × (ahead ≡ length (joined sealed)) × (length last ≤ piece_length)

@@ -1,6 +1,7 @@
 -- A table as plain data: its rows and its log.
 use Rattle.std.specs.Prelude.{◌≡◌, ℕ, zero, suc, ◌+◌, ◌-◌, ◌<◌, ◌≤◌, Bool, true, false, List, []}
-use Rattle.std.specs.Prelude.{◌∷◌, ◌++◌, Option, Some, filter, length, map, nat_eq, option_map, remove, slice_get, take}
+use Rattle.std.specs.Prelude.{◌∷◌, ◌++◌, Option, Some, filter, length, map, nat_eq, option_map}
+use Rattle.std.specs.Prelude.{remove, slice_get, take}
 use Rattle.std.specs.Prelude.{if◌then◌else◌}
 use Rattle.std.specs.declared.alloc.Global.{Global}
 use Rattle.std.specs.declared.sync.Arc.{Arc}
@@ -68,7 +69,8 @@ changed_at f place [] = []
 changed_at f zero (x ∷ xs) = f x ∷ xs
 changed_at f (suc place) (x ∷ xs) = x ∷ changed_at f place xs
 
--- the row with a new last piece, which begins behind all events, and ahead of which the current is owed
+-- the row with a new last piece, which begins behind all events, and ahead of which the current is
+-- owed
 abbrev pub with_piece : {O T : Type 0} → RowView O T → RowView O T
 with_piece r = record r { starts = r.starts ++ length r.events ∷ []; points = r.points ++ r.current ∷ [] }
 
@@ -128,8 +130,8 @@ abbrev pub IsPairOf : ℕ → (place here : ℕ) → List (ℕ × Event) → Typ
 IsPairOf n place here log =
     ((e : Event) × (slice_get log here ≡ Some (n, e))) × (length (events_with n (take here log)) ≡ place)
 
--- what takes an event out: the number of its row, its places in the row and in the log, and the row's events without
--- it, with the places where their pieces begin
+-- what takes an event out: the number of its row, its places in the row and in the log, and the
+-- row's events without it, with the places where their pieces begin
 pub record CutView : Type 0 where
   pub number : ℕ
   pub place : ℕ
@@ -137,13 +139,15 @@ pub record CutView : Type 0 where
   pub events : List Event
   pub starts : List ℕ
 
--- the cut has the events of this row without the one at its place, and where their pieces begin then
+-- the cut has the events of this row without the one at its place, and where their pieces begin
+-- then
 pub record IsRowCut {O T : Type 0} (cut : CutView) (r : RowView O T) : Type 0 where
   pub place : cut.place < length r.events
   pub events : cut.events ≡ remove r.events cut.place
   pub starts : cut.starts ≡ starts_without cut.place r.starts
 
--- the cut is of these rows and this log: of the row with its number, and of the pair that has the event
+-- the cut is of these rows and this log: of the row with its number, and of the pair that has the
+-- event
 pub record IsCutOf {O T : Type 0} (rows : List (RowView O T)) (log : List (ℕ × Event)) (cut : CutView) : Type 0 where
   pub live : IsLive cut.number rows
   pub row : (r : RowView O T) → slice_get rows (cut.number - 1) ≡ Some r → IsRowCut cut r

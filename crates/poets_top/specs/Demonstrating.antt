@@ -11,7 +11,8 @@ use Rattle.poets_session.specs.Sessions.{IsSession}
 use Rattle.poets_top.specs.Running.{IsHistoryOf}
 use Rattle.poets_writing.specs.declared.outcome.TheConstants.{DONE}
 
--- the demonstration's text is a session of clerks, of which a history was made, and this is the line that sums it up
+-- the demonstration's text is a session of clerks, of which a history was made, and this is the
+-- line that sums it up
 pub record IsDemonstrated (sales : ℕ) (h : List Entry) (line : List ℕ) : Type 0 where
   pub names : Table
   pub statements : List Statement

@@ -54,7 +54,8 @@ way_line way = codes "way " ++ way_text way ++ 10 ∷ []
 abbrev pub no_way_line : List ℕ
 no_way_line = codes "way none" ++ 10 ∷ []
 
--- the line tells a way in which the trace performs the contract, or that the trace does not perform it
+-- the line tells a way in which the trace performs the contract, or that the trace does not perform
+-- it
 pub data TellsWay (book : Book) (o : Contract) (s : List Event) : (line : List ℕ) → Type 0 where
   Performed : {way : Way} → Ways book [] o s way → TellsWay book o s (way_line way)
   NotPerformed : (Perf book [] o s → ⊥) → TellsWay book o s no_way_line
@@ -63,8 +64,9 @@ pub data TellsWay (book : Book) (o : Contract) (s : List Event) : (line : List �
 abbrev pub IsCalled : Table → Ledger → (name : List ℕ) → (number : ℕ) → (original : Contract) → Type 0
 IsCalled names l name i o = (x : Name) × (place_of name names ≡ Some x.id) × IsNamed l x i o
 
--- by the ledger this text explains the contract with a name: how many events its trace has, whether the trace performs
--- it, the open transmissions of its residual, and a way in which the trace performs it
+-- by the ledger this text explains the contract with a name: how many events its trace has, whether
+-- the trace performs it, the open transmissions of its residual, and a way in which the trace
+-- performs it
 pub data Explains (f : Frame) (names : Table) (l : Ledger) (name : List ℕ) : (text : List ℕ) → Type 0 where
   OfNone :
       ((i : ℕ) (o : Contract) → IsCalled names l name i o → ⊥) →
@@ -82,17 +84,18 @@ abbrev pub IsExplanation : (name : List ℕ) → Table → List Statement → Li
 IsExplanation name names statements h text =
     InFrame (book_from statements) (reports_of statements) (λ f. Explains f names (ledger_of h) name text)
 
--- the history is that of the journal's calls, and after it the text explains the contract with a name
+-- the history is that of the journal's calls, and after it the text explains the contract with a
+-- name
 pub record ExplainsJournal (name : List ℕ) (names : Table) (statements : List Statement) (h : List Entry)
     (text : List ℕ) : Type 0 where
   pub history : IsReplayOf statements h
   pub explains : IsExplanation name names statements h text
 
--- a journal was replayed, and the contract with a name explained: what the source had left before and after, what the
--- sink held before and after, and the history
+-- a journal was replayed, and the contract with a name explained: what the source had left before
+-- and after, what the sink held before and after, and the history
 pub record HasExplained (name : List ℕ) (left left' held held' : Option (List ℕ)) (h : List Entry) : Type 0 where
-  -- the source was read to its end, and its bytes are the text of a session with a journal; where it does
-  -- not tell its bytes, there is such a text
+  -- the source was read to its end, and its bytes are the text of a session with a journal; where
+  -- it does not tell its bytes, there is such a text
   pub text : Text
   pub given : GivesAll left left' text
   pub names : Table

@@ -15,7 +15,8 @@ OneClerk =
     (statements : List Statement) (script : List Command) (h : List Entry)
     → scripts_of statements ≡ script ∷ [] → IsHistoryOf statements h → calls_of h ≡ under_clerk 1 script
 
--- over a source and a sink that tell their bytes, a run of one clerk's session has one history and writes one text
+-- over a source and a sink that tell their bytes, a run of one clerk's session has one history and
+-- writes one text
 abbrev pub OneRun : Type 0
 OneRun =
     (bytes held : List ℕ) (left left' held' held'' : Option (List ℕ)) (script : List Command) (h h' : List Entry)
@@ -27,7 +28,8 @@ abbrev pub OneReplay : Type 0
 OneReplay =
     (statements : List Statement) (h h' : List Entry) → IsReplayOf statements h → IsReplayOf statements h' → h ≡ h'
 
--- over a source and a sink that tell their bytes, a replay of a journal has one history and writes one text
+-- over a source and a sink that tell their bytes, a replay of a journal has one history and writes
+-- one text
 abbrev pub OneReplayed : Type 0
 OneReplayed =
     (bytes held : List ℕ) (left left' held' held'' : Option (List ℕ)) (h h' : List Entry)

@@ -41,7 +41,8 @@ EndsAsAsked words source sink outcome =
     (mode : Mode) → AskFor (map string_bytes words) mode →
     Ends source.before source.after sink.before sink.after outcome.status (history_of outcome.history.items) mode
 
--- where no count of faults rose, the run ends with the status that it deserves, or with that of want of memory
+-- where no count of faults rose, the run ends with the status that it deserves, or with that of
+-- want of memory
 abbrev pub EndsAsDeserved : List (String Global) → (source sink : Change) → Outcome → Type 0
 EndsAsDeserved words source sink outcome =
     (mode : Mode) (wanted : ℕ) → AskFor (map string_bytes words) mode → DeservesRun source.before.bytes mode wanted →

@@ -22,11 +22,11 @@ pub record ReplaysJournal (names : Table) (statements : List Statement) (h : Lis
   pub history : IsReplayOf statements h
   pub lines : text ≡ history_text names h
 
--- a journal was replayed: what the source had left before and after, what the sink held before and after, and the
--- history
+-- a journal was replayed: what the source had left before and after, what the sink held before and
+-- after, and the history
 pub record HasReplayed (left left' held held' : Option (List ℕ)) (h : List Entry) : Type 0 where
-  -- the source was read to its end, and its bytes are the text of a session with a journal; where it does
-  -- not tell its bytes, there is such a text
+  -- the source was read to its end, and its bytes are the text of a session with a journal; where
+  -- it does not tell its bytes, there is such a text
   pub text : Text
   pub given : GivesAll left left' text
   pub names : Table

@@ -12,7 +12,8 @@ use Rattle.poets_print.specs.Lines.{history_text}
 use Rattle.poets_session.specs.declared.form.Form.TheVariants as F
 use Rattle.poets_session.specs.Sessions.{Text, IsSession, scripts_of}
 
--- a right history in which the commands of each clerk are his script, in order, and no other clerk's stand there
+-- a right history in which the commands of each clerk are his script, in order, and no other
+-- clerk's stand there
 pub record IsHistoryOf (statements : List Statement) (h : List Entry) : Type 0 where
   pub right : IsRightHistory (book_from statements) (reports_of statements) h
   pub own : (place : ℕ) (script : List Command) → slice_get (scripts_of statements) place ≡ Some script →
@@ -24,10 +25,11 @@ pub record RunsScripts (names : Table) (statements : List Statement) (h : List E
   pub history : IsHistoryOf statements h
   pub lines : text ≡ history_text names h
 
--- a session was run: what the source had left before and after, what the sink held before and after, and the history
+-- a session was run: what the source had left before and after, what the sink held before and
+-- after, and the history
 pub record HasRun (left left' held held' : Option (List ℕ)) (h : List Entry) : Type 0 where
-  -- the source was read to its end, and its bytes are the text of a session of clerks; where it does
-  -- not tell its bytes, there is such a text
+  -- the source was read to its end, and its bytes are the text of a session of clerks; where it
+  -- does not tell its bytes, there is such a text
   pub text : Text
   pub given : GivesAll left left' text
   pub names : Table

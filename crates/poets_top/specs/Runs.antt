@@ -21,7 +21,8 @@ use Rattle.poets_writing.specs.Writing.{Stream, HasFailed, IsWritten}
 use Rattle.poets_top.specs.Tasks.{form_of}
 use Rattle.poets_words.specs.declared.mode.Task.{Task}
 use Rattle.poets_words.specs.declared.mode.Task.TheVariants as T
-use Rattle.poets_writing.specs.declared.outcome.TheConstants.{DONE, NO_MEMORY, NO_SESSION, READ_FAULT, TOO_LONG}
+use Rattle.poets_writing.specs.declared.outcome.TheConstants.{DONE, NO_MEMORY, NO_SESSION}
+use Rattle.poets_writing.specs.declared.outcome.TheConstants.{READ_FAULT, TOO_LONG}
 
 -- what a task makes of a session
 abbrev pub IsMade : Task → Table → List Statement → List Entry → List ℕ → Type 0
@@ -49,13 +50,15 @@ pub data IsResult (task : Task) (source source' : Stream) : (status : ℕ) → L
       {text written : List ℕ} {status : ℕ} {h : List Entry} →
       GivesAll source.bytes source'.bytes text → length text ≤ longest → IsAnswerTo text task status h written →
       IsResult task source source' status h written
-  -- it gave more bytes than a session may have; they come in blocks, so that at most a block too many was taken
+  -- it gave more bytes than a session may have; they come in blocks, so that at most a block too
+  -- many was taken
   TooLong : LosesFront (longest + 1) (longest + block) source.bytes source'.bytes →
       IsResult task source source' TOO_LONG [] too_long_text
 
 -- how a run ends, by its source and its sink before and after
 pub data IsEnding (task : Task) (source source' sink sink' : Stream) : (status : ℕ) → List Entry → Type 0 where
-  -- the source had no fault, and its result was written, or as much of it as the sink or memory allowed
+  -- the source had no fault, and its result was written, or as much of it as the sink or memory
+  -- allowed
   Answered :
       {status : ℕ} {h : List Entry} →
       source'.faults ≡ source.faults → IsWritten (IsResult task source source') sink sink' status h →
@@ -80,8 +83,8 @@ pub data Deserves (task : Task) (text : Text) : (status : ℕ) → Type 0 where
   OfNoSession : length text ≤ longest → IsNoSession text (form_of task) → Deserves task text NO_SESSION
   OfTooLong : longest < length text → Deserves task text TOO_LONG
 
--- the status that a run deserves: for a task that of the text that the source has left, where it tells it; for a
--- demonstration 0
+-- the status that a run deserves: for a task that of the text that the source has left, where it
+-- tells it; for a demonstration 0
 pub data DeservesRun (left : Option Text) : Mode → (status : ℕ) → Type 0 where
   OfTask : {task : Task} {text : Text} {status : ℕ} → left ≡ Some text → Deserves task text status →
       DeservesRun left (M.Read task) status

@@ -1,5 +1,6 @@
 -- What contracts say of a turnstile, its clerks and its notes.
-use Rattle.std.specs.Prelude.{◌≡◌, ◌⊎◌, ℕ, ◌+◌, ◌<◌, ◌≤◌, ◌^◌, List, [], ◌∷◌, ◌++◌, length, map, slice_index_or, Option}
+use Rattle.std.specs.Prelude.{◌≡◌, ◌⊎◌, ℕ, ◌+◌, ◌<◌, ◌≤◌, ◌^◌, List, [], ◌∷◌, ◌++◌, length, map}
+use Rattle.std.specs.Prelude.{slice_index_or, Option}
 use Rattle.std.specs.Prelude.{Some, Contains, All, Result, MatchResult}
 use Rattle.std.specs.declared.alloc.Global.{Global}
 use Rattle.std.specs.declared.sync.Arc.{Arc}
@@ -86,8 +87,8 @@ module _ {M C F : Type 0} where
   abbrev pub AreAll : ℕ → List (ClerkOf M C F) → Type 0
   AreAll count clerks = (k : ℕ) → 0 < k → k ≤ count → Contains (map (λ c. number c) clerks) k
 
--- the clerk of a number, of so many, made the call, of which this was kept: it saw and had made this before, and that
--- after
+-- the clerk of a number, of so many, made the call, of which this was kept: it saw and had made
+-- this before, and that after
 pub record IsCall {C K : Type 0} (owes : List (ℕ × C) → ℕ → C → K → Type 0) (count number : ℕ) (call : C) (kept : K)
     (saw saw' : List (ℕ × C)) (made made' : List C) : Type 0 where
   -- the entries before the call, which begin with what the clerk had seen
@@ -114,8 +115,8 @@ module _ {M C R K F T : Type 0} where
       IsCall (owes (turn_frame frame turn)) (clerk_count turn) (number clerk) call kept (front clerk) (front clerk')
       (calls clerk) (calls clerk')
 
-  -- the clerk's call is over: it made the call, and this was kept of it; or nothing was kept, and it saw no more and
-  -- made no call
+  -- the clerk's call is over: it made the call, and this was kept of it; or nothing was kept, and
+  -- it saw no more and made no call
   abbrev pub CallEnded :
       {E : Type 0} → (F → List (ℕ × C) → ℕ → C → T → Type 0) → (M → F) → Turn M C R K F → Arc C Global → Result T E →
       (clerk clerk' : ClerkOf M C F) → Type 0
@@ -123,18 +124,20 @@ module _ {M C R K F T : Type 0} where
       (λ kept. HasCalled owes frame turn (arc_value call) kept clerk clerk')
       (λ _. SawNoMore clerk clerk')
 
--- the history begins with all that the clerk of the number saw, and of this clerk it has just its own calls, each once,
--- in order
+-- the history begins with all that the clerk of the number saw, and of this clerk it has just its
+-- own calls, each once, in order
 pub record IsClerkIn {C : Type 0} (history : List (ℕ × C)) (number : ℕ) (saw : List (ℕ × C)) (made : List C) :
     Type 0 where
   pub front : IsPrefix saw history
   pub calls : own_calls number history ≡ made
 
--- the history begins with all that each of the clerks saw, and of each it has just its own calls, each once, in order
+-- the history begins with all that each of the clerks saw, and of each it has just its own calls,
+-- each once, in order
 abbrev pub AreClerksIn : {M C F : Type 0} → List (ℕ × C) → List (ClerkOf M C F) → Type 0
 AreClerksIn history clerks = All (λ c. IsClerkIn history (number c) (front c) (calls c)) clerks
 
--- the seat of the view is the clerk's or took it in, and knows all that the clerk saw, and its calls
+-- the seat of the view is the clerk's or took it in, and knows all that the clerk saw, and its
+-- calls
 pub record KnowsClerk {C F : Type 0} (v : View C F) (number : ℕ) (saw : List (ℕ × C)) (made : List C) : Type 0 where
   pub front : IsPrefix saw v.front
   pub calls : ((v.number ≡ number) × (v.calls ≡ made)) ⊎ Contains v.ended (number, made)

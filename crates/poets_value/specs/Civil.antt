@@ -1,5 +1,6 @@
 -- Civil days of the years 1 to 9999, counted from 1970-01-01, and their ten bytes.
-use Rattle.std.specs.Prelude.{◌≡◌, ℕ, zero, suc, ◌+◌, ◌/◌, ◌%◌, ◌≤◌, ◌<◌, List, [], ◌∷◌, ℤ, pos, neg_ℤ, ◌-ℤ◌, ◌≤ℤ◌}
+use Rattle.std.specs.Prelude.{◌≡◌, ℕ, zero, suc, ◌+◌, ◌/◌, ◌%◌, ◌≤◌, ◌<◌, List, [], ◌∷◌, ℤ, pos}
+use Rattle.std.specs.Prelude.{neg_ℤ, ◌-ℤ◌, ◌≤ℤ◌}
 use Rattle.std.specs.Prelude.{int_le, unsigned_abs, if◌then◌else◌}
 use Rattle.jiff_core.specs.Calendar.{IsCivilDate, days_from_civil}
 

@@ -1,4 +1,5 @@
--- What is whole: every number in it is a whole number of the language, and every day one of its days.
+-- What is whole: every number in it is a whole number of the language, and every day one of its
+-- days.
 use Rattle.std.specs.Prelude.{◌^◌, ◌-◌, Bool, ◌&&◌, List, All, IsTrue, ℤ, pos, neg_ℤ, int_le}
 use Rattle.poets_value.specs.declared.value.Resource.{Resource}
 use Rattle.poets_value.specs.declared.value.Value.{Value}

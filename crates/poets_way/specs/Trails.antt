@@ -1,5 +1,6 @@
 -- Ways in a table.
-use Rattle.std.specs.Prelude.{ℕ, zero, suc, ◌<◌, Bool, List, [], ◌∷◌, ◌++◌, length, refl, if◌then◌else◌}
+use Rattle.std.specs.Prelude.{ℕ, zero, suc, ◌<◌, Bool, List, [], ◌∷◌, ◌++◌, length, refl}
+use Rattle.std.specs.Prelude.{if◌then◌else◌}
 use Rattle.std.specs.List.{slice_index_or}
 use Rattle.std.specs.Coded.{Coded, code_by, coded×, coded_bool, coded_list}
 use Rattle.poets_way.specs.Way.{Way}
@@ -55,7 +56,8 @@ way_of_node t (N.Then n v u) = W.Then n (way_at t v) (way_at t u)
 abbrev pub with_node : TrailsView → Node → TrailsView
 with_node t node = with_way t (way_of_node t node)
 
--- the lists of rows of sides, after those that are there: each row puts a side in front of an earlier list
+-- the lists of rows of sides, after those that are there: each row puts a side in front of an
+-- earlier list
 abbrev pub grown_sides : List (List Bool) → List Side → List (List Bool)
 grown_sides lists [] = lists
 grown_sides lists (s ∷ rows) = grown_sides (lists ++ (s.second ∷ slice_index_or lists s.rest []) ∷ []) rows

@@ -12,7 +12,8 @@ pub data Way : Type 0 where
   -- of a choice: that of its left part, or that of its right part
   Left : Way → Way
   Right : Way → Way
-  -- of two contracts side by side: for each event whether it is the second one's, and the ways of both
+  -- of two contracts side by side: for each event whether it is the second one's, and the ways of
+  -- both
   Both : List Bool → Way → Way → Way
   -- of a sequence: how many events are the first part's, and the ways of both parts
   Then : ℕ → Way → Way → Way

@@ -11,7 +11,8 @@ use Rattle.poets_writing.specs.Writing.{Change, HasFailed, IsWritten}
 use Rattle.poets_writing.specs.declared.outcome.Outcome.{Outcome}
 use Rattle.poets_writing.specs.declared.outcome.TheConstants.{DONE, NO_MEMORY, WRITE_FAULT}
 
--- what is asked for was written to the sink, or as much of it as the sink or memory allowed, as the outcome tells
+-- what is asked for was written to the sink, or as much of it as the sink or memory allowed, as the
+-- outcome tells
 abbrev pub Writes : (Is : (status : ℕ) → List Entry → (text : List ℕ) → Type 0) → (sink : Change) → Outcome → Type 0
 Writes Is sink outcome = IsWritten Is sink.before sink.after outcome.status (history_of outcome.history.items)
 
@@ -35,20 +36,22 @@ FailsToWrite text sink outcome =
     (outcome.status ≡ WRITE_FAULT) × AppendsPart sink.before.bytes sink.after.bytes text
     × HasFailed sink.before sink.after
 
--- memory ran out between the lines of the history, which has entries, and a part of the lines was written, without a
--- fault
+-- memory ran out between the lines of the history, which has entries, and a part of the lines was
+-- written, without a fault
 abbrev pub RunsOutBetween : (lines : List ℕ) → List Entry → (sink : Change) → Outcome → Type 0
 RunsOutBetween lines h sink outcome =
     (outcome.status ≡ NO_MEMORY) × (h ≢ []) × AppendsPart sink.before.bytes sink.after.bytes lines
     × (sink.after.faults ≡ sink.before.faults)
 
--- the history's lines were written whole; or the sink failed, or memory ran out, and a part of them was written
+-- the history's lines were written whole; or the sink failed, or memory ran out, and a part of them
+-- was written
 abbrev pub WritesHistory : Table → List Entry → (sink : Change) → Outcome → Type 0
 WritesHistory names h sink outcome =
     WritesWhole (history_text names h) sink DONE outcome
     ⊎ FailsToWrite (history_text names h) sink outcome
     ⊎ RunsOutBetween (history_text names h) h sink outcome
 
--- the line was written and the outcome has the wanted status; or the sink failed, and a part of the line was written
+-- the line was written and the outcome has the wanted status; or the sink failed, and a part of the
+-- line was written
 abbrev pub WritesLine : (line : List ℕ) → (sink : Change) → (wanted : ℕ) → Outcome → Type 0
 WritesLine line sink wanted outcome = WritesWhole line sink wanted outcome ⊎ FailsToWrite line sink outcome

@@ -8,7 +8,8 @@ use Rattle.poets_command.specs.Plain.{Entry}
 use Rattle.poets_print.specs.Lines.{history_text}
 use Rattle.poets_writing.specs.declared.outcome.TheConstants.{DONE, NO_MEMORY, WRITE_FAULT}
 
--- a source or a sink: the bytes that it has left or holds, where it tells them, and its count of faults
+-- a source or a sink: the bytes that it has left or holds, where it tells them, and its count of
+-- faults
 pub record Stream : Type 0 where
   pub bytes : Option (List ℕ)
   pub faults : ℕ
@@ -32,7 +33,8 @@ pub record HasFailed (old new : Stream) : Type 0 where
   pub rose : Rose old.faults new.faults
   pub later : old.faults ≤ new.faults
 
--- how it ends that an answer is written to a sink; it tells the status, the history, and the text that is to be written
+-- how it ends that an answer is written to a sink; it tells the status, the history, and the text
+-- that is to be written
 pub data IsWritten (Is : (status : ℕ) → List Entry → (text : List ℕ) → Type 0) (sink sink' : Stream) :
     (status : ℕ) → List Entry → Type 0 where
   -- the text was written whole, without a fault
@@ -45,7 +47,8 @@ pub data IsWritten (Is : (status : ℕ) → List Entry → (text : List ℕ) →
       {status : ℕ} {h : List Entry} {text : List ℕ} →
       Is status h text → AppendsPart sink.bytes sink'.bytes text → HasFailed sink sink' →
       IsWritten Is sink sink' WRITE_FAULT h
-  -- want of memory while the lines of a history are written: a front of them was written, and not all, without a fault
+  -- want of memory while the lines of a history are written: a front of them was written, and not
+  -- all, without a fault
   MemoryBetween :
       {h : List Entry} (names : Table) →
       Is DONE h (history_text names h) → h ≢ [] → AppendsPart sink.bytes sink'.bytes (history_text names h) →

@@ -12,15 +12,16 @@ use Rattle.poets_clerks.specs.declared.answers.DoneOf.{DoneOf}
 
 module _ {M C T K F : Type 0} (frame : M → F) (answers : F → List (ℕ × C) → ℕ → C → T → Type 0)
     (turn : Turn M C T K F) where
-  -- the clerk v made the call and became w, and this is the answer; or memory wanted, and there is none
+  -- the clerk v made the call and became w, and this is the answer; or memory wanted, and there is
+  -- none
   abbrev pub MadeCall : {E : Type 0} → Arc C Global → Result (DoneOf T) E → (v w : ClerkOf M C F) → Type 0
   MadeCall call made v w = MatchResult made
       (λ d. IsAnswered (answers (turn_frame frame turn)) (number v) (front v) (front w) (calls v) (calls w)
       (arc_value call) (d.place, d.reply))
       (λ _. IsUnanswered (front v) (front w) (calls v) (calls w) (arc_value call))
 
-  -- the first calls of the script have these answers, which stand in what the clerk w saw, behind all that it had seen
-  -- as v
+  -- the first calls of the script have these answers, which stand in what the clerk w saw, behind
+  -- all that it had seen as v
   abbrev pub Answered : List (Arc C Global) → Listed (DoneOf T) → (v w : ClerkOf M C F) → Type 0
   Answered script done v w =
       AreAnswers (answers (turn_frame frame turn)) (front w) (number v) (length (front v)) (map arc_value script)
@@ -31,7 +32,8 @@ module _ {M C T F : Type 0} where
   abbrev pub MadeAll : List (Arc C Global) → Listed (DoneOf T) → (v w : ClerkOf M C F) → Type 0
   MadeAll script done v w = (length done.items ≡ length script) × (calls w ≡ calls v ++ map arc_value script)
 
-  -- the calls that the clerk v made to become w are those of the script that are answered, or these and the next one
+  -- the calls that the clerk v made to become w are those of the script that are answered, or these
+  -- and the next one
   abbrev pub MadePart : List (Arc C Global) → Listed (DoneOf T) → (v w : ClerkOf M C F) → Type 0
   MadePart script done v w =
       (calls w ≡ calls v ++ map arc_value (take (length done.items) script))

@@ -1,14 +1,17 @@
 -- Nodes that are added to a table, and what is kept of them.
-use Rattle.std.specs.Prelude.{◌≡◌, ℕ, Bool, ◌&&◌, nat_eq, List, [], ◌∷◌, ◌++◌, slice_get, Some, if◌then◌else◌}
+use Rattle.std.specs.Prelude.{◌≡◌, ℕ, Bool, ◌&&◌, nat_eq, List, [], ◌∷◌, ◌++◌, slice_get, Some}
+use Rattle.std.specs.Prelude.{if◌then◌else◌}
 use Rattle.poets_cons.specs.declared.classes.Classes.{Classes}
 use Rattle.poets_cons.specs.declared.form.Form.{Form}
 use Rattle.poets_cons.specs.declared.node.Node.{Node}
 use Rattle.poets_cons.specs.Row.{row_of}
-use Rattle.poets_cons.specs.Table.{rows_of, contract_of_node, with_row, IsTable, Stands, AddsReached}
+use Rattle.poets_cons.specs.Table.{rows_of, contract_of_node, with_row, IsTable, Stands}
+use Rattle.poets_cons.specs.Table.{AddsReached}
 use Rattle.poets_cons.specs.code.Classes.{AreKnown}
 use Rattle.poets_cons.specs.code.Forms.{AreForms}
 
--- the rows are a table, and what is kept of them beside is right: each row's form, and the classes that are known
+-- the rows are a table, and what is kept of them beside is right: each row's form, and the classes
+-- that are known
 abbrev pub AreKept : List Node → List Form → Classes → Type 0
 AreKept nodes forms classes = IsTable nodes × AreForms nodes forms × AreKnown nodes classes
 

@@ -40,8 +40,8 @@ IsSingle (Parallel ks) = ⊥
 abbrev pub AreSingles : (ℕ → Shape) → ℕ → List ℕ → Type 0
 AreSingles shape n ks = AllByRecursion (λ k. (k < n) × IsSingle (shape k)) ks
 
--- the class with a number may have this shape: it names earlier classes alone, and its parallel parts, of which there
--- are two at least, have single classes
+-- the class with a number may have this shape: it names earlier classes alone, and its parallel
+-- parts, of which there are two at least, have single classes
 abbrev pub IsShapeAt : (ℕ → Shape) → ℕ → Shape → Type 0
 IsShapeAt shape n (Single r) = IsSingle (Single r) × AreBelow n r
 IsShapeAt shape n (Parallel ks) = (2 ≤ length ks) × AreSingles shape n ks

@@ -8,7 +8,8 @@ use Rattle.poets_cons.specs.Row.{Row, row_of, contract_by, IsPart, AreBelow}
 use Rattle.poets_cons.specs.Table.{rows_of, contract_at, IsTable, Reached, Stands, Extends}
 use Rattle.poets_cons.specs.Table.{AddsReached, AddsReachedBoth}
 
--- the rows so far: each row that is noted for another stands for its contract, and each is noted for some row
+-- the rows so far: each row that is noted for another stands for its contract, and each is noted
+-- for some row
 pub record AreCopies (from into : List Node) (copies : ℕ → Option ℕ) : Type 0 where
   pub table : IsTable into
   pub stand : (k p : ℕ) → copies k ≡ Some p → Stands into p (contract_at from k)
@@ -58,8 +59,8 @@ abbrev pub CopiesRow : List Node → (old new : Vec Node Global) → (before aft
 CopiesRow from old new before after place copy =
     IsCopied from old.items new.items (noted before) (noted after) place copy
 
--- the parts of the row were copied into the table and noted, and the node is that of the row with the copies as its
--- parts
+-- the parts of the row were copied into the table and noted, and the node is that of the row with
+-- the copies as its parts
 abbrev pub CopiesParts : List Node → (old new : Vec Node Global) → (before after : Notes) → ℕ → Node → Type 0
 CopiesParts from old new before after place node =
     ArePartsCopied from old.items new.items (noted before) (noted after) place (row_of node)

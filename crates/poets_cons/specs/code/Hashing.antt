@@ -1,12 +1,13 @@
--- What a row feeds to a hasher: the numbers of its parts, the template that it applies, and the names, literals and
--- operators between two expressions in it. Different rows may feed the same.
+-- What a row feeds to a hasher: the numbers of its parts, the template that it applies, and the
+-- names, literals and operators between two expressions in it. Different rows may feed the same.
 use Rattle.std.specs.Prelude.{List, [], ◌∷◌, ◌++◌}
 use Rattle.std.specs.Hash.{HashWrites, u8, u32, i64, usize}
 use Rattle.std.specs.Hash as fed
 use Rattle.poets_value.specs.declared.value.Value.{Value}
 use Rattle.poets_value.specs.declared.value.Value.TheVariants as V
 use Rattle.poets_expr.specs.Same.{op_place}
-use Rattle.poets_expr.specs.Expression.{Expression, Literal, Undefined, Named, Unary, Make, Binary, If}
+use Rattle.poets_expr.specs.Expression.{Expression, Literal, Undefined, Named, Unary, Make, Binary}
+use Rattle.poets_expr.specs.Expression.{If}
 use Rattle.poets_cons.specs.Row.{Row, Success, Failure, Transmit, Plus, Par, Seq, App}
 
 abbrev pub value_writes : Value → HashWrites

@@ -1,11 +1,14 @@
--- The calls of a disk in memory as they are kept: what each was, and all bytes that were written, piece after piece.
+-- The calls of a disk in memory as they are kept: what each was, and all bytes that were written,
+-- piece after piece.
 use Rattle.std.specs.Prelude.{◌≡◌, ◌≢◌, ℕ, ◌+◌, ◌≤◌, ◌⊎◌, vec_len, vec_capacity}
 use Rattle.std.specs.Prelude.{List, [], ◌∷◌, ◌++◌, length, take, drop, All}
 use Rattle.poets_value.specs.Limits.{longest_text}
-use Rattle.poets_disk.specs.Memory.{DiskCall, wrote, failed_write, synced, failed_sync, held_by, held_after, most_calls}
+use Rattle.poets_disk.specs.Memory.{DiskCall, wrote, failed_write, synced, failed_sync, held_by}
+use Rattle.poets_disk.specs.Memory.{held_after, most_calls}
 use Rattle.poets_disk.specs.Kept.{calls_of}
 use Rattle.poets_disk.specs.declared.memory.Mark.{Mark}
-use Rattle.poets_disk.specs.declared.memory.Mark.TheVariants.{Wrote, FailedWrite, Synced, FailedSync}
+use Rattle.poets_disk.specs.declared.memory.Mark.TheVariants.{Wrote, FailedWrite, Synced}
+use Rattle.poets_disk.specs.declared.memory.Mark.TheVariants.{FailedSync}
 use Rattle.poets_disk.specs.declared.memory.MemoryDisk.TheInside.{Inside}
 
 -- how many bytes the marks speak of
@@ -16,7 +19,8 @@ marked (FailedWrite at count ∷ marks) = marked marks
 marked (Synced ∷ marks) = marked marks
 marked (FailedSync ∷ marks) = marked marks
 
--- the calls of a disk in memory as it keeps them: each write begins in the file as it then was, and ends in the room
+-- the calls of a disk in memory as it keeps them: each write begins in the file as it then was, and
+-- ends in the room
 abbrev pub AreKept : List ℕ → List DiskCall → Type 0
 AreKept held [] = length held ≤ longest_text
 AreKept held (wrote at piece ∷ calls) =

@@ -28,7 +28,8 @@ pub record AddsRow (row : RowView Term (List Node)) (old new : StoreView) : Type
 abbrev pub AddsContract : Name → Arc Term Global → Arc (List Node) Global → (old new : StoreView) → Type 0
 AddsContract x original current old new = AddsRow (new_row x (arc_value original) (arc_value current)) old new
 
--- the event is in the row with the number, of which the current contract is then owed, in the log, and in each watch
+-- the event is in the row with the number, of which the current contract is then owed, in the log,
+-- and in each watch
 pub record RecordsEvent (declared : Declared) (number : ℕ) (e : Event) (current : List Node)
     (old new : StoreView) : Type 0 where
   pub rows : new.rows ≡ changed_at (with_event e current) (number - 1) (changed_at with_room (number - 1) old.rows)
@@ -37,7 +38,8 @@ pub record RecordsEvent (declared : Declared) (number : ℕ) (e : Event) (curren
   pub brought : AllBrought declared e old.watches moves
   pub moved : AllMoved old.watches moves new.watches
 
--- under the declared names the event is recorded in the row with the number, in the log, and in each watch
+-- under the declared names the event is recorded in the row with the number, in the log, and in
+-- each watch
 abbrev pub RecordsUnder : Decls → ℕ → Event → Arc (List Node) Global → (old new : StoreView) → Type 0
 RecordsUnder decls number e current old new =
     RecordsEvent (declared_of decls.names) number e (arc_value current) old new
@@ -48,8 +50,8 @@ pub record CutsStore (n k : ℕ) (store : StoreView) (cut : CutView) : Type 0 wh
   pub place : cut.place ≡ k
   pub fits : IsCutOf store.rows store.log cut
 
--- the event is out of its row, of which the current contract is then owed, and these ahead of its pieces; out of the
--- log; and out of each watch
+-- the event is out of its row, of which the current contract is then owed, and these ahead of its
+-- pieces; out of the log; and out of each watch
 pub record Withdraws (declared : Declared) (cut : CutView) (current : List Node) (points : List (List Node))
     (old new : StoreView) : Type 0 where
   pub rows : new.rows ≡ changed_at (without_event cut current points) (cut.number - 1) old.rows

@@ -18,8 +18,8 @@ registration_of x term = Command.Register x (contract_of (arc_value term))
 abbrev pub tally_of : Name → List Expr → Command
 tally_of x args = Command.Tally x (map expression_of args)
 
--- the command to make the portfolio of the report with the name for these arguments, over the contracts with these
--- names
+-- the command to make the portfolio of the report with the name for these arguments, over the
+-- contracts with these names
 abbrev pub portfolio_of : Name → List Expr → List Name → Command
 portfolio_of x args over = Command.Portfolio x (map expression_of args) over
 

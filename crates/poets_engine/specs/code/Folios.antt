@@ -11,6 +11,7 @@ use Rattle.poets_command.specs.declared.call.Folio.{Folio}
 use Rattle.poets_folio.specs.Rows.{HasRowsOf}
 use Rattle.poets_folio.specs.declared.folio.Part.{Part}
 
--- the rows of the portfolio are those of the parts in order, by the declared names and the report that are shared
+-- the rows of the portfolio are those of the parts in order, by the declared names and the report
+-- that are shared
 abbrev pub HasRowsOfShared : Arc Decls Global → Arc Report Global → Listed (Option Value) → Listed Part → Folio → Type 0
 HasRowsOfShared decls report args parts folio = HasRowsOf (arc_value decls) (arc_value report) args parts folio

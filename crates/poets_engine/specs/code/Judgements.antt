@@ -43,7 +43,8 @@ judged refusal false false c = Owed c
 abbrev pub judge : StudiedBook → Reply → Contract → Judgement
 judge s refusal c = judged refusal (is_failure c) (is_past_limit_in s c) c
 
--- a contract that the rows hold is refused where no number of granted steps performs it, and where it is past the limit
+-- a contract that the rows hold is refused where no number of granted steps performs it, and where
+-- it is past the limit
 abbrev pub judge_rows : StudiedBook → CodeReply → List Node → Judgement
 judge_rows s refusal rows = judge s (reply_of refusal) (contract_of_rows rows)
 

@@ -17,8 +17,8 @@ use Rattle.poets_engine.specs.declared.kept.Body.TheVariants.{Done, Folio}
 use Rattle.poets_engine.specs.Rows.{IsLedger}
 use Rattle.poets_history.specs.Ledger.{is_accepted}
 
--- the command was made: its reply is the one after the ledger of what was kept, what is kept then is that of the ledger
--- with the entry, and a refusal or a look leaves it
+-- the command was made: its reply is the one after the ledger of what was kept, what is kept then
+-- is that of the ledger with the entry, and a refusal or a look leaves it
 pub record Makes (rules : Rules) (command : Command) (old new : StoreView) (r : Reply) : Type 0 where
   pub reply : (l : Ledger) → IsLedger rules l old → RepliesIn (book_of_rules rules) (reports_of_rules rules) l command r
   pub store : (l : Ledger) → IsLedger rules l old → IsLedger rules (with_entry l command r) new

@@ -61,7 +61,8 @@ owed_at points n = contract_of_rows (get_or (values_of points) n [])
 abbrev pub FitsAt : StudiedBook → Listed (Arc (List Node) Global) → (number : ℕ) → Type 0
 FitsAt s points n = CountsFit (book_of s.book) (owed_at points n)
 
--- what is owed was made anew from the piece with the number on, and ahead of that piece it is as it was
+-- what is owed was made anew from the piece with the number on, and ahead of that piece it is as it
+-- was
 abbrev pub IsRenewed :
     StudiedBook → Listed (Arc (List Node) Global) → (pieces : List (List Event)) → (number : ℕ) → Renewal → Type 0
 IsRenewed s points pieces n (R.Refused reply) =

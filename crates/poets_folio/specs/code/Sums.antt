@@ -7,8 +7,8 @@ use Rattle.poets_report.specs.declared.report.Answer.{Answer}
 use Rattle.poets_command.specs.Calls.{folio_row_of}
 use Rattle.poets_command.specs.Totals.{added, if_whole}
 
--- the exact sum of the rows, which is none where a row is undefined or no whole number, or the sum is none of the
--- language
+-- the exact sum of the rows, which is none where a row is undefined or no whole number, or the sum
+-- is none of the language
 abbrev pub sum_of : List (Name × Answer) → Option Value
 sum_of rows = if_whole (fold (λ z row. added z row.1) (Some (pos 0)) (map folio_row_of rows))
 

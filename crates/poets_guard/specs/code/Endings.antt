@@ -10,7 +10,8 @@ use Rattle.poets_syntax.specs.Plain.{Book}
 use Rattle.poets_meaning.specs.May.{May}
 use Rattle.poets_meaning.specs.Marks.{BodySatisfies}
 
--- whether a contract may end, where `says` tells it of templates; where steps are granted, after transmits too
+-- whether a contract may end, where `says` tells it of templates; where steps are granted, after
+-- transmits too
 abbrev pub ends : (granted : Bool) → (says : Name → Bool) → Contract → Bool
 ends granted says Success = true
 ends granted says Failure = false
@@ -32,6 +33,7 @@ IsSound book granted says = (f : Name) → says f ≡ true → BodySatisfies boo
 abbrev pub IsExact : Book → (granted : Bool) → (says : Name → Bool) → Type 0
 IsExact book granted says = (f : Name) → IsTrue (says f) ↔ BodySatisfies book (MayEnd book granted) f
 
--- the set has exactly the names of the templates that may end: by granted steps, or by no step where none is granted
+-- the set has exactly the names of the templates that may end: by granted steps, or by no step
+-- where none is granted
 abbrev pub AreThoseThatEnd : TheBook → (granted : Bool) → BTreeSet Name → Type 0
 AreThoseThatEnd book granted names = IsExact (book_of book) granted (contains name_cmp names)

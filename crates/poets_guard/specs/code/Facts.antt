@@ -1,6 +1,8 @@
 -- Facts of contracts that may end, and the rules by which they follow.
-use Rattle.std.specs.Prelude.{◌≡◌, ℕ, ◌≤◌, ◌<◌, Bool, true, false, ◌&&◌, ◌||◌, if◌then◌else◌, List, [], ◌∷◌, ◌++◌}
-use Rattle.std.specs.Prelude.{length, take, map, All, Option, Some, None, is_some, option_map, Contains, slice_get}
+use Rattle.std.specs.Prelude.{◌≡◌, ℕ, ◌≤◌, ◌<◌, Bool, true, false, ◌&&◌, ◌||◌, if◌then◌else◌, List}
+use Rattle.std.specs.Prelude.{[], ◌∷◌, ◌++◌}
+use Rattle.std.specs.Prelude.{length, take, map, All, Option, Some, None, is_some, option_map}
+use Rattle.std.specs.Prelude.{Contains, slice_get}
 use Rattle.std.specs.Prelude.{slice_index_or}
 use Rattle.std.specs.BTreeMap.{BTreeMap, get}
 use Rattle.std.specs.BTreeSet.{BTreeSet, contains}
@@ -65,14 +67,16 @@ IsClosed known rules =
     (known 0 ≡ true)
     × ((r : Rule) → Contains rules r → known r.first ≡ true → known r.second ≡ true → known r.conclusion ≡ true)
 
--- where what follows is known, of the first so many templates each that may end by what is known is known to
+-- where what follows is known, of the first so many templates each that may end by what is known is
+-- known to
 abbrev pub IsComplete : (granted : Bool) → (facts : Name → Option ℕ) → ℕ → List Template → List Rule → Type 0
 IsComplete granted facts n templates rules =
     (known : ℕ → Bool) → IsClosed known rules → (f : Name) (t : plain.Template) →
     template_in (first_templates n templates) f ≡ Some t → ends granted (says known facts) t.body ≡ true →
     says known facts f ≡ true
 
--- the facts say that these may end, where that of a template says so of its body; and the rules are right
+-- the facts say that these may end, where that of a template says so of its body; and the rules are
+-- right
 pub record AreMeant (book : Book) (granted : Bool) (facts : Name → Option ℕ) (meant : List (List Contract))
     (s : Rules) : Type 0 where
   pub many : length meant ≡ s.count
@@ -87,7 +91,8 @@ pub record GoOn (old new : List (List Contract)) : Type 0 where
   pub longer : length old ≤ length new
   pub same : (k : ℕ) → k < length old → slice_index_or new k [] ≡ slice_index_or old k []
 
--- where a fact is given, a goal follows by the new rules if the contract may end, and may be said only then
+-- where a fact is given, a goal follows by the new rules if the contract may end, and may be said
+-- only then
 pub record AreAdded (granted : Bool) (facts : Name → Option ℕ) (c : Contract) (given goal : ℕ) (old new : Rules) :
     Type 0 where
   pub complete : (known : ℕ → Bool) → IsClosed known new.rules.items →
@@ -115,7 +120,8 @@ abbrev pub AddsRule : (first second goal : ℕ) → (old new : Rules) → Type 0
 AddsRule first second goal old new =
     new.rules.items ≡ old.rules.items ++ record { first = first; second = second; conclusion = goal } ∷ []
 
--- where a fact is given, a goal follows by the new rules if the contract of the term may end, and may be said only then
+-- where a fact is given, a goal follows by the new rules if the contract of the term may end, and
+-- may be said only then
 abbrev pub AddsRules : (granted : Bool) → (facts : BTreeMap Name ℕ) → Term → (given goal : ℕ) → (old new : Rules) →
     Type 0
 AddsRules granted facts term given goal old new =

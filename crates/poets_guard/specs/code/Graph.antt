@@ -1,11 +1,13 @@
 -- The graph of unguarded edges: of each template what its body has in unguarded positions.
-use Rattle.std.specs.Prelude.{◌≡◌, ℕ, ◌+◌, Bool, true, false, List, [], ◌∷◌, ◌++◌, Some, option_map, if◌then◌else◌}
+use Rattle.std.specs.Prelude.{◌≡◌, ℕ, ◌+◌, Bool, true, false, List, [], ◌∷◌, ◌++◌, Some, option_map}
+use Rattle.std.specs.Prelude.{if◌then◌else◌}
 use Rattle.std.specs.BTreeMap.{BTreeMap, get}
 use Rattle.std.specs.BTreeSet.{BTreeSet, contains}
 use Rattle.poets_value.specs.declared.value.Name.{Name}
 use Rattle.poets_value.specs.Names.{name_cmp}
 use Rattle.poets_expr.specs.Size.{nodes, nodes_of_all}
-use Rattle.poets_syntax.specs.Contract.{Contract, contract_of, Success, Failure, Transmit, Plus, Par, Seq, App}
+use Rattle.poets_syntax.specs.Contract.{Contract, contract_of, Success, Failure, Transmit, Plus}
+use Rattle.poets_syntax.specs.Contract.{Par, Seq, App}
 use Rattle.poets_syntax.specs.Plain.{Template}
 use Rattle.poets_syntax.specs.declared.term.Book.{Book}
 use Rattle.poets_syntax.specs.declared.term.Term.{Term}
@@ -15,7 +17,8 @@ use Rattle.poets_meaning.specs.Width.{size, cut}
 use Rattle.poets_guard.specs.declared.graph.Node.{Node}
 use Rattle.poets_guard.specs.code.Endings.{ends}
 
--- the width of a contract without the bodies of the templates that it applies, where `says` tells the nullable ones
+-- the width of a contract without the bodies of the templates that it applies, where `says` tells
+-- the nullable ones
 abbrev pub own : (says : Name → Bool) → Contract → ℕ
 own says Success = 1
 own says Failure = 1
@@ -55,11 +58,13 @@ HasEdge graph f g = (n : Node) × (get name_cmp graph f ≡ Some n) × (is_among
 abbrev pub is_nullable : BTreeSet Name → Term → Bool
 is_nullable nullable term = ends false (contains name_cmp nullable) (contract_of term)
 
--- the width of a term without the bodies of the templates that it applies, where the set has the nullable ones
+-- the width of a term without the bodies of the templates that it applies, where the set has the
+-- nullable ones
 abbrev pub own_of : BTreeSet Name → Term → ℕ
 own_of nullable term = own (contains name_cmp nullable) (contract_of term)
 
--- the names that a term applies in unguarded positions, each as often as it does, where the set has the nullable ones
+-- the names that a term applies in unguarded positions, each as often as it does, where the set has
+-- the nullable ones
 abbrev pub exposures_of : BTreeSet Name → Term → List Name
 exposures_of nullable term = exposures (contains name_cmp nullable) (contract_of term)
 

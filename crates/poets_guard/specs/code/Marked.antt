@@ -19,7 +19,8 @@ pub record IsMarked (graph : BTreeMap Name Node) (is_nullable is_hopeful : Name 
   pub hopeful : m.hopeful ≡ is_hopeful t.name
   pub wide : HasWidth graph t.name m.wide
 
--- the marks, if there are any, are those of the book's templates in their order, and say what is found of their names
+-- the marks, if there are any, are those of the book's templates in their order, and say what is
+-- found of their names
 abbrev pub AreMarksIfAny : Book → (nullable hopeful : BTreeSet Name) → BTreeMap Name Node → Option (Listed Mark) →
     Type 0
 AreMarksIfAny book nullable hopeful graph found =

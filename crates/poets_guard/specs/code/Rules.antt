@@ -1,5 +1,6 @@
 -- What follows from facts by rules of two premises.
-use Rattle.std.specs.Prelude.{◌≡◌, ◌⊎◌, ℕ, ◌+◌, ◌*◌, ◌<◌, ◌≤◌, Bool, true, false, not, List, [], ◌∷◌, ◌++◌, length, map}
+use Rattle.std.specs.Prelude.{◌≡◌, ◌⊎◌, ℕ, ◌+◌, ◌*◌, ◌<◌, ◌≤◌, Bool, true, false, not, List, []}
+use Rattle.std.specs.Prelude.{◌∷◌, ◌++◌, length, map}
 use Rattle.std.specs.Prelude.{All, Contains, slice_index_or, slice_set}
 use Rattle.std.specs.List.{count_by, sum_by}
 use Rattle.std.specs.declared.alloc.Global.{Global}

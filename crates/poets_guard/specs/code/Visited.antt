@@ -1,5 +1,6 @@
 -- What a visit of the graph leaves: open and closed names, and those on cycles.
-use Rattle.std.specs.Prelude.{◌≡◌, ℕ, ◌+◌, ◌≤◌, ◌⊎◌, true, cond, [], ◌∷◌, ◌++◌, length, take, Some, None, IsSome}
+use Rattle.std.specs.Prelude.{◌≡◌, ℕ, ◌+◌, ◌≤◌, ◌⊎◌, true, cond, [], ◌∷◌, ◌++◌, length, take, Some}
+use Rattle.std.specs.Prelude.{None, IsSome}
 use Rattle.std.specs.Prelude.{slice_get}
 use Rattle.std.specs.Ordering.{is_eq}
 use Rattle.std.specs.BTreeMap.{BTreeMap, get}
@@ -62,7 +63,8 @@ pub record AreGrown (old new : Visits) : Type 0 where
   pub still : (f : Name) → contains name_cmp old.on_cycles f ≡ true → contains name_cmp new.on_cycles f ≡ true
   pub as_many : length old.heights.entries ≤ length new.heights.entries
 
--- those that are open above lie on cycles, lead to open names from the least height on, and to what the others lead to
+-- those that are open above lie on cycles, lead to open names from the least height on, and to what
+-- the others lead to
 pub record AreOpened (graph : BTreeMap Name Node) (least : ℕ) (old new : Visits) : Type 0 where
   pub grown : AreGrown old new
   pub above : (k : ℕ) (f : Name) → length old.stack.items ≤ k → IsOpenAt new k f →

@@ -1,5 +1,6 @@
 -- Walks over the graph: the widths that it gives, and its cycles.
-use Rattle.std.specs.Prelude.{◌≡◌, ◌↔◌, ℕ, ◌+◌, true, IsTrue, List, ◌∷◌, map, length, Option, Some, None, sum_by}
+use Rattle.std.specs.Prelude.{◌≡◌, ◌↔◌, ℕ, ◌+◌, true, IsTrue, List, ◌∷◌, map, length, Option, Some}
+use Rattle.std.specs.Prelude.{None, sum_by}
 use Rattle.std.specs.BTreeMap.{BTreeMap, get}
 use Rattle.std.specs.BTreeSet.{BTreeSet, contains}
 use Rattle.poets_value.specs.declared.value.Name.{Name}
@@ -23,7 +24,8 @@ HasCycle graph = (names : List Name) × IsCycle (HasEdge graph) names
 pub data PathsEnd (graph : BTreeMap Name Node) : Name → Type 0 where
   Ends : {f : Name} → ((g : Name) → HasEdge graph f g → PathsEnd graph g) → PathsEnd graph f
 
--- the width at a node, where `width` gives those of other names: its own, and those of the names that it exposes
+-- the width at a node, where `width` gives those of other names: its own, and those of the names
+-- that it exposes
 abbrev pub width_at : (width : Name → ℕ) → Option Node → ℕ
 width_at width None = 0
 width_at width (Some n) = cut (n.own + sum_by width n.exposed.items)

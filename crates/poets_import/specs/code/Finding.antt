@@ -93,7 +93,8 @@ ShowsOwed owed _ = Unit {0}
 abbrev pub IsToldWith : Table → Declared → Option Contract → plain.Reply → Type 0
 IsToldWith names declared owed r = IsTold names declared r × (owed_of r ≡ owed)
 
--- the reply has no values; a name in it is that of its text, its day is one of the language, and this is what it shows
+-- the reply has no values; a name in it is that of its text, its day is one of the language, and
+-- this is what it shows
 abbrev pub IsBare : Table → Option Contract → plain.Reply → Type 0
 IsBare names owed (plain.NoContract x) = IsPlaced names x
 IsBare names owed (plain.Late day) = IsDayNumber day

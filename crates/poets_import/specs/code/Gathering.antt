@@ -11,7 +11,8 @@ use Rattle.poets_syntax.specs.Book.{template_of}
 use Rattle.poets_syntax.specs.TypeOf.{Scope, type_in}
 use Rattle.poets_report.specs.Reports.{report_of}
 use Rattle.poets_command.specs.Said.{Statement}
-use Rattle.poets_command.specs.Declarations.{agents_and_kinds, declared_by, report_in_statement, reports_of}
+use Rattle.poets_command.specs.Declarations.{agents_and_kinds, declared_by, report_in_statement}
+use Rattle.poets_command.specs.Declarations.{reports_of}
 use Rattle.poets_command.specs.Declarations.{template_in_statement}
 use Rattle.poets_import.specs.declared.book.Declared.{Declared}
 

@@ -1,5 +1,6 @@
 -- Members of objects.
-use Rattle.std.specs.Prelude.{ℕ, ◌^◌, Bool, List, Option, Some, None, codes, if◌then◌else◌, nat_lt, option_and_then}
+use Rattle.std.specs.Prelude.{ℕ, ◌^◌, Bool, List, Option, Some, None, codes, if◌then◌else◌, nat_lt}
+use Rattle.std.specs.Prelude.{option_and_then}
 use Rattle.serde_json.specs.Data.{Data, Items}
 use Rattle.serde_json.specs.Find.{at, get, as_str, as_number, as_bool, as_array, as_u64}
 use Rattle.serde_json.specs.View.{items_view}

@@ -3,7 +3,8 @@ use Rattle.std.specs.Prelude.{◌≡◌, ◌≢◌, ℕ, ◌+◌, ◌<◌, List,
 use Rattle.poets_disk.specs.Disks.{Seen, IsSure, longest_file}
 use Rattle.poets_journal.specs.Texts.{AreRecords, IsFrame}
 
--- the file is records of these texts, then a gate that is not open, at that place, and then the rest
+-- the file is records of these texts, then a gate that is not open, at that place, and then the
+-- rest
 pub record HasGate (file : List ℕ) (texts : List (List ℕ)) (front : List ℕ) (gate : ℕ) (rest : List ℕ) : Type 0 where
   pub is : file ≡ front ++ gate ∷ rest
   pub records : (other : List ℕ) → AreRecords (front ++ other) texts other

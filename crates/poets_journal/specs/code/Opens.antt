@@ -2,7 +2,8 @@
 use Rattle.std.specs.Prelude.{◌≡◌, ℕ, ◌+◌, ◌≤◌, Bool, false, List, length, take, Result, Ok, Err}
 use Rattle.poets_journal.specs.Texts.{AreRecords, IsClosed}
 use Rattle.poets_journal.specs.declared.start.OpenFault.{OpenFault}
-use Rattle.poets_journal.specs.declared.start.OpenFault.TheVariants.{Disk as DiskFailed, Damaged, Memory as NoMemory}
+use Rattle.poets_journal.specs.declared.start.OpenFault.TheVariants.{Disk as DiskFailed, Damaged}
+use Rattle.poets_journal.specs.declared.start.OpenFault.TheVariants.{Memory as NoMemory}
 
 -- this holds of the record's number where one is damaged
 abbrev pub OnNumber : {T : Type 0} → Result T OpenFault → (ℕ → Type 0) → Type 0

@@ -43,7 +43,8 @@ module _ {D : Type 0} (seen : D → Seen) (faults : D → ℕ) where
       KeepsSession seen faults session.names statements sink.before sink.after disk result.disk
       result.status (history_of result.history.items) result.stored
 
-  -- the calls of the journal were made under the session's book, by the changes of the sink and the disk
+  -- the calls of the journal were made under the session's book, by the changes of the sink and the
+  -- disk
   abbrev pub Recovers : Session → (sink : Change) → (disk : D) → KeptOutcome D → Type 0
   Recovers session sink disk result =
       (statements : List Statement) → IsReadFrom F.Book statements session →

@@ -29,8 +29,8 @@ FirstForEachTable place text token = (table : Table) → FirstToken table place 
 abbrev pub BeginsWithNoDay : List ℕ → Type 0
 BeginsWithNoDay text = (front : List ℕ) (day : ℤ) → IsDay front day → ¬ (Begins front text)
 
--- the piece of so many bytes begins the text, which begins at the place; its token, if it is one, stands after the
--- others
+-- the piece of so many bytes begins the text, which begins at the place; its token, if it is one,
+-- stands after the others
 pub record TakesPiece (before : Table) (place : ℕ) (text : List ℕ) (old : List Token) (size : ℕ) (new : List Token)
     (after : Table) : Type 0 where
   pub bytes : List ℕ

@@ -1,5 +1,6 @@
 -- The texts of names and of resources alone, and what texts of numbers and of resources look like.
-use Rattle.std.specs.Prelude.{◌≡◌, ◌≢◌, ◌⊎◌, ◌<◌, ◌++◌, [], ◌∷◌, List, ℕ, codes, length, slice_index}
+use Rattle.std.specs.Prelude.{◌≡◌, ◌≢◌, ◌⊎◌, ◌<◌, ◌++◌, [], ◌∷◌, List, ℕ, codes, length}
+use Rattle.std.specs.Prelude.{slice_index}
 use Rattle.std.specs.Int.{IsInRange}
 use Rattle.poets_value.specs.declared.value.Name.{Name}
 use Rattle.poets_value.specs.declared.value.Ty.{Ty}

@@ -1,5 +1,6 @@
 -- What the private functions say of courses.
-use Rattle.std.specs.Prelude.{◌≡◌, ℕ, ◌-◌, ◌≤◌, ◌<◌, List, ◌++◌, Option, Some, None, length, slice_get, take, unwrap_or}
+use Rattle.std.specs.Prelude.{◌≡◌, ℕ, ◌-◌, ◌≤◌, ◌<◌, List, ◌++◌, Option, Some, None, length}
+use Rattle.std.specs.Prelude.{slice_get, take, unwrap_or}
 use Rattle.poets_value.specs.declared.event.Event.{Event}
 use Rattle.poets_value.specs.declared.value.Value.{Value}
 use Rattle.poets_expr.specs.declared.env.Decls.{Decls}

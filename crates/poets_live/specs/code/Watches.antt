@@ -22,7 +22,8 @@ LeadsToLog decls log w step = Leads (declared_of decls.names) (events_of log) w 
 abbrev pub BroughtUnder : Decls → Event → WatchView → Move → Type 0
 BroughtUnder decls e w step = Brought (declared_of decls.names) e w step
 
--- each watch was asked what an event brings under the declared names: it answers as before, and has room for it
+-- each watch was asked what an event brings under the declared names: it answers as before, and has
+-- room for it
 abbrev pub AllSeen : Decls → Event → (old new : List WatchState) → Listed Move → Type 0
 AllSeen decls e old new moves = AllOfThree (IsSeen (declared_of decls.names) e) old new moves.items
 

@@ -1,5 +1,6 @@
 -- Applications in normal forms.
-use Rattle.std.specs.Prelude.{◌≡◌, ◌+◌, ◌≤◌, ℕ, List, map, Option, None, Some, option_map, Result, IfOk}
+use Rattle.std.specs.Prelude.{◌≡◌, ◌+◌, ◌≤◌, ℕ, List, map, Option, None, Some, option_map, Result}
+use Rattle.std.specs.Prelude.{IfOk}
 use Rattle.std.specs.Borrow.{Bor}
 use Rattle.std.specs.Option.{option_map_or}
 use Rattle.poets_value.specs.declared.value.Name.{Name}
@@ -42,7 +43,7 @@ applied_to f kept = applied f (option_map (λ r. map expression_of r.items) kept
 abbrev pub Keeps : {E : Type 0} → Name → Result (Option (Listed Expr)) E → Contract → Type 0
 Keeps f result c = IfOk result (λ kept. applied_to f kept ≡ c)
 
--- where there is a result, the count of what was asked and what the kept arguments have to be asked stay within the
--- limit
+-- where there is a result, the count of what was asked and what the kept arguments have to be asked
+-- stay within the limit
 abbrev pub KeepsWithin : {E : Type 0} → Name → Result (Option (Listed Expr)) E → (asks limit : ℕ) → Type 0
 KeepsWithin f result asks limit = IfOk result (λ kept. asks + questions (applied_to f kept) ≤ limit)

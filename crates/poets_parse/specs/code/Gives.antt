@@ -1,5 +1,6 @@
 -- What a reader of the code answers, against reading on lists.
-use Rattle.std.specs.Prelude.{◌≡◌, ◌<◌, List, length, map, Option, Some, None, Result, Ok, Err, IfOk, option_map}
+use Rattle.std.specs.Prelude.{◌≡◌, ◌<◌, List, length, map, Option, Some, None, Result, Ok, Err}
+use Rattle.std.specs.Prelude.{IfOk, option_map}
 use Rattle.std.specs.Borrow.{Bor}
 use Rattle.poets_value.specs.Listed.{Listed}
 use Rattle.poets_value.specs.declared.value.Name.{Name}

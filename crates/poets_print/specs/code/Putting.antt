@@ -10,7 +10,8 @@ use Rattle.poets_command.specs.declared.call.Folio.{Folio}
 use Rattle.poets_command.specs.Calls.{folio_row_of}
 use Rattle.poets_command.specs.Plain.{Reply}
 use Rattle.poets_lex.specs.Table.{Table}
-use Rattle.poets_print.specs.Texts.{name_text, bracketed, behind_commas, listed, expression_text, contract_text}
+use Rattle.poets_print.specs.Texts.{name_text, bracketed, behind_commas, listed, expression_text}
+use Rattle.poets_print.specs.Texts.{contract_text}
 use Rattle.poets_print.specs.Lines.{part_text, reply_text}
 
 -- names, with `, ` between them
@@ -37,7 +38,8 @@ contract_part names in_brackets part = bracketed in_brackets (contract_text name
 abbrev pub folio_text : Table → Folio → List ℕ
 folio_text names folio = reply_text names (Reply.Folio (map folio_row_of folio.rows.items) folio.total)
 
--- what a contract's residual is, how many events it stands after, and whether it may end or was ended
+-- what a contract's residual is, how many events it stands after, and whether it may end or was
+-- ended
 abbrev pub shown_text : Table → Term → ℕ → (may_end ended : Bool) → List ℕ
 shown_text names residual count may_end ended =
     reply_text names (Reply.Shown (contract_of residual) count may_end ended)

@@ -1,5 +1,6 @@
 -- Calls that are read, of which it is not yet known whether they are typed.
-use Rattle.std.specs.Prelude.{◌≡◌, ◌≢◌, ℕ, ◌+◌, ◌≤◌, ◌<◌, ◌⊎◌, List, [], ◌∷◌, ◌++◌, length, take, Some, All, slice_get}
+use Rattle.std.specs.Prelude.{◌≡◌, ◌≢◌, ℕ, ◌+◌, ◌≤◌, ◌<◌, ◌⊎◌, List, [], ◌∷◌, ◌++◌, length, take}
+use Rattle.std.specs.Prelude.{Some, All, slice_get}
 use Rattle.std.specs.Arc.{arc_value}
 use Rattle.std.specs.declared.alloc.Global.{Global}
 use Rattle.std.specs.declared.sync.Arc.{Arc}
@@ -65,8 +66,8 @@ SaysNone before text = (clerk : ℕ) (command : Command) (after : Table) → ¬ 
 
 -- ---- texts
 
--- after texts with so many bytes and a table of names, reading stops: at a text that brings the bytes past the most or
--- says no call, or at the end, with this table
+-- after texts with so many bytes and a table of names, reading stops: at a text that brings the
+-- bytes past the most or says no call, or at the end, with this table
 abbrev pub StopsAt : ℕ → Table → List (List ℕ) → Table → Type 0
 StopsAt bytes between [] names = between ≡ names
 StopsAt bytes between (text ∷ rest) names = (most_stored < bytes + length text) ⊎ SaysNone between text
@@ -84,7 +85,8 @@ pub record AreReadAs (before : Table) (texts : List (List ℕ)) (calls : List Ca
 abbrev pub AreRead : Table → List (List ℕ) → Table → Listed CodeCall → Type 0
 AreRead before texts names calls = AreReadAs before texts (calls_in calls.items) names
 
--- so many of the texts say these calls, one after the other, and leave so many bytes of the most, and this table
+-- so many of the texts say these calls, one after the other, and leave so many bytes of the most,
+-- and this table
 pub record HaveSaid
     (before : Table) (texts : List (List ℕ)) (count : ℕ) (room : ℕ) (calls : List Call) (names : Table) : Type 0 where
   pub say : AreCalls SaysCall before (take count texts) calls names

@@ -25,12 +25,14 @@ parts_of b e =
     (b.sender, Some (V.Agent e.sender)) ∷ (b.receiver, Some (V.Agent e.receiver))
     ∷ (b.what, Some (V.Resource e.what)) ∷ (b.day, Some (V.Day e.day)) ∷ []
 
--- under whatever declared names and arguments this is the report's start, this is its answer over no event
+-- under whatever declared names and arguments this is the report's start, this is its answer over
+-- no event
 abbrev pub IsFirstAnswer : Report → Option Value → Running → Type 0
 IsFirstAnswer report began running = (declared : Declared) (args : List (Option Value)) →
     began ≡ start declared (report_of report) args → IsAnswer declared (report_of report) args [] (answer_in running)
 
--- where these are the parameters with any arguments, and the report has a key, this is the key on the event
+-- where these are the parameters with any arguments, and the report has a key, this is the key on
+-- the event
 abbrev pub IsKeyOn : Decls → Report → Env → Event → Option Value → Type 0
 IsKeyOn decls report env e found =
     (args : List (Option Value)) (key : Expression) → env ≡ given (report_of report) args →

@@ -30,7 +30,8 @@ marks_by d = marks_of d.studied.now
 abbrev pub AreRightNotes : Derivation → Derived → Type 0
 AreRightNotes d t = AreNotes (book_by d) (marks_by d) d.event.now t.arena (noted t.memo)
 
--- the contract can be derived: the book is studied, the contract's applications fit, and what is noted is right
+-- the contract can be derived: the book is studied, the contract's applications fit, and what is
+-- noted is right
 pub record CanDerive (d : Derivation) (t : Derived) (c : Contract) : Type 0 where
   pub studied : IsStudied (book_by d) (marks_by d)
   pub fits : CountsFit (book_by d) c
@@ -55,13 +56,14 @@ HasNoted t c = IsNoted t.arena (noted t.memo) c
 abbrev pub HasNotedBut : Contract → Derived → Contract → Type 0
 HasNotedBut c t k = IsNotedBut c t.arena (noted t.memo) k
 
--- a residual of the contract asks at most what the contract itself may ask, and the widths of the bodies that it
--- exposes
+-- a residual of the contract asks at most what the contract itself may ask, and the widths of the
+-- bodies that it exposes
 abbrev pub AsksInWidth : Book → Marks → Contract → (start stop : ℕ) → Type 0
 AsksInWidth book marks c start stop = stop + size c ≤ start + questions c + width book marks c
 
--- the call only added rows and right notes, what it answers is such a result, and what it asked is little: no more than
--- the contract is wide, and paid for by parts of it that were not noted before the call and are after it
+-- the call only added rows and right notes, what it answers is such a result, and what it asked is
+-- little: no more than the contract is wide, and paid for by parts of it that were not noted before
+-- the call and are after it
 pub record HasDerived (d : Derivation) (c : Contract) {A E : Type 0} (IsResult : A → Type 0)
     (IsNotedNow : Contract → Type 0) (old new : Derived) (start stop : ℕ) (answer : Result A E) : Type 0 where
   pub grows : Extends old.arena new.arena

@@ -17,8 +17,9 @@ IsNoted nodes memo c = (k : ℕ) × (v : ℕ) × (memo k ≡ Some v) × (contrac
 abbrev pub IsNotedBut : Contract → List Node → (ℕ → Option ℕ) → Contract → Type 0
 IsNotedBut c nodes memo d = (d ≡ c) ⊎ IsNoted nodes memo d
 
--- different transmits and applications that stand ready in the contract and were not noted before the call pay for what
--- it asks; where it has a result they are noted after it, beside those that were
+-- different transmits and applications that stand ready in the contract and were not noted before
+-- the call pay for what it asks; where it has a result they are noted after it, beside those that
+-- were
 pub record IsSpent (book : Book) (marks : Marks) (c : Contract) (Before After : Contract → Type 0) (old new : ℕ)
     {A E : Type 0} (r : Result A E) : Type 0 where
   pub begun : List Contract

@@ -21,8 +21,8 @@ use Rattle.poets_cons.specs.Table.{contract_at}
 abbrev pub holds_of : Decls → Binders → Event → (when : Expr) → Bool
 holds_of decls binders e when = is_true (val (declared_of decls.names) (taken binders e []) (expression_of when))
 
--- what a transmission before a row leads to where it took the event: the row's contract with the binders replaced, in
--- normal form
+-- what a transmission before a row leads to where it took the event: the row's contract with the
+-- binders replaced, in normal form
 abbrev pub taken_at : StudiedBook → Binders → Event → List Node → (then : ℕ) → Contract
 taken_at s binders e nodes then = normal_in s (replace (event_givens binders e) (contract_at nodes then))
 

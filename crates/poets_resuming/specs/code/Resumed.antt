@@ -13,7 +13,8 @@ use Rattle.poets_keeping.specs.declared.outcome.KeptOutcome.{KeptOutcome}
 use Rattle.poets_resuming.specs.Resuming.{ResumesSession}
 
 module _ {D : Type 0} (seen : D → Seen) (faults : D → ℕ) where
-  -- the journal was gone on with by the calls of the session, by the changes of the sink and the disk
+  -- the journal was gone on with by the calls of the session, by the changes of the sink and the
+  -- disk
   abbrev pub Resumes : Session → (sink : Change) → (disk : D) → KeptOutcome D → Type 0
   Resumes session sink disk result =
       (statements : List Statement) → IsReadFrom F.Clerks statements session →

@@ -13,8 +13,8 @@ use Rattle.poets_way.specs.Ways.{Ways}
 use Rattle.poets_route.specs.code.Choices.{IsAlternative}
 use Rattle.poets_route.specs.code.Undone.{IsFormed}
 
--- the event and then so many perform the contract in the second way, where these perform an alternative of its residual
--- in the first
+-- the event and then so many perform the contract in the second way, where these perform an
+-- alternative of its residual in the first
 abbrev pub Backs : Book → Marks → Event → ℕ → (c alternative : Contract) → (from to : Way) → Type 0
 Backs book marks e n c a v w = (s : List Event) → length s ≡ n →
     IsAlternative (after book marks e c) a → Ways book [] a s v → Ways book [] c (e ∷ s) w
@@ -24,7 +24,8 @@ abbrev pub BacksWhole : Book → Marks → Event → ℕ → (c whole : Contract
 BacksWhole book marks e n c r v w = (s : List Event) → length s ≡ n →
     r ≡ after book marks e c → Ways book [] r s v → Ways book [] c (e ∷ s) w
 
--- the same of two contracts side by side, where the first one took the event, and where the second one did
+-- the same of two contracts side by side, where the first one took the event, and where the second
+-- one did
 abbrev pub ByFirst : Book → Marks → Event → ℕ → (a b alternative : Contract) → (from to : Way) → Type 0
 ByFirst book marks e n a b c v w = (s : List Event) → length s ≡ n →
     IsAlternative (par (after book marks e a) b) c → Ways book [] c s v → Ways book [] (Par a b) (e ∷ s) w

@@ -21,7 +21,8 @@ pub record IsTakeAt (t : TrailsView) (number part : ℕ) : Type 0 where
   pub within : part < length t.ways
   pub way : way_at t number ≡ W.Take (way_at t part)
 
--- the way with a number is that of two contracts side by side, by the sides and the ways with others
+-- the way with a number is that of two contracts side by side, by the sides and the ways with
+-- others
 pub record IsBothAt (t : TrailsView) (number sides first second : ℕ) : Type 0 where
   pub sides_within : sides < length t.sides
   pub first_within : first < length t.ways

@@ -24,8 +24,8 @@ through book marks c s = fold (λ d e. after book marks e d) c s
 abbrev pub through_in : StudiedBook → Contract → List Event → Contract
 through_in s c events = through (book_of s.book) (marks_of s) c events
 
--- the piece and then so many events perform the contract in the second way, where these perform what the piece leaves
--- in the first
+-- the piece and then so many events perform the contract in the second way, where these perform
+-- what the piece leaves in the first
 abbrev pub BacksOver : Book → Marks → ℕ → Contract → (piece : List Event) → (from to : Way) → Type 0
 BacksOver book marks n c piece v w = (s : List Event) → length s ≡ n →
     Ways book [] (through book marks c piece) s v → Ways book [] c (piece ++ s) w
@@ -48,13 +48,14 @@ pub record ArePieces (size pieces events : ℕ) : Type 0 where
   pub some : pieces ≡ 0 → events ≡ 0
   pub begin : (k : ℕ) → k < pieces → size * k ≤ events
 
--- the events perform the contract whose stations the rows are in the second way, where the empty trace performs what
--- they leave in the first
+-- the events perform the contract whose stations the rows are in the second way, where the empty
+-- trace performs what they leave in the first
 abbrev pub BacksAllIn : StudiedBook → (size : ℕ) → List (List Node) → (events : List Event) → (from to : Way) → Type 0
 BacksAllIn s size rows events v w = (c : Contract) → AreStations s c events size rows →
     Ways (book_of s.book) [] (through_in s c events) [] v → Ways (book_of s.book) [] c events w
 
--- the rows are the stations, and the last ones those after all events; there is a station where there is an event
+-- the rows are the stations, and the last ones those after all events; there is a station where
+-- there is an event
 pub record Passes (s : StudiedBook) (c : Contract) (events : List Event) (size : ℕ) (rows : List (List Node))
     (last : List Node) : Type 0 where
   pub stations : AreStations s c events size rows

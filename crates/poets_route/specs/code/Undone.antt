@@ -16,8 +16,8 @@ use Rattle.poets_way.specs.Way.{Way}
 use Rattle.poets_way.specs.Ways.{Ways}
 use Rattle.poets_route.specs.code.Choices.{IsAlternative}
 
--- so many events perform the contract in the second way, where these perform an alternative of its normal form in the
--- first
+-- so many events perform the contract in the second way, where these perform an alternative of its
+-- normal form in the first
 abbrev pub Undoes : Book → Marks → ℕ → (c alternative : Contract) → (from to : Way) → Type 0
 Undoes book marks n c a v w = (env : Env) → KeepsDeclared book.declared env → (s : List Event) → length s ≡ n →
     IsAlternative (normal book marks c) a → Ways book env a s v → Ways book env c s w
@@ -31,7 +31,8 @@ UndoesWhole book marks n c r v w = (env : Env) → KeepsDeclared book.declared e
 abbrev pub Ends : Book → Contract → Way → Type 0
 Ends book c w = (env : Env) → Ways book env c [] w
 
--- in a studied book a well-formed contract, where each application has as many arguments as its template has parameters
+-- in a studied book a well-formed contract, where each application has as many arguments as its
+-- template has parameters
 pub record IsFormed (book : Book) (marks : Marks) (c : Contract) : Type 0 where
   pub studied : IsStudied book marks
   pub formed : IsWellFormed book.declared c

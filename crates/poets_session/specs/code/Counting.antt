@@ -1,5 +1,6 @@
 -- What the code counts.
-use Rattle.std.specs.Prelude.{◌≡◌, ◌≤◌, true, false, List, [], ◌∷◌, ◌++◌, Option, Some, IfSome, IfNone, option_map}
+use Rattle.std.specs.Prelude.{◌≡◌, ◌≤◌, true, false, List, [], ◌∷◌, ◌++◌, Option, Some, IfSome}
+use Rattle.std.specs.Prelude.{IfNone, option_map}
 use Rattle.std.specs.Prelude.{count_by}
 use Rattle.poets_value.specs.Limits.{most_clerks}
 use Rattle.poets_command.specs.Said.{Statement}
@@ -20,8 +21,8 @@ abbrev pub fault_of : PlaceFault → P.PlaceFault
 fault_of (F.Misplaced number) = P.Misplaced number
 fault_of (F.TooMany number) = P.TooMany number
 
--- the answer is the part in which a statement stands that follows one of the part, and none where it may not stand
--- there
+-- the answer is the part in which a statement stands that follows one of the part, and none where
+-- it may not stand there
 abbrev pub IsNextPart : Form → Part → Statement → Option Part → Type 0
 IsNextPart form part s next = option_map part_of next ≡ P.next_part form (part_of part) s
 
@@ -42,12 +43,14 @@ pub record AreCounted (statements : List Statement) (counts : Counts) : Type 0 w
   pub reports : counts.reports ≡ count_by P.is_report statements
   pub commands : counts.commands ≡ count_by P.is_command statements
 
--- after any statements with these counts: the counts that are answered are those with this statement
+-- after any statements with these counts: the counts that are answered are those with this
+-- statement
 abbrev pub CountsMore : Counts → Statement → Option Counts → Type 0
 CountsMore counts s more =
     (before : List Statement) → AreCounted before counts → IfSome more (AreCounted (before ++ s ∷ []))
 
--- after any statements with these counts: where counts are answered, this statement is not one too many
+-- after any statements with these counts: where counts are answered, this statement is not one too
+-- many
 abbrev pub FewIfSome : Counts → Statement → Option Counts → Type 0
 FewIfSome counts s more =
     (before : List Statement) → AreCounted before counts → IfSome more (λ _. P.is_too_many before s ≡ false)

@@ -6,7 +6,8 @@ use Rattle.std.specs.declared.sync.Arc.{Arc}
 use Rattle.poets_command.specs.Calls.{command_of}
 use Rattle.poets_command.specs.declared.call.Command.{Command as CodeCommand}
 use Rattle.poets_command.specs.Said.{Statement, Command, Numbered}
-use Rattle.poets_session.specs.Sessions.{commands_in, calls_in, scripts_of, journal_of, numbered_call}
+use Rattle.poets_session.specs.Sessions.{commands_in, calls_in, scripts_of, journal_of}
+use Rattle.poets_session.specs.Sessions.{numbered_call}
 use Rattle.poets_session.specs.declared.scripts.Calls.{Calls}
 
 -- 32 bits hold the number of the statement's clerk, if it has one
@@ -26,12 +27,14 @@ HasScripts statements calls = commands_in calls.scripts.items ≡ scripts_of sta
 abbrev pub HasJournal : List Statement → Calls → Type 0
 HasJournal statements calls = calls_in calls.journal.items ≡ journal_of statements
 
--- the scripts of any statements become those of the statements and this one after them, if memory is found for it
+-- the scripts of any statements become those of the statements and this one after them, if memory
+-- is found for it
 abbrev pub AddsToScripts : {X E : Type 0} → (old new : Calls) → Statement → Result X E → Type 0
 AddsToScripts old new s result =
     (before : List Statement) → HasScripts before old → IfOk result (λ _. HasScripts (before ++ s ∷ []) new)
 
--- the call of the statement, if it is one, comes after those of the journal, if memory is found for it
+-- the call of the statement, if it is one, comes after those of the journal, if memory is found for
+-- it
 abbrev pub AddsToJournal : {X E : Type 0} → (old new : Calls) → Statement → Result X E → Type 0
 AddsToJournal old new s result =
     IfOk result (λ _. calls_in new.journal.items ≡ calls_in old.journal.items ++ numbered_call s)

@@ -10,7 +10,8 @@ use Rattle.poets_table.specs.Pieces.{EventsView, joined, starts_of}
 use Rattle.poets_table.specs.TableView.{RowView, changed_at, row_view, values_of}
 use Rattle.poets_table.specs.declared.table.Row.{Row}
 
--- the event at a place of the list stands in the piece with this number, at the place `inside` of it
+-- the event at a place of the list stands in the piece with this number, at the place `inside` of
+-- it
 pub record IsPlaceIn (pieces : List (List Event)) (place number inside : ℕ) : Type 0 where
   pub piece : List Event
   pub here : slice_get pieces number ≡ Some piece
@@ -24,7 +25,8 @@ pub record IsWithout (place : ℕ) (old new : List (List Event)) : Type 0 where
   pub at : IsPlaceIn old place number inside
   pub changed : new ≡ set old number (remove at.piece inside)
 
--- ahead of a pair, how many of those behind the one that is looked for are left; none where it is the pair
+-- ahead of a pair, how many of those behind the one that is looked for are left; none where it is
+-- the pair
 abbrev pub left_ahead : (is_one : Bool) → ℕ → Option ℕ
 left_ahead false left = Some left
 left_ahead true zero = None

@@ -1,5 +1,6 @@
 -- What explains a contract by its account.
-use Rattle.std.specs.Prelude.{◌≡◌, ℕ, Bool, IsTrue, ◌↔◌, List, [], ◌++◌, length, String, string_bytes}
+use Rattle.std.specs.Prelude.{◌≡◌, ℕ, Bool, IsTrue, ◌↔◌, List, [], ◌++◌, length, String}
+use Rattle.std.specs.Prelude.{string_bytes}
 use Rattle.std.specs.declared.alloc.Global.{Global}
 use Rattle.poets_syntax.specs.Book.{book_of}
 use Rattle.poets_syntax.specs.Contract.{contract_of}
@@ -16,8 +17,8 @@ use Rattle.poets_engine.specs.declared.accounts.Account.{Account}
 use Rattle.poets_top.specs.Explaining.{Explains, TellsWay, contract_line, next_lines}
 use Rattle.poets_making.specs.Noted.{AreNoted}
 
--- the text tells how many events there are, whether the empty trace performs the residual, what the residual takes
--- next, and a way; and the book was studied
+-- the text tells how many events there are, whether the empty trace performs the residual, what the
+-- residual takes next, and a way; and the book was studied
 pub record ExplainsAccount (s : StudiedBook) (names : Table) (name : List ℕ) (a : Account)
     (text : String Global) : Type 0 where
   pub studied : IsStudiedBook (book_of s.book) s.marks

@@ -1,5 +1,6 @@
 -- What the private functions ask of a seat, and what they leave of it.
-use Rattle.std.specs.Prelude.{◌≡◌, ℕ, ◌+◌, ◌<◌, ◌≤◌, ◌^◌, List, [], ◌∷◌, ◌++◌, Option, Some, None, Result, MatchResult}
+use Rattle.std.specs.Prelude.{◌≡◌, ℕ, ◌+◌, ◌<◌, ◌≤◌, ◌^◌, List, [], ◌∷◌, ◌++◌, Option, Some, None}
+use Rattle.std.specs.Prelude.{Result, MatchResult}
 use Rattle.std.specs.Prelude.{All}
 use Rattle.std.specs.declared.alloc.Global.{Global}
 use Rattle.std.specs.declared.sync.Arc.{Arc}
@@ -7,7 +8,8 @@ use Rattle.std.specs.Arc.{arc_value}
 use Rattle.atomic_table.specs.Table.{Me}
 use Rattle.atomic_table.specs.declared.shared.Seat.{Seat}
 use Rattle.poets_value.specs.Listed.{Listed}
-use Rattle.poets_turn.specs.Clerks.{IsCall, IsFresh, KnowsClerk, calls, clerk_count, front, number, turn_frame}
+use Rattle.poets_turn.specs.Clerks.{IsCall, IsFresh, KnowsClerk, calls, clerk_count, front, number}
+use Rattle.poets_turn.specs.Clerks.{turn_frame}
 use Rattle.poets_turn.specs.declared.types.Turn.{Turn}
 use Rattle.poets_turn.specs.declared.types.ClerkOf.{ClerkOf}
 use Rattle.poets_turn.specs.declared.view.View.{View}
@@ -19,12 +21,13 @@ module _ {M C F : Type 0} where
   abbrev pub MayDraw : Me (Option M) (View C F) → Type 0
   MayDraw me = (me.0.stage ≡ Idle) × (me.1 ≡ []) × (0 < me.0.number)
 
-  -- the seat is that of the clerk with the number, which has no ticket, holds no machine, and saw all that it heard of
+  -- the seat is that of the clerk with the number, which has no ticket, holds no machine, and saw
+  -- all that it heard of
   abbrev pub MayCall : ℕ → Me (Option M) (View C F) → Type 0
   MayCall number me = (me.0.stage ≡ Idle) × (me.1 ≡ []) × (0 < number) × (me.0.number ≡ number) × (me.0.heard ≡ [])
 
-  -- the seat is still that of the clerk with the number, which again has no ticket, holds no machine, and saw all that
-  -- it heard of
+  -- the seat is still that of the clerk with the number, which again has no ticket, holds no
+  -- machine, and saw all that it heard of
   abbrev pub IsBack : ℕ → Me (Option M) (View C F) → Type 0
   IsBack number me = (me.0.number ≡ number) × (me.0.stage ≡ Idle) × (me.1 ≡ []) × (me.0.heard ≡ [])
 
@@ -33,7 +36,8 @@ module _ {M C F : Type 0} where
   IsWaiting v ticket me = me ≡ (record v { stage = Waiting ticket }, [])
 
 module _ {M C F : Type 0} (history : M → List (ℕ × C)) where
-  -- the machine is out of its slot as the seat with the ticket found it, and there is a next ticket to hand on to
+  -- the machine is out of its slot as the seat with the ticket found it, and there is a next ticket
+  -- to hand on to
   abbrev pub MayPass : Me (Option M) (View C F) → ℕ → M → Type 0
   MayPass me ticket machine =
       (me.0.stage ≡ Serving ticket (history machine)) × (me.1 ≡ (0, None) ∷ []) × (ticket + 1 < 2 ^ 64)
@@ -69,8 +73,8 @@ abbrev pub KnowsClerks : {M C F : Type 0} → View C F → List (ClerkOf M C F) 
 KnowsClerks v clerks = All (λ c. KnowsClerk v (number c) (front c) (calls c)) clerks
 
 module _ {M C R K F : Type 0} where
-  -- the turn of a seat is over: the clerk of the number made the call, of which this was kept; or nothing was kept, and
-  -- it saw no more and made no call
+  -- the turn of a seat is over: the clerk of the number made the call, of which this was kept; or
+  -- nothing was kept, and it saw no more and made no call
   abbrev pub TurnEnded :
       {T E : Type 0} → (F → List (ℕ × C) → ℕ → C → T → Type 0) → (M → F) → Turn M C R K F → ℕ → Arc C Global →
       Result T E →

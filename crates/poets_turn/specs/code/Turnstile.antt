@@ -1,7 +1,8 @@
--- The rule of the turnstile, which holds between any two steps of any threads.
--- A clerk who calls draws a ticket, waits until it is served, takes the machine out of its slot, and hands on.
--- Each clerk and each note has a seat, and the view of a seat is what its owner knows.
-use Rattle.std.specs.Prelude.{◌≡◌, ◌⊎◌, ℕ, ◌<◌, ◌≤◌, ltb, Bool, true, false, List, [], ◌∷◌, length, if◌then◌else◌}
+-- The rule of the turnstile, which holds between any two steps of any threads. A clerk who calls
+-- draws a ticket, waits until it is served, takes the machine out of its slot, and hands on. Each
+-- clerk and each note has a seat, and the view of a seat is what its owner knows.
+use Rattle.std.specs.Prelude.{◌≡◌, ◌⊎◌, ℕ, ◌<◌, ◌≤◌, ltb, Bool, true, false, List, [], ◌∷◌, length}
+use Rattle.std.specs.Prelude.{if◌then◌else◌}
 use Rattle.std.specs.Prelude.{Option, Some, All, Contains}
 use mathlib.Core.List.{IsPrefix}
 use mathlib.Core.Option.{none, some}
@@ -38,7 +39,8 @@ pub record Meaning (C : Type 0) : Type 0 where
   pub numbers : Numbers
 
 module _ {C : Type 0} where
-  -- the seat's ticket, if any, was drawn and is not past, and is its own; where it is served, the log is as noted
+  -- the seat's ticket, if any, was drawn and is not past, and is its own; where it is served, the
+  -- log is as noted
   abbrev pub FitsStage : Meaning C → ℕ → Stage C → Type 0
   FitsStage m seat Idle = Unit {0}
   FitsStage m seat (Waiting ticket) = (m.serving ≤ ticket) × (ticket < m.ticket) × (m.ticket_seat ticket ≡ seat)
@@ -85,8 +87,8 @@ pub record IsClerk {C : Type 0} (n : Numbers) (log : List (ℕ × C)) (place num
   -- its front has all of them
   pub seen : own_calls number front ≡ mine
 
--- the view of the seat is right; the machine's frame and the number of clerks are those that the turnstile was made
--- with
+-- the view of the seat is right; the machine's frame and the number of clerks are those that the
+-- turnstile was made with
 pub record Fits {C F : Type 0} (frame : F) (clerks : ℕ) (m : Meaning C) (seat : ℕ) (v : View C F) : Type 0 where
   -- its front begins the log
   pub front : IsPrefix v.front m.log
@@ -149,9 +151,10 @@ pub record NumbersHeld {C F : Type 0} (n : Numbers) (clerks : ℕ) (views : List
 abbrev pub IsKnown : {C F : Type 0} → List (ℕ × C) → List (View C F) → Type 0
 IsKnown {C} {F} log views = (seat : ℕ) × (v : View C F) × (get_elem? views seat ≡ some v) × (known v ≡ log)
 
--- The rule. No two seats have one ticket or one number, since each ticket and each number has one seat.
--- What the holder of the machine knows of it stands in no view. Once the machine took the holder's call, its history is
--- the log with this call at the end, under the holder's number; it becomes the log in the step that hands on.
+-- The rule. No two seats have one ticket or one number, since each ticket and each number has one
+-- seat. What the holder of the machine knows of it stands in no view. Once the machine took the
+-- holder's call, its history is the log with this call at the end, under the holder's number; it
+-- becomes the log in the step that hands on.
 pub record Rule {M C F : Type 0} (history : M → List (ℕ × C)) (frame : M → F) (f : F) (clerks : ℕ)
     (s : State (Option M) (View C F)) : Type 0 where
   -- names for what the words and the seats stand for
@@ -162,11 +165,12 @@ pub record Rule {M C F : Type 0} (history : M → List (ℕ × C)) (frame : M �
   pub order : meaning.serving ≤ meaning.ticket
   -- each ticket that was drawn and is not past is that of its seat
   pub tickets : TicketsHeld meaning s.views
-  -- the machine is in its slot, with the log for its history; or the seat whose ticket is served is its holder
+  -- the machine is in its slot, with the log for its history; or the seat whose ticket is served is
+  -- its holder
   pub machine : IsInSlot history frame f meaning.log s.homes
       ⊎ IsHeld meaning.serving (meaning.ticket_seat meaning.serving) meaning.log s.homes s.views
-  -- of each seat: its front begins the log, its ticket and its number are its own, and its own calls are those that the
-  -- log has of it
+  -- of each seat: its front begins the log, its ticket and its number are its own, and its own
+  -- calls are those that the log has of it
   pub each_seat : (seat : ℕ) (v : View C F) → get_elem? s.views seat ≡ some v → Fits f clerks meaning seat v
   -- each number that was made is that of a clerk's seat, or of a clerk that was taken in
   pub numbers : NumbersHeld meaning.numbers clerks s.views

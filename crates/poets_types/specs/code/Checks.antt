@@ -40,7 +40,8 @@ with_reports index check = check (book_in index) (map report_of index.reports.no
 abbrev pub params_verdict : Index → List Param → Verdict (Unit {0})
 params_verdict index params = check_new (used_in index) [] (map (λ p. p.name) params)
 
--- whether the step of a report has the report's type, under the parts of an event and the value so far
+-- whether the step of a report has the report's type, under the parts of an event and the value so
+-- far
 abbrev pub step_verdict : Declared → T.Scope → plain.Report → Verdict (Unit {0})
 step_verdict declared scope q = check_type declared (types_bound q.binders ++ (q.carry, q.ty) ∷ scope) q.ty q.step
 

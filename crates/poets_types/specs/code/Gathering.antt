@@ -6,7 +6,8 @@ use Rattle.poets_syntax.specs.TypeOf.{Scope, type_in}
 use Rattle.poets_report.specs.Reports.{report_of}
 use Rattle.poets_command.specs.declared.statement.Statement.{Statement}
 use Rattle.poets_command.specs.Statements.{statement_of}
-use Rattle.poets_command.specs.Declarations.{agents_and_kinds, template_in_statement, report_in_statement}
+use Rattle.poets_command.specs.Declarations.{agents_and_kinds, template_in_statement}
+use Rattle.poets_command.specs.Declarations.{report_in_statement}
 use Rattle.poets_types.specs.declared.book.Checked.{Checked}
 use Rattle.poets_types.specs.code.Tables.{AreEntered}
 

@@ -13,7 +13,8 @@ use Rattle.poets_expr.specs.OfExpr.{value_of_expr}
 use Rattle.poets_expr.specs.Val.{val}
 use Rattle.poets_syntax.specs.declared.term.Param.{Param}
 use Rattle.poets_syntax.specs.Book.{parameter_env, taken, template_in}
-use Rattle.poets_syntax.specs.Contract.{Contract, Success, Transmit, Plus, Par, Seq, App, contract_of}
+use Rattle.poets_syntax.specs.Contract.{Contract, Success, Transmit, Plus, Par, Seq, App}
+use Rattle.poets_syntax.specs.Contract.{contract_of}
 use Rattle.poets_syntax.specs.Plain.{Book, Template}
 use Rattle.poets_meaning.specs.Truth.{is_true}
 use Rattle.poets_way.specs.Moves.{Move, moves_of}
@@ -38,7 +39,8 @@ AreParameters env params args pairs =
 abbrev pub holds_under : CodeEnv → Expr → Bool
 holds_under env when = is_true (value_of_expr env when)
 
--- the events of both sides, with those of the first one in front, and then the events that have no side
+-- the events of both sides, with those of the first one in front, and then the events that have no
+-- side
 abbrev pub ArePartedBy : List Bool → (old new : List Event) → Type 0
 ArePartedBy sides old new = new ≡ first_of sides old ++ (second_of sides old ++ drop (length sides) old)
 
@@ -65,7 +67,8 @@ entered book env (Some t) args s =
     where_true (nat_eq (length t.params) (length args))
     (record { env = parameter_env t.params (map (val book.declared env) args); contract = t.body; events = s } ∷ [])
 
--- the goals that a move leaves of one goal, which are those of the parts; none where the move does not fit the goal
+-- the goals that a move leaves of one goal, which are those of the parts; none where the move does
+-- not fit the goal
 abbrev pub parts_by : Book → Env → Contract → List Event → Move → Option (List Goal)
 parts_by book env Success [] M.Nothing = Some []
 parts_by book env (App f args) s M.Enter = entered book env (template_in book.templates f) args s
@@ -114,8 +117,8 @@ AreSharedWith g o = g.count + total o.goals.items ≡ length o.events.items
 abbrev pub goals_by : Book → Move → Goal → List Goal → Option (List Goal)
 goals_by book m g goals = option_map (λ parts. parts ++ goals) (parts_by book g.env g.contract g.events m)
 
--- the goals that a move leaves where the first goal is of that contract, and has the values and the number of events of
--- a goal of the code, which was taken out
+-- the goals that a move leaves where the first goal is of that contract, and has the values and the
+-- number of events of a goal of the code, which was taken out
 abbrev pub followed : Book → Contract → Move → CodeGoal → Open → Option (List Goal)
 followed book c m g o =
     let s = reverse o.events.items in
@@ -135,8 +138,8 @@ pub record Adds (c : Contract) (pairs : Pairs) (n : ℕ) (old new : Open) (fits 
   pub goals : (s : List Event) → goals_of (reverse new.goals.items) s
       ≡ record { env = reverse pairs; contract = c; events = take n s } ∷ goals_of (reverse old.goals.items) (drop n s)
 
--- the goals of two parts were added in front of the others: the first part has so many events of the goal's, and the
--- second one the others
+-- the goals of two parts were added in front of the others: the first part has so many events of
+-- the goal's, and the second one the others
 pub record AddsBoth (g : CodeGoal) (c₁ c₂ : Contract) (n : ℕ) (old new : Open) (fits : Bool) : Type 0 where
   pub yes : fits ≡ true
   pub events : new.events.items ≡ old.events.items
@@ -151,8 +154,8 @@ abbrev pub all_moves : List Way → List Move
 all_moves [] = []
 all_moves (w ∷ ways) = moves_of w ++ all_moves ways
 
--- while a way is checked: the moves that are left are those of ways in which the goals are performed exactly where the
--- whole is
+-- while a way is checked: the moves that are left are those of ways in which the goals are
+-- performed exactly where the whole is
 pub record IsLeft (book : Book) (moves : List Move) (goals : List Goal) (whole : Type 0) : Type 0 where
   pub ways : List Way
   pub same : all_moves ways ≡ moves

@@ -5,14 +5,15 @@ use Rattle.poets_way.specs.Moves.{Move}
 use Rattle.poets_way.specs.Moves as M
 use Rattle.poets_way.specs.Texts.{sides_text}
 
--- what is open where a part ends, the innermost first: of each part whether it is a first one, behind which a second
--- one begins
+-- what is open where a part ends, the innermost first: of each part whether it is a first one,
+-- behind which a second one begins
 abbrev pub after_end : List Bool → List Bool
 after_end [] = []
 after_end (true ∷ parts) = false ∷ parts
 after_end (false ∷ parts) = after_end parts
 
--- what is written where a part ends: the ends of all parts that end there, and the beginning of a second part
+-- what is written where a part ends: the ends of all parts that end there, and the beginning of a
+-- second part
 abbrev pub end_text : List Bool → List ℕ
 end_text [] = []
 end_text (true ∷ parts) = codes ") ("
