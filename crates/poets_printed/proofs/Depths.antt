@@ -71,9 +71,12 @@ at_first e = at_level 1 e (level_least e)
 
 -- ---- operators
 
-level_of_some : (k : Option Op) (l : ℕ) (o : Op) → option_map (λ x. (op_level x, x)) k ≡ Some (l, o) → op_level o ≡ l
+same_level : (p q : ℕ × Op) → Some p ≡ Some q → op_level p.1 ≡ p.0 → op_level q.1 ≡ q.0
+same_level p q e h = let same : p ≡ q = cc in subst (λ (x : ℕ × Op). op_level x.1 ≡ x.0) same h
+
+level_of_some : (k : Option Op) (l : ℕ) (o : Op) → option_map {U = ℕ × Op} (λ x. (op_level x, x)) k ≡ Some (l, o) → op_level o ≡ l
 level_of_some None l o h = absurd (cc)
-level_of_some (Some k) l o h = cc
+level_of_some (Some k) l o h = same_level (op_level k, k) (l, o) h refl
 
 level_of_operator : (t : Tok) (l : ℕ) (o : Op) → infix_operator t ≡ Some (l, o) → op_level o ≡ l
 level_of_operator t l o h = level_of_some (token_operator t) l o h
