@@ -106,4 +106,5 @@ IsBare names owed _ = Unit {0}
 -- where a reply without values has these words and this value, one with this value is found
 abbrev pub FindsBare : Table → Option Contract → (kind : List ℕ) → Data → Option plain.Reply → Type 0
 FindsBare names owed kind d found =
-    (r : plain.Reply) → IsBare names owed r → kind ≡ kind_text r → d ≡ reply_data names r → Has (reply_data names) d found
+    (r : plain.Reply) → IsBare names owed r → kind ≡ kind_text r → d ≡ reply_data names r →
+    Has (reply_data names) d found
