@@ -75,8 +75,8 @@ fn words_of(rt: &HostRuntime) -> Result<Vec<String>, u8>
     Ok(words)
 }
 
-// Shows on standard error where the first fault of the text stands that the words told to read. Want of memory for that
-// is passed over.
+// Shows on standard error where the first fault is in the text that the words told to read. If memory runs out for
+// that, nothing is shown.
 fn mark(rt: &HostRuntime, words: &[String], text: Option<&[u8]>) {
     let (Some(text), Some(form)) = (text, form_asked(rt, words)) else {
         return;

@@ -93,7 +93,7 @@ fn counted<R: Threads + Wait + Sync>(
     Ok(closed(turn, back))
 }
 
-// The clerk's share of the calls, up to want of memory.
+// The clerk's share of the calls, until memory runs out.
 fn make_share<R: Threads + Wait + Sync>(
     rt: &R,
     alloc: Global,

@@ -212,7 +212,7 @@ module _ (table : Table) (all : IsTable table) where
     cut = cut_command table all c whole can;
     reads = IsStatement.Command (written_reads c whole can);
   }
-  writes_statement (said.Numbered clerk c) whole can = writes_numbered clerk c whole.0 whole.1 can
+  writes_statement (said.Numbered clerk c) whole can = writes_numbered clerk c can.0 whole can.1
 
 pub statement_reads_back : StatementReadsBack
 unfolding States

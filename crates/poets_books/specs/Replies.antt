@@ -26,8 +26,8 @@ kind_text (Reply.Folio rows total) = codes "portfolio"
 kind_text (Reply.Watching n) = codes "watching"
 kind_text (Reply.NoWatch n) = codes "no watch"
 
--- the reply is printed with these words: what was shown is printed by its parts alone, and an
--- answer by its form
+-- the reply is printed with these words; what was shown is printed by its parts alone, and an
+-- answer as `value` or `rows`
 abbrev pub IsPrintedWithKind : Reply → Type 0
 IsPrintedWithKind (Reply.Shown c n may_end ended) = ⊥
 IsPrintedWithKind (Reply.Answered a) = ⊥

@@ -1,6 +1,6 @@
 //! Laws of printed statements and replies, each stated by a function that does nothing.
 //!
-//! A text has one list of tokens (`poets_lex`, `one_reading`), and no tokens are two statements (`poets_grammar`,
+//! A text has one list of tokens (`poets_lex`, `one_reading`), and tokens are one statement at most (`poets_grammar`,
 //! `one_statement`). So no other statement has the text of a statement, and what reads the text finds the one that was
 //! printed.
 ghost use Rattle.poets_books.specs.Laws.{StatementReadsBack};

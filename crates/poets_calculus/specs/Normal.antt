@@ -24,7 +24,7 @@ alternatives (Par a b) = Par a b ∷ []
 alternatives (Seq a b) = Seq a b ∷ []
 alternatives (App f args) = App f args ∷ []
 
--- of alike contracts the first is kept
+-- the contracts without repeats: of alike ones the first is kept
 abbrev pub distinct : List Contract → List Contract
 distinct [] = []
 distinct (c ∷ cs) = c ∷ filter (λ d. not (alike c d)) (distinct cs)

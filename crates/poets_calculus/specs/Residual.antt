@@ -44,7 +44,7 @@ after_at zero book marks e c = after_by (λ _ _. C.Failure) book marks e c
 after_at (suc d) book marks e c =
     after_by (λ f args. after_at d book marks e (body_of book marks (template_in book.templates f) args)) book marks e c
 
--- the residual by an event: in a guarded book no more unfoldings than templates stand in a row
+-- the residual by an event: in a guarded book there are no more unfoldings in a row than templates
 abbrev pub after : Book → Marks → Event → Contract → Contract
 after book marks e c = after_at (length book.templates) book marks e c
 

@@ -38,7 +38,7 @@ pub fn parts_in_any_order()
     ensures residual { left_of three_parts (some_oil ∷ []) ≡ usd_or_oil }
 {}
 
-/// An event passes a first part that is nullable.
+/// The second part of a `;` may take an event where the first is nullable.
 pub fn in_sequence()
     ensures performed { Perf book [] over (some_usd ∷ []) }
     ensures residual { left_of over (some_usd ∷ []) ≡ Success }

@@ -2,12 +2,12 @@
 ghost use Rattle.poets_calculus.specs.StudiedLaws.{EnoughDepth};
 ghost use Rattle.poets_calculus.specs.AlikeLaws.{AlikeItself, AlikeBothWays, AlikeJoined, AlikeByTest, AlikeMay, AlikePerformed, AlikeNullable, AlikeSize};
 
-/// In a guarded book no more unfoldings stand in a row than there are templates.
+/// In a guarded book there are no more unfoldings in a row than templates.
 pub fn enough_depth()
     ensures { EnoughDepth }
 {}
 
-/// To be alike is an equivalence.
+/// Being alike is an equivalence.
 pub fn alike_equivalence()
     ensures itself { AlikeItself }
     ensures both_ways { AlikeBothWays }
@@ -19,7 +19,7 @@ pub fn alike_by_test()
     ensures { AlikeByTest }
 {}
 
-/// Alike contracts say the same: the order of parallel parts says nothing.
+/// Alike contracts are performed by the same traces: the order of parallel parts does not matter.
 pub fn alike_performed()
     ensures granted { AlikeMay }
     ensures performed { AlikePerformed }

@@ -9,39 +9,42 @@ use Rattle.poets_turn.specs.Clerks.{front, calls, number, turn_frame, IsClerkOf}
 use Rattle.poets_clerks.specs.Scripts.{AreAnswers, HasWorked, EachWorked}
 
 module _ {M C R K F : Type 0} (frame : M → F) (answers : F → List (ℕ × C) → ℕ → C → R → Type 0) (turn : Turn M C R K F) where
-  pub worked : {A D : Type 0} (memory : Bool) (f : A → C) (h : D → ℕ × R) (xs : List A) (ds : List D) (v w : ClerkOf M C F)
-      → IsClerkOf frame turn w → number w ≡ number v → IsPrefix (front v) (front w) → AreAnswers (answers (turn_frame frame turn)) (front w) (number v) (length (front v)) (map f xs) (map h ds)
-      → (memory ≡ false → (length ds ≡ length xs) × (calls w ≡ calls v ++ map f xs)) → (calls w ≡ calls v ++ map f (take (length ds) xs)) ⊎ (calls w ≡ calls v ++ map f (take (length ds + 1) xs))
-      → HasWorked frame answers turn memory (map f xs) v w (map h ds)
-  worked memory f h xs ds v w of is longer answered whole part =
-      let n = length-map ds h in let mine = calls v in record {
-        of = of;
-        same = is;
-        longer = longer;
-        answered = answered;
-        whole = λ e. let t = whole e in (n ∙ (t.0 ∙ sym (length-map xs f)), t.1);
-        part = ⊎_elim
-            (λ e. inl (e ∙ ap (λ z. mine ++ z) (sym (take-map f (length ds) xs) ∙ ap (λ k. take k (map f xs)) (sym n))))
-            (λ e. inr (e ∙ ap (λ z. mine ++ z) (sym (take-map f (length ds + 1) xs) ∙ ap (λ k. take (k + 1) (map f xs)) (sym n)))) part;
-      }
+  -- a script and the answers to it, as a desk keeps them
+  module _ {A D : Type 0} (memory : Bool) (f : A → C) (h : D → ℕ × R) where
+    pub worked : (xs : List A) (ds : List D) (v w : ClerkOf M C F)
+        → IsClerkOf frame turn w → number w ≡ number v → IsPrefix (front v) (front w) → AreAnswers (answers (turn_frame frame turn)) (front w) (number v) (length (front v)) (map f xs) (map h ds)
+        → (memory ≡ false → (length ds ≡ length xs) × (calls w ≡ calls v ++ map f xs)) → (calls w ≡ calls v ++ map f (take (length ds) xs)) ⊎ (calls w ≡ calls v ++ map f (take (length ds + 1) xs))
+        → HasWorked frame answers turn memory (map f xs) v w (map h ds)
+    worked xs ds v w of is longer answered whole part =
+        let n = length-map ds h in let mine = calls v in record {
+          of = of;
+          same = is;
+          longer = longer;
+          answered = answered;
+          whole = λ e. let t = whole e in (n ∙ (t.0 ∙ sym (length-map xs f)), t.1);
+          part = ⊎_elim
+              (λ e. inl (e ∙ ap (λ z. mine ++ z) (sym (take-map f (length ds) xs) ∙ ap (λ k. take k (map f xs)) (sym n))))
+              (λ e. inr (e ∙ ap (λ z. mine ++ z) (sym (take-map f (length ds + 1) xs) ∙ ap (λ k. take (k + 1) (map f xs)) (sym n)))) part;
+        }
 
   -- with no want of memory at any desk there is none at each
   more_memory : (memory all : Bool) (script : List C) (v w : ClerkOf M C F) (done : List (ℕ × R)) → (all ≡ false → memory ≡ false) → HasWorked frame answers turn memory script v w done → HasWorked frame answers turn all script v w done
   more_memory memory all script v w done less h = record { of = h.of; same = h.same; longer = h.longer; answered = h.answered; whole = λ e. h.whole (less e); part = h.part }
 
   -- from the work at each place to that of all
-  pub each_worked : {D S A : Type 0} (all : Bool) (memory : D → Bool) (clerk : D → ClerkOf M C F) (done : D → A) (h : A → List (ℕ × R)) (script : S → List C) (ss : List S) (xs ys : List D)
-      → length ss ≡ length xs → length ys ≡ length xs → ((k : ℕ) (d : D) → k < length ys → all ≡ false → memory (get_or ys k d) ≡ false)
-      → ((k : ℕ) (s : S) (d : D) → k < length xs → HasWorked frame answers turn (memory (get_or ys k d)) (script (get_or ss k s)) (clerk (get_or xs k d)) (clerk (get_or ys k d)) (h (done (get_or ys k d))))
-      → EachWorked frame answers turn all (map script ss) (map clerk xs) (map clerk ys) (map h (map done ys))
-  each_worked all memory clerk done h script [] [] [] e e' none each = EachWorked.None
-  each_worked all memory clerk done h script [] [] (y ∷ ys) e e' none each = absurd (omega arith)
-  each_worked all memory clerk done h script [] (x ∷ xs) ys e e' none each = absurd (omega arith)
-  each_worked all memory clerk done h script (s ∷ ss) [] ys e e' none each = absurd (omega arith)
-  each_worked all memory clerk done h script (s ∷ ss) (x ∷ xs) [] e e' none each = absurd (omega arith)
-  each_worked all memory clerk done h script (s ∷ ss) (x ∷ xs) (y ∷ ys) e e' none each = EachWorked.More
-      (more_memory (memory y) all (script s) (clerk x) (clerk y) (h (done y)) (none 0 y (omega arith)) (each 0 s y (omega arith)))
-      (each_worked all memory clerk done h script ss xs ys (omega arith) (omega arith) (λ k d l. none (suc k) d (omega arith)) (λ k s' d l. each (suc k) s' d (omega arith)))
+  module _ {D S A : Type 0} (all : Bool) (memory : D → Bool) (clerk : D → ClerkOf M C F) (done : D → A) (h : A → List (ℕ × R)) (script : S → List C) where
+    pub each_worked : (ss : List S) (xs ys : List D) → length ss ≡ length xs → length ys ≡ length xs
+        → ((k : ℕ) (d : D) → k < length ys → all ≡ false → memory (get_or ys k d) ≡ false)
+        → ((k : ℕ) (s : S) (d : D) → k < length xs → HasWorked frame answers turn (memory (get_or ys k d)) (script (get_or ss k s)) (clerk (get_or xs k d)) (clerk (get_or ys k d)) (h (done (get_or ys k d))))
+        → EachWorked frame answers turn all (map script ss) (map clerk xs) (map clerk ys) (map h (map done ys))
+    each_worked [] [] [] e e' none each = EachWorked.None
+    each_worked [] [] (y ∷ ys) e e' none each = absurd (omega arith)
+    each_worked [] (x ∷ xs) ys e e' none each = absurd (omega arith)
+    each_worked (s ∷ ss) [] ys e e' none each = absurd (omega arith)
+    each_worked (s ∷ ss) (x ∷ xs) [] e e' none each = absurd (omega arith)
+    each_worked (s ∷ ss) (x ∷ xs) (y ∷ ys) e e' none each = EachWorked.More
+        (more_memory (memory y) all (script s) (clerk x) (clerk y) (h (done y)) (none 0 y (omega arith)) (each 0 s y (omega arith)))
+        (each_worked ss xs ys (omega arith) (omega arith) (λ k d l. none (suc k) d (omega arith)) (λ k s' d l. each (suc k) s' d (omega arith)))
 
 -- what holds of each that f gives holds of what f gives at each place
 pub at_desk : {A B : Type 0} (P : B → Type 0) (f : A → B) (xs : List A) (ys : List B) → map f xs ≡ ys → All P ys → (k : ℕ) (d : A) → k < length xs → P (f (get_or xs k d))

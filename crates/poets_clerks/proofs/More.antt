@@ -15,25 +15,27 @@ module _ {C R : Type 0} (answers : List (ℕ × C) → ℕ → C → R → Type 
   answers_stay saw saw' k low [] (d ∷ ds) pre h = absurd h
   answers_stay saw saw' k low (c ∷ cs) (d ∷ ds) pre h = (answer_stays saw saw' k c d.0 d.1 pre h.0, h.1, answers_stay saw saw' k (d.0 + 1) cs ds pre h.2)
 
-  answers_more : (saw saw' : List (ℕ × C)) (k low : ℕ) (cs : List C) (ds : List (ℕ × R)) (made made' : List C) (c : C) (d : ℕ × R) → AreAnswers answers saw k low cs ds → length ds < length cs → get_or cs (length ds) c ≡ c
-      → IsAnswered answers k saw saw' made made' c d → AreAnswers answers saw' k low cs (ds ++ d ∷ [])
-  answers_more saw saw' k low [] ds made made' c d h inside is m = absurd (omega arith)
-  answers_more saw saw' k low (x ∷ cs) [] made made' c d h inside is m = let after = m.after in let within = m.within in
-      (subst (λ y. IsAnswer answers saw' k y d.0 d.1) (sym is) m.answer, omega arith, omega arith)
-  answers_more saw saw' k low (x ∷ cs) (y ∷ ds) made made' c d h inside is m =
-      (answer_stays saw saw' k x y.0 y.1 m.longer h.0, h.1, answers_more saw saw' k (y.0 + 1) cs ds made made' c d h.2 (omega arith) is m)
+  module _ (saw saw' : List (ℕ × C)) (k : ℕ) (made made' : List C) (c : C) (d : ℕ × R) (m : IsAnswered answers k saw saw' made made' c d) where
+    answers_more : (low : ℕ) (cs : List C) (ds : List (ℕ × R)) → AreAnswers answers saw k low cs ds → length ds < length cs → get_or cs (length ds) c ≡ c → AreAnswers answers saw' k low cs (ds ++ d ∷ [])
+    answers_more low [] ds h inside is = absurd (omega arith)
+    answers_more low (x ∷ cs) [] h inside is = let after = m.after in let within = m.within in
+        (subst (λ y. IsAnswer answers saw' k y d.0 d.1) (sym is) m.answer, omega arith, omega arith)
+    answers_more low (x ∷ cs) (y ∷ ds) h inside is =
+        (answer_stays saw saw' k x y.0 y.1 m.longer h.0, h.1, answers_more (y.0 + 1) cs ds h.2 (omega arith) is)
 
-  pub answers_step : {A D : Type 0} (f : A → C) (h : D → ℕ × R) (xs : List A) (ds ds' : List D) (d : D) (x : A) (i k k' low : ℕ) (saw saw' : List (ℕ × C)) (made made' : List C)
-      → AreAnswers answers saw k low (map f xs) (map h ds) → length ds ≡ i → i < length xs → x ≡ get_or xs i x → ds' ≡ ds ++ d ∷ [] → k' ≡ k → IsAnswered answers k' saw saw' made made' (f x) (h d)
-      → AreAnswers answers saw' k low (map f xs) (map h ds')
-  answers_step f h xs ds ds' d x i k k' low saw saw' made made' old long inside is more same m =
-      let n : length (map h ds) ≡ i = length-map ds h ∙ long in
-      subst (λ l. AreAnswers answers saw' k low (map f xs) l) (sym (ap (map h) more ∙ map_push h ds d))
-      (answers_more saw saw' k low (map f xs) (map h ds) made made' (f x) (h d) old (let l = length-map xs f in omega arith)
-      (ap (λ j. get_or (map f xs) j (f x)) n ∙ (get_or-map f xs i x (f x) inside ∙ ap f (sym is)))
-      (subst (λ j. IsAnswered answers j saw saw' made made' (f x) (h d)) same m))
+  -- a script of which some calls are answered
+  module _ {A D : Type 0} (f : A → C) (h : D → ℕ × R) (xs : List A) (k low : ℕ) (saw : List (ℕ × C)) (ds : List D) (old : AreAnswers answers saw k low (map f xs) (map h ds)) where
+    pub answers_step : (ds' : List D) (d : D) (x : A) (i k' : ℕ) {saw' : List (ℕ × C)} {made made' : List C} → length ds ≡ i → i < length xs → x ≡ get_or xs i x → ds' ≡ ds ++ d ∷ [] → k' ≡ k
+        → IsAnswered answers k' saw saw' made made' (f x) (h d) → AreAnswers answers saw' k low (map f xs) (map h ds')
+    answers_step ds' d x i k' {saw'} {made} {made'} long inside is more same m =
+        let n : length (map h ds) ≡ i = length-map ds h ∙ long in
+        subst (λ l. AreAnswers answers saw' k low (map f xs) l) (sym (ap (map h) more ∙ map_push h ds d))
+        (answers_more saw saw' k made made' (f x) (h d) (subst (λ j. IsAnswered answers j saw saw' made made' (f x) (h d)) same m)
+        low (map f xs) (map h ds) old (let l = length-map xs f in omega arith)
+        (ap (λ j. get_or (map f xs) j (f x)) n ∙ (get_or-map f xs i x (f x) inside ∙ ap f (sym is))))
 
-pub calls_step : {A C : Type 0} (f : A → C) (xs : List A) (i n : ℕ) (x : A) (made now now' : List C) → n ≡ i → i < length xs → x ≡ get_or xs i x → now ≡ made ++ map f (take i xs) → now' ≡ now ++ f x ∷ [] → now' ≡ made ++ map f (take (n + 1) xs)
-calls_step f xs i n x made now now' same inside is old more =
-    let last : map f (take (i + 1) xs) ≡ map f (take i xs) ++ f x ∷ [] = map_more f xs i x inside ∙ ap (λ y. map f (take i xs) ++ f y ∷ []) (sym is) in
-    more ∙ (ap (λ z. z ++ f x ∷ []) old ∙ (append_assoc made (map f (take i xs)) (f x ∷ []) ∙ (ap (λ z. made ++ z) (sym last) ∙ ap (λ j. made ++ map f (take (j + 1) xs)) (sym same))))
+module _ {A C : Type 0} (f : A → C) (xs : List A) where
+  pub calls_step : (i n : ℕ) (x : A) (made now now' : List C) → n ≡ i → i < length xs → x ≡ get_or xs i x → now ≡ made ++ map f (take i xs) → now' ≡ now ++ f x ∷ [] → now' ≡ made ++ map f (take (n + 1) xs)
+  calls_step i n x made now now' same inside is old more =
+      let last : map f (take (i + 1) xs) ≡ map f (take i xs) ++ f x ∷ [] = map_more f xs i x inside ∙ ap (λ y. map f (take i xs) ++ f y ∷ []) (sym is) in
+      more ∙ (ap (λ z. z ++ f x ∷ []) old ∙ (append_assoc made (map f (take i xs)) (f x ∷ []) ∙ (ap (λ z. made ++ z) (sym last) ∙ ap (λ j. made ++ map f (take (j + 1) xs)) (sym same))))

@@ -24,24 +24,6 @@ module _ {A : Type 0} where
   taken_prefix n xs before now own none is same = subst (λ l. IsPrefix l xs) (sym (same ∙ (is ∙ ap (λ l. l ++ take n xs) none))) (drop n xs, take-append-drop n xs)
 
 module _ {M C R K F : Type 0} (frame : M → F) (answers : F → List (ℕ × C) → ℕ → C → R → Type 0) (turn : Turn M C R K F) (h : List (ℕ × C)) where
-  -- clerks that began with nothing, and worked at their scripts
-  each_part : (memory : Bool) (k : ℕ) (ss : List (List C)) (vs ws : List (ClerkOf M C F)) (ds : List (List (ℕ × R))) → EachWorked frame answers turn memory ss vs ws ds → All (λ v. IsFresh frame turn v) vs
-      → ((j : ℕ) (v : ClerkOf M C F) → j < length vs → number (slice_index_or vs j v) ≡ k + j) → All (λ w. IsClerkIn h (number w) (front w) (calls w)) ws
-      → (j : ℕ) (s : List C) → slice_get ss j ≡ Some s → IsPrefix (own_calls (k + j) h) s
-  each_part memory k ss vs ws ds EachWorked.None fresh numbers in_h j s at = absurd (cc (at))
-  each_part memory k ss vs ws ds (EachWorked.More {script = script} {v = v} {w = w} {done = done} {scripts = scripts} {vs = vs'} {ws = ws'} {dones = dones} hw rest) fresh numbers in_h zero s at =
-      let new = All-head (λ u. IsFresh frame turn u) v vs' fresh in
-      let mine = All-head (λ u. IsClerkIn h (number u) (front u) (calls u)) w ws' in_h in
-      let own : own_calls (k + 0) h ≡ calls w = ap (λ n. own_calls n h) (sym (hw.same ∙ numbers 0 v (omega arith))) ∙ mine.calls in
-      let part : IsPrefix (own_calls (k + 0) h) script = ⊎_elim
-      (λ e. taken_prefix (length done) script (calls v) (calls w) (own_calls (k + 0) h) new.calls e own)
-      (λ e. taken_prefix (length done + 1) script (calls v) (calls w) (own_calls (k + 0) h) new.calls e own) hw.part in
-      let same : script ≡ s = cc (at) in subst (IsPrefix (own_calls (k + 0) h)) same part
-  each_part memory k ss vs ws ds (EachWorked.More {script = script} {v = v} {w = w} {done = done} {scripts = scripts} {vs = vs'} {ws = ws'} {dones = dones} hw rest) fresh numbers in_h (suc j) s at =
-      let later = each_part memory (k + 1) scripts vs' ws' dones rest (All-tail (λ u. IsFresh frame turn u) v vs' fresh) (λ i u l. numbers (suc i) u (omega arith) ∙ omega arith)
-      (All-tail (λ u. IsClerkIn h (number u) (front u) (calls u)) w ws' in_h) j s at in
-      let next : (k + 1) + j ≡ k + suc j = omega arith in subst (λ n. IsPrefix (own_calls n h) s) next later
-
   -- clerks that began with nothing, and made no call
   no_part : (k : ℕ) (ss : List (List C)) (vs : List (ClerkOf M C F)) → length vs ≡ length ss → All (λ v. IsFresh frame turn v) vs
       → ((j : ℕ) (v : ClerkOf M C F) → j < length vs → number (slice_index_or vs j v) ≡ k + j) → All (λ v. IsClerkIn h (number v) (front v) (calls v)) vs
@@ -58,17 +40,36 @@ module _ {M C R K F : Type 0} (frame : M → F) (answers : F → List (ℕ × C)
       (All-tail (λ u. IsClerkIn h (number u) (front u) (calls u)) v vs in_h) j s at in
       let next : (k + 1) + j ≡ k + suc j = omega arith in subst (λ n. IsPrefix (own_calls n h) s) next later
 
-  worked_part : (memory : Bool) (ss : List (List C)) (vs ws : List (ClerkOf M C F)) (ds : List (List (ℕ × R))) → HaveWorked frame answers turn memory ss vs ws ds → length vs ≡ length ss → All (λ v. IsFresh frame turn v) vs
-      → ((j : ℕ) (v : ClerkOf M C F) → j < length vs → number (slice_index_or vs j v) ≡ 1 + j) → All (λ w. IsClerkIn h (number w) (front w) (calls w)) ws
-      → (j : ℕ) (s : List C) → slice_get ss j ≡ Some s → IsPrefix (own_calls (1 + j) h) s
-  worked_part memory ss vs ws ds (HaveWorked.Each each) long fresh numbers in_h j s at = each_part memory 1 ss vs ws ds each fresh numbers in_h j s at
-  worked_part memory ss vs ws ds (HaveWorked.NoneMade want same none) long fresh numbers in_h j s at =
-      no_part 1 ss vs long fresh numbers (subst (All (λ w. IsClerkIn h (number w) (front w) (calls w))) same in_h) j s at
+  module _ (memory : Bool) where
+    -- clerks that began with nothing, and worked at their scripts
+    each_part : (k : ℕ) (ss : List (List C)) (vs ws : List (ClerkOf M C F)) (ds : List (List (ℕ × R))) → EachWorked frame answers turn memory ss vs ws ds → All (λ v. IsFresh frame turn v) vs
+        → ((j : ℕ) (v : ClerkOf M C F) → j < length vs → number (slice_index_or vs j v) ≡ k + j) → All (λ w. IsClerkIn h (number w) (front w) (calls w)) ws
+        → (j : ℕ) (s : List C) → slice_get ss j ≡ Some s → IsPrefix (own_calls (k + j) h) s
+    each_part k ss vs ws ds EachWorked.None fresh numbers in_h j s at = absurd (cc (at))
+    each_part k ss vs ws ds (EachWorked.More {script = script} {v = v} {w = w} {done = done} {scripts = scripts} {vs = vs'} {ws = ws'} {dones = dones} hw rest) fresh numbers in_h zero s at =
+        let new = All-head (λ u. IsFresh frame turn u) v vs' fresh in
+        let mine = All-head (λ u. IsClerkIn h (number u) (front u) (calls u)) w ws' in_h in
+        let own : own_calls (k + 0) h ≡ calls w = ap (λ n. own_calls n h) (sym (hw.same ∙ numbers 0 v (omega arith))) ∙ mine.calls in
+        let part : IsPrefix (own_calls (k + 0) h) script = ⊎_elim
+        (λ e. taken_prefix (length done) script (calls v) (calls w) (own_calls (k + 0) h) new.calls e own)
+        (λ e. taken_prefix (length done + 1) script (calls v) (calls w) (own_calls (k + 0) h) new.calls e own) hw.part in
+        let same : script ≡ s = cc (at) in subst (IsPrefix (own_calls (k + 0) h)) same part
+    each_part k ss vs ws ds (EachWorked.More {script = script} {v = v} {w = w} {done = done} {scripts = scripts} {vs = vs'} {ws = ws'} {dones = dones} hw rest) fresh numbers in_h (suc j) s at =
+        let later = each_part (k + 1) scripts vs' ws' dones rest (All-tail (λ u. IsFresh frame turn u) v vs' fresh) (λ i u l. numbers (suc i) u (omega arith) ∙ omega arith)
+        (All-tail (λ u. IsClerkIn h (number u) (front u) (calls u)) w ws' in_h) j s at in
+        let next : (k + 1) + j ≡ k + suc j = omega arith in subst (λ n. IsPrefix (own_calls n h) s) next later
 
-  pub parts_made : (memory : Bool) (ss : List (List C)) (vs ws : List (ClerkOf M C F)) (ds : List (List (ℕ × R))) → HaveWorked frame answers turn memory ss vs ws ds → length vs ≡ length ss → All (λ v. IsFresh frame turn v) vs → AreNumbered vs
-      → All (λ w. IsClerkIn h (number w) (front w) (calls w)) ws → OnlyClerks (length ss) h → HasScriptParts ss h
-  parts_made memory ss vs ws ds worked long fresh numbers in_h only = record {
-    own = λ place script at. let one : 1 + place ≡ place + 1 = omega arith in subst (λ n. IsPrefix (own_calls n h) script) one
-        (worked_part memory ss vs ws ds worked long fresh (λ j v l. numbers j v l ∙ omega arith) in_h place script at);
-    clerks = only;
-  }
+    worked_part : (ss : List (List C)) (vs ws : List (ClerkOf M C F)) (ds : List (List (ℕ × R))) → HaveWorked frame answers turn memory ss vs ws ds → length vs ≡ length ss → All (λ v. IsFresh frame turn v) vs
+        → ((j : ℕ) (v : ClerkOf M C F) → j < length vs → number (slice_index_or vs j v) ≡ 1 + j) → All (λ w. IsClerkIn h (number w) (front w) (calls w)) ws
+        → (j : ℕ) (s : List C) → slice_get ss j ≡ Some s → IsPrefix (own_calls (1 + j) h) s
+    worked_part ss vs ws ds (HaveWorked.Each each) long fresh numbers in_h j s at = each_part 1 ss vs ws ds each fresh numbers in_h j s at
+    worked_part ss vs ws ds (HaveWorked.NoneMade want same none) long fresh numbers in_h j s at =
+        no_part 1 ss vs long fresh numbers (subst (All (λ w. IsClerkIn h (number w) (front w) (calls w))) same in_h) j s at
+
+    pub parts_made : (ss : List (List C)) (vs ws : List (ClerkOf M C F)) (ds : List (List (ℕ × R))) → HaveWorked frame answers turn memory ss vs ws ds → length vs ≡ length ss → All (λ v. IsFresh frame turn v) vs → AreNumbered vs
+        → All (λ w. IsClerkIn h (number w) (front w) (calls w)) ws → OnlyClerks (length ss) h → HasScriptParts ss h
+    parts_made ss vs ws ds worked long fresh numbers in_h only = record {
+      own = λ place script at. let one : 1 + place ≡ place + 1 = omega arith in subst (λ n. IsPrefix (own_calls n h) script) one
+          (worked_part ss vs ws ds worked long fresh (λ j v l. numbers j v l ∙ omega arith) in_h place script at);
+      clerks = only;
+    }

@@ -5,13 +5,15 @@ use mathlib.Core.List.{IsPrefix}
 use Rattle.poets_machine.specs.Histories.{own_calls}
 use Rattle.poets_turn.specs.Settings.{OnlyClerks}
 
--- the calls of each clerk are its script, in order, and no other clerk's stand there
+-- the calls of each clerk in the history are its script, in order, and there are no calls of other
+-- clerks
 pub record HasScripts {C : Type 0} (scripts : List (List C)) (history : List (ℕ × C)) : Type 0 where
   pub own : (place : ℕ) (script : List C) → slice_get scripts place ≡ Some script →
       own_calls (place + 1) history ≡ script
   pub clerks : OnlyClerks (length scripts) history
 
--- the calls of each clerk are a prefix of its script, and no other clerk's stand there
+-- the calls of each clerk in the history are a prefix of its script, and there are no calls of
+-- other clerks
 pub record HasScriptParts {C : Type 0} (scripts : List (List C)) (history : List (ℕ × C)) : Type 0 where
   pub own : (place : ℕ) (script : List C) → slice_get scripts place ≡ Some script →
       IsPrefix (own_calls (place + 1) history) script

@@ -48,8 +48,8 @@ module _ {C R : Type 0} (answers : List (ℕ × C) → ℕ → C → R → Type 
   AreAnswers front clerk low (c ∷ calls) (d ∷ done) =
       IsAnswer front clerk c d.0 d.1 × (low ≤ d.0) × AreAnswers front clerk (d.0 + 1) calls done
 
-  -- one call more has this answer, and the clerk, which saw this and had made these calls, now saw
-  -- that and made those
+  -- the next call has this answer; the clerk, which had seen `saw` and made `made`, has now seen
+  -- `saw'` and made `made'`
   pub record IsAnswered (clerk : ℕ) (saw saw' : List (ℕ × C)) (made made' : List C) (call : C) (d : ℕ × R) :
       Type 0 where
     pub longer : IsPrefix saw saw'
@@ -58,7 +58,7 @@ module _ {C R : Type 0} (answers : List (ℕ × C) → ℕ → C → R → Type 
     pub within : d.0 < length saw'
     pub calls : made' ≡ made ++ call ∷ []
 
--- there is no answer for want of memory: the call may have been made
+-- there is no answer, because memory ran out: the call may have been made
 pub record IsUnanswered {C : Type 0} (saw saw' : List (ℕ × C)) (made made' : List C) (call : C) : Type 0 where
   pub longer : IsPrefix saw saw'
   pub calls : (made' ≡ made) ⊎ (made' ≡ made ++ call ∷ [])
@@ -70,11 +70,12 @@ module _ {M C R K F : Type 0} (frame : M → F) (answers : F → List (ℕ × C)
     pub of : IsClerkOf frame turn w
     pub same : number w ≡ number v
     pub longer : IsPrefix (front v) (front w)
-    -- its first calls have these answers, which stand in what it saw, behind all that it had seen
+    -- its first calls have these answers, whose places are in what it saw, after all that it had
+    -- seen before
     pub answered : AreAnswers (answers (turn_frame frame turn)) (front w) (number v) (length (front v)) script done
-    -- where memory did not want it made the whole script
+    -- where memory did not run out, it made the whole script
     pub whole : memory ≡ false → (length done ≡ length script) × (calls w ≡ calls v ++ script)
-    -- else it made the calls that are answered, or these and the next one
+    -- otherwise it made the calls that are answered, or these and the next one
     pub part : (calls w ≡ calls v ++ take (length done) script) ⊎ (calls w ≡ calls v ++ take (length done + 1) script)
 
   -- place by place, each clerk worked at its script

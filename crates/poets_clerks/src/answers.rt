@@ -4,7 +4,7 @@ use poets_turn::ClerkOf;
 use poets_value::List;
 
 /// The answer to a call: the number of entries before it in the history, and the reply.
-#[derive(Drop)]
+#[derive(Debug, PartialEq, Eq, Drop)]
 pub struct DoneOf<R> {
     pub place: u64,
     pub reply: R,
@@ -15,7 +15,7 @@ pub struct DoneOf<R> {
 pub struct WorkedOf<M, C, F, R> {
     pub clerks: List<ClerkOf<M, C, F>>,
     pub answers: List<List<DoneOf<R>>>,
-    /// Whether some clerk met want of memory.
+    /// Whether some clerk ran out of memory.
     pub memory: bool,
 }
 

@@ -1,7 +1,7 @@
 //! Gates, by which tests hold a clerk back.
 
-/// Is told of the stages of each call, and may hold the clerk there. Calls count from 1. A gate has no meaning in
-/// contracts.
+/// Hears of the stages of each call, and may hold the clerk there. Calls are counted from 1. To contracts a gate means
+/// nothing.
 pub trait Gate {
     /// The clerk is about to wait for its turn.
     fn before(&self, clerk: u32, call: u64);
@@ -14,6 +14,7 @@ pub trait Gate {
 }
 
 /// A gate that holds nobody back.
+#[derive(Debug, Clone, Copy, PartialEq, Eq)]
 pub struct NoGate;
 
 impl Gate for NoGate {

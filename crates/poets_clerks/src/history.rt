@@ -53,8 +53,8 @@ where
     }
 }
 
-/// As `make_history`, but the machine always comes back. Where memory ran out, its history has the calls that were made
-/// till then.
+/// As `make_history`, but the machine always comes back. If memory ran out, its history has the calls that were made
+/// until then.
 pub fn attempt_history<M: Machine + Send, G: Gate + Sync, R: Threads + Wait + Sync>(
     rt: &R,
     alloc: Global,

@@ -40,7 +40,7 @@ fn answer<M: Machine, G: Gate, R: Threads + Wait + Sync>(
     Ok(DoneOf { place, reply })
 }
 
-// Makes the calls of a script in order, up to the first want of memory, which the second part of the result tells.
+// Makes the calls of a script in order, until memory runs out, as the second part of the result then says.
 pub(crate) fn make_script<M: Machine, G: Gate, R: Threads + Wait + Sync>(
     rt: &R,
     alloc: Global,

@@ -15,8 +15,8 @@ use std::sync::{Arc, Wait};
 use std::thread::Threads;
 
 /// Has each clerk make the calls of its script in order, all at once, each in a thread of its own where one can be
-/// started. A clerk that meets want of memory makes no further call. Where there is no memory for the list of answers,
-/// it is empty, and no call was made.
+/// started. A clerk that runs out of memory makes no further call. If there is no memory for the list of answers, it is
+/// empty, and no call was made.
 pub fn work<M: Machine + Send, G: Gate + Sync, R: Threads + Wait + Sync>(
     rt: &R,
     alloc: Global,

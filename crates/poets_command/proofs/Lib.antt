@@ -1,4 +1,5 @@
 pub mod TypingRules
+pub mod Demanded
 pub mod TypedCommands
 pub mod Reports
 pub mod Crossing

@@ -17,7 +17,7 @@ names_declared (Template t) = t.name ∷ []
 names_declared (Report q) = q.name ∷ []
 names_declared _ = []
 
--- the agents or kinds among them, with their types
+-- the agents or kinds that a statement declares, with their types
 abbrev pub agents_and_kinds : Statement → Scope
 agents_and_kinds (Agents names) = map (λ x. (x, T.Agent)) names
 agents_and_kinds (Kinds names) = map (λ x. (x, T.Kind)) names

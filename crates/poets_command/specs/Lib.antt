@@ -7,6 +7,8 @@ pub mod Said
 pub mod Statements
 pub mod Declarations
 pub mod TypedStatements
+pub mod StatementDemands
+pub mod DemandLaws
 pub mod Typing
 pub mod Taken
 pub mod AnswerTypes

@@ -9,12 +9,12 @@ use Rattle.poets_expr.specs.Expression.{Expression}
 use Rattle.poets_expr.specs.Val.{whole}
 use Rattle.poets_report.specs.Plain.{Report, Answer}
 
--- one row more in the exact sum, which is none where a row is undefined or no whole number
+-- the exact sum with one more row; none where a row is undefined or no number
 abbrev pub added : Option ℤ → Answer → Option ℤ
 added (Some z) (Answer.Single (Some (V.Int n))) = Some (z +ℤ n)
 added _ _ = None
 
--- a sum outside the whole numbers of the language is undefined too
+-- the sum as a value: undefined where there is none, or where it is no whole number of the language
 abbrev pub if_whole : Option ℤ → Option Value
 if_whole None = None
 if_whole (Some z) = whole z

@@ -27,14 +27,15 @@ check_template book reports t = do
   _ ← check_new (in_use book reports) [] (map (λ p. p.name) t.params)
   check_contract book reports (scope_of t.params) t.body
 
--- a key may have any type
+-- the first fault of a key, which may have any type
 abbrev pub check_key : Declared → Scope → Option Expression → Verdict (Unit {0})
 check_key declared scope None = Passes tt
 check_key declared scope (Some key) = do
   _ ← type_of declared scope key
   Passes tt
 
--- the start, the fold name and the binders, the step, and the key, which does not see the fold name
+-- the first fault of a fold: of its start, the fold name and the binders, the step, and the key,
+-- which does not see the fold name
 abbrev pub check_fold : Book → (reports : List Name) → Scope → plain.Report → Verdict (Unit {0})
 check_fold book reports scope q = do
   _ ← check_type book.declared scope q.ty q.start
@@ -47,7 +48,7 @@ check_report book reports q = do
   _ ← check_new (in_use book reports) [] (map (λ p. p.name) q.params)
   check_fold book reports (scope_of q.params) q
 
--- the name is declared as the wanted one of an agent and a kind
+-- the fault of a name that is not declared as an agent or a kind, whichever is wanted
 abbrev pub check_declared : Declared → Ty → Name → Verdict (Unit {0})
 check_declared declared wanted x = do
   found ← name_type x (declared x)
@@ -59,7 +60,8 @@ check_event declared e = do
   _ ← check_declared declared T.Agent e.receiver
   check_declared declared T.Kind e.what.kind
 
--- a report with arguments of its parameters' types
+-- the first fault of a report that is given arguments: there is no such report, or they do not fit
+-- its parameters
 abbrev pub check_report_arguments : Declared → Name → Option plain.Report → List Expression → Verdict (Unit {0})
 check_report_arguments declared x None args = Fails (Unknown x)
 check_report_arguments declared x (Some q) args = check_arguments declared [] x q.params args
@@ -96,19 +98,19 @@ twice_from number earlier (s ∷ statements) =
     or_else (check_new (is_among earlier) [] (names_declared s)) number
     (twice_from (number + 1) (names_declared s ++ earlier) statements)
 
--- the first fault of types
+-- the first fault of types in the statements, which are numbered from this number on
 abbrev pub mistyped_from : ℕ → Book → List plain.Report → List Statement → TypeFault
 mistyped_from number book reports [] = None
 mistyped_from number book reports (s ∷ statements) =
     or_else (check_statement book reports s) number (mistyped_from (number + 1) book reports statements)
 
--- the first of two
+-- the first fault, or, if there is none, the second
 abbrev pub first_of : TypeFault → TypeFault → TypeFault
 first_of None later = later
 first_of (Some fault) later = Some fault
 
--- the first fault of statements under what the book among them declares: names that stand twice
--- come before all others
+-- the first fault of statements under what the book among them declares: a name that is declared
+-- twice comes before all others
 abbrev pub first_fault : List Statement → TypeFault
 first_fault statements =
     first_of (twice_from 1 [] statements) (mistyped_from 1 (book_from statements) (reports_of statements) statements)

@@ -17,13 +17,13 @@ use Rattle.poets_command.specs.Plain.{Tally, Portfolio, Watch, Read}
 use Rattle.poets_command.specs.Reports.{report_in}
 use Rattle.poets_command.specs.TypedStatements.{report_names}
 
--- a key may have any type
+-- the key, if there is one, has a type, whichever it is
 pub data HasKey (declared : Declared) (scope : Scope) : Option Expression → Type 0 where
   NoKey : HasKey declared scope None
   AKey : {e : Expression} {t : Ty} → Has declared scope e t → HasKey declared scope (Some e)
 
--- a report: new parameters; a start of its type; new names for the value so far and the parts of an
--- event; a step of its type; and a key, which does not see the value so far
+-- a typed report: new parameters; a start of its type; new names for the value so far and the parts
+-- of an event; a step of its type; and a key, which does not see the value so far
 pub record IsTypedReport (book : Book) (reports : List Name) (q : Report) : Type 0 where
   pub params : AreNew (in_use book reports) [] (map (λ p. p.name) q.params)
   pub start : Has book.declared (scope_of q.params) q.start q.ty
@@ -37,7 +37,7 @@ pub record IsTypedCall (book : Book) (reports : List Report) (x : Name) (args : 
   pub found : report_in reports x ≡ Some report
   pub fit : Fit book.declared [] report.params args
 
--- a command; contracts' names are a space of their own, in which nothing is declared
+-- a typed command; contracts' names are a space of their own, in which nothing is declared
 pub data IsTypedCommand (book : Book) (reports : List Report) : Command → Type 0 where
   Registers :
       {x : Name} {c : Contract} → IsTyped book (report_names reports) [] c →

@@ -6,8 +6,8 @@ use poets_syntax::Term;
 use poets_value::{Day, Event, List, Name, Value};
 use std::sync::Arc;
 
-/// What a clerk asks for. Contracts and reports are told by their names.
-#[derive(Drop)]
+/// What a clerk asks for. Contracts and reports are given by their names.
+#[derive(Debug, PartialEq, Eq, Drop)]
 pub enum Command {
     Register {
         name: Name,
@@ -18,7 +18,7 @@ pub enum Command {
         name: Name,
         event: Event,
     },
-    /// Withdraws the event at that place, from 1, of those that are recorded on the contract.
+    /// Withdraws the event at that place, counted from 1, among those that are recorded on the contract.
     Void {
         name: Name,
         place: u64,
@@ -48,8 +48,8 @@ pub enum Command {
     },
 }
 
-/// What a command is answered. Contracts and watches are numbered from 1.
-#[derive(Drop)]
+/// The reply to a command. Contracts and watches are numbered from 1.
+#[derive(Debug, PartialEq, Eq, Drop)]
 pub enum Reply {
     Registered(u64),
     /// The contract with that number has the name.
@@ -89,7 +89,7 @@ pub enum Reply {
 }
 
 /// A report over the events of each of several contracts.
-#[derive(Drop)]
+#[derive(Debug, PartialEq, Eq, Drop)]
 pub struct Folio {
     pub rows: List<(Name, Answer)>,
     /// The sum of the rows, for a report of whole numbers without a key. `Some(None)` is "undefined".
@@ -97,7 +97,7 @@ pub struct Folio {
 }
 
 /// A clerk's command with its reply.
-#[derive(Drop)]
+#[derive(Debug, PartialEq, Eq, Drop)]
 pub struct Entry {
     pub clerk: u32,
     pub command: Arc<Command>,

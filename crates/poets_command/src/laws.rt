@@ -1,5 +1,7 @@
 //! Laws of typed commands, each carried by a function that does nothing.
 ghost use Rattle.poets_command.specs.AnswerTypes.{AnswersHaveTypes};
+ghost use Rattle.poets_command.specs.DemandLaws.{CommandsByDemands, CommandFaultsByDemands};
+ghost use Rattle.poets_command.specs.DemandLaws.{StatementsByDemands, StatementFaultsByDemands};
 ghost use Rattle.poets_command.specs.Laws.{TemplatesByRules, ReportsByRules, CommandsByRules, TypedRegistration, TypedEvent, TypedReport};
 
 /// Templates, reports and commands pass their checks exactly where they are typed by the rules of typing
@@ -8,6 +10,15 @@ pub fn typed_by_rules()
     ensures templates { TemplatesByRules }
     ensures reports { ReportsByRules }
     ensures commands { CommandsByRules }
+{}
+
+/// The checks of commands and statements report the cause of the first demand of typing that is not met, and report
+/// nothing exactly where all are met (`docs/LANGUAGE.md`, "Names and types").
+pub fn faults_by_demands()
+    ensures commands { CommandsByDemands }
+    ensures command_faults { CommandFaultsByDemands }
+    ensures statements { StatementsByDemands }
+    ensures statement_faults { StatementFaultsByDemands }
 {}
 
 /// A typed registration is of a well-formed contract with the right numbers of arguments.

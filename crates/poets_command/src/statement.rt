@@ -6,7 +6,7 @@ use poets_syntax::Template;
 use poets_value::{List, Name};
 
 /// A statement of a session.
-#[derive(Drop)]
+#[derive(Debug, PartialEq, Eq, Drop)]
 pub enum Statement {
     Agents(List<Name>),
     Kinds(List<Name>),

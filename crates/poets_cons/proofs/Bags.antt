@@ -269,16 +269,21 @@ some_joined c d o e x y h f g = elim (cases_lt 0 o) [
   | inr l ↦ elim (cases_lt 0 e) [ inl m ↦ (let p = g m in omega (arith, p)) | inr m ↦ omega (arith, h, l, m) ]
 ]
 
-pub both_joined : (old mid new : List Bag) → AreBags old → IsLonger old mid → IsLonger mid new → (a b : ℕ) (r s : Bag) → 1 ≤ a → 1 ≤ b →
-    slice_get old (a - 1) ≡ Some r → slice_get old (b - 1) ≡ Some s → (count o e : ℕ) → count ≡ r.count + s.count →
-    IsBagOfBoth old r.odd s.odd mid o → IsBagOfBoth mid r.even s.even new e → AreSame (forked_at new count o e) (bag_at old a ++ bag_at old b)
-both_joined old mid new all first second a b r s some_a some_b at_a at_b count o e sum odd even =
-    let part = bag_at old in
-    let below_a = all.each (a - 1) r at_a in
-    let below_b = all.each (b - 1) s at_b in
-    let within_a = slice_get_within old (a - 1) r at_a in
-    let within_b = slice_get_within old (b - 1) s at_b in
-    let x = bag_later old mid first r.even (omega (arith, below_a.1, within_a)) in
-    let y = bag_later old mid first s.even (omega (arith, below_b.1, within_b)) in
-    rw (bag_of_row old all.each a r some_a at_a, bag_of_row old all.each b s some_b at_b, sum, bag_later mid new second o odd.1)
-    (fork_joined r.count s.count (bag_at mid o) (part r.odd) (part s.odd) (bag_at new e) (part r.even) (part s.even) odd.2 (rw (x, y) at even.2))
+-- a number's bag is not the empty one, and this is its row
+abbrev pub HasRow : List Bag → ℕ → Bag → Type 0
+HasRow bags a r = (1 ≤ a) × (slice_get bags (a - 1) ≡ Some r)
+
+-- a table that grew twice
+module _ (old mid new : List Bag) (all : AreBags old) (first : IsLonger old mid) (second : IsLonger mid new) where
+  pub both_joined : (a b : ℕ) (r s : Bag) → HasRow old a r → HasRow old b s → (count o e : ℕ) → count ≡ r.count + s.count →
+      IsBagOfBoth old r.odd s.odd mid o → IsBagOfBoth mid r.even s.even new e → AreSame (forked_at new count o e) (bag_at old a ++ bag_at old b)
+  both_joined a b r s at_a at_b count o e sum odd even =
+      let part = bag_at old in
+      let below_a = all.each (a - 1) r at_a.1 in
+      let below_b = all.each (b - 1) s at_b.1 in
+      let within_a = slice_get_within old (a - 1) r at_a.1 in
+      let within_b = slice_get_within old (b - 1) s at_b.1 in
+      let x = bag_later old mid first r.even (omega (arith, below_a.1, within_a)) in
+      let y = bag_later old mid first s.even (omega (arith, below_b.1, within_b)) in
+      rw (bag_of_row old all.each a r at_a.0 at_a.1, bag_of_row old all.each b s at_b.0 at_b.1, sum, bag_later mid new second o odd.1)
+      (fork_joined r.count s.count (bag_at mid o) (part r.odd) (part s.odd) (bag_at new e) (part r.even) (part s.even) odd.2 (rw (x, y) at even.2))

@@ -227,12 +227,14 @@ module _ (shapes : List Shape) (all : AreShapes shapes) where
       )
 
 -- what two classes count together, by the bags before
-pub classes_joined : (old mid later new : List Bag) (keys : List CodeShape) → AreShapes (map (shape_of old) keys) → IsLonger old mid → IsLonger mid later →
-    (a b m n j : ℕ) → IsBagOfClass old mid keys a m → IsBagOfClass mid later keys b n → IsBagOfBoth later m n new j → IsBagOfClasses old new keys a b j
-classes_joined old mid later new keys all first second a b m n j x y z =
-    let here = bag_later mid later second m x.0 ∙ x.1 in
-    let there = y.1 ∙ ap (λ shapes. parts_of b (shape_at shapes b)) (shapes_same old mid keys first all) in
-    (z.1, λ v. z.2 v ∙ ap₂ (λ ks ls. times v (ks ++ ls)) here there)
+module _ (old mid later new : List Bag) (keys : List CodeShape) (all : AreShapes (map (shape_of old) keys)) (first : IsLonger old mid)
+    (second : IsLonger mid later) where
+  pub classes_joined : (a b m n j : ℕ) → IsBagOfClass old mid keys a m → IsBagOfClass mid later keys b n → IsBagOfBoth later m n new j →
+      IsBagOfClasses old new keys a b j
+  classes_joined a b m n j x y z =
+      let here = bag_later mid later second m x.0 ∙ x.1 in
+      let there = y.1 ∙ ap (λ shapes. parts_of b (shape_at shapes b)) (shapes_same old mid keys first all) in
+      (z.1, λ v. z.2 v ∙ ap₂ (λ ks ls. times v (ks ++ ls)) here there)
 
 -- where a call may fail
 pub noted_any : {E : Type 0} (result : Result ℕ E) (nodes : List Node) (shapes : List Shape) (old new : List (Option ℕ)) (place class : ℕ) →

@@ -155,17 +155,27 @@ module _ (from old mid new : List Node) (before parts after : ℕ → Option ℕ
     ];
   }
 
--- two rows, one after the other
-pub both_copied : (from old mid new : List Node) (before parts after : ℕ → Option ℕ) (a b first second : ℕ) → IsCopied from old mid before parts a first →
-    IsCopied from mid new parts after b second → AreBothCopied from old new before after a b first second
-both_copied from old mid new before parts after a b first second x y = record {
-  grows = extends_twice old mid new x.grows y.grows;
-  copies = y.copies;
-  first_stands = stands_later mid new y.grows first (contract_at from a) x.stands;
-  second_stands = y.stands;
-  reached = reached_both old mid new y.grows first second x.reached y.reached;
-  later = λ k l m. y.later k m ∙ x.later k l;
-}
+-- two steps of copying, one after the other
+module _ (from old mid new : List Node) (before parts after : ℕ → Option ℕ) where
+  -- two rows
+  pub both_copied : (a b first second : ℕ) → IsCopied from old mid before parts a first → IsCopied from mid new parts after b second →
+      AreBothCopied from old new before after a b first second
+  both_copied a b first second x y = record {
+    grows = extends_twice old mid new x.grows y.grows;
+    copies = y.copies;
+    first_stands = stands_later mid new y.grows first (contract_at from a) x.stands;
+    second_stands = y.stands;
+    reached = reached_both old mid new y.grows first second x.reached y.reached;
+    later = λ k l m. y.later k m ∙ x.later k l;
+  }
+
+  -- the parts of a row, and then the row, whose copy is noted
+  pub noted_copied : (place copy : ℕ) (r : Row) (result : Result ℕ Memory) → place < length from → before place ≡ None →
+      ArePartsCopied from old mid before parts place r → IsAppended mid new r copy → IfOk result (λ p. p ≡ copy) →
+      OnOk result ((k : ℕ) → after k ≡ cond (nat_eq place k) (Some copy) (parts k)) → IfOk result (IsCopied from old new before after place)
+  noted_copied place copy r (Ok p) within none h a same notes =
+      subst (IsCopied from old new before after place) (sym same) (copied from old mid new before parts after place copy r within none h a notes)
+  noted_copied place copy r (Err e) within none h a same notes = tt
 
 -- a row without parts
 pub no_parts_copied : (from into : List Node) (copies : ℕ → Option ℕ) (place : ℕ) (r : Row) → AreCopies from into copies → AreBelow (length into) r →
@@ -222,11 +232,3 @@ no_copies from into copies none unnoted = subst (λ nodes. AreCopies from nodes 
   stand = λ k p e. let no : None ≡ Some p = sym (unnoted k) ∙ e in absurd cc;
   noted = λ p l. absurd (omega (arith, l));
 }
-
--- the copy is noted
-pub noted_copied : (from old mid new : List Node) (before parts after : ℕ → Option ℕ) (place copy : ℕ) (r : Row) (result : Result ℕ Memory) → place < length from →
-    before place ≡ None → ArePartsCopied from old mid before parts place r → IsAppended mid new r copy → IfOk result (λ p. p ≡ copy) →
-    OnOk result ((k : ℕ) → after k ≡ cond (nat_eq place k) (Some copy) (parts k)) → IfOk result (IsCopied from old new before after place)
-noted_copied from old mid new before parts after place copy r (Ok p) within none h a same notes =
-    subst (IsCopied from old new before after place) (sym same) (copied from old mid new before parts after place copy r within none h a notes)
-noted_copied from old mid new before parts after place copy r (Err e) within none h a same notes = tt

@@ -34,20 +34,21 @@ module _ (old mid new : List Node) (after : Extends mid new) (a : ℕ) (first : 
     | inr h ↦ last k h n
   ]
 
--- from the one row or from the other
-pub reached_both : (old mid new : List Node) → Extends mid new → (a b : ℕ) → AddsReached old mid a → AddsReached mid new b → AddsReachedBoth old new a b
-reached_both old mid new x a b first second k l n = elim (cases_lt k (length mid)) [
-  | inl h ↦ inl (reached_later mid new x (first k l h))
-  | inr h ↦ inr (second k h n)
-]
-
--- and so from the row that has the two as its parts
-pub reached_parts : (old mid new : List Node) → Extends mid new → (a b : ℕ) → AddsReachedBoth old mid a b → (r : Row) → IsPart r a → IsPart r b → (p : ℕ) →
-    slice_get (rows_of new) p ≡ Some r → AddsReached mid new p → AddsReached old new p
-reached_parts old mid new x a b both r f s p e last k l n = elim (cases_lt k (length mid)) [
-  | inl h ↦ elim (both k l h) [
-    | inl g ↦ reached_by (rows_of new) p a k r e f (reached_later mid new x g)
-    | inr g ↦ reached_by (rows_of new) p b k r e s (reached_later mid new x g)
+module _ (old mid new : List Node) (after : Extends mid new) (a b : ℕ) where
+  -- from the one row or from the other
+  pub reached_both : AddsReached old mid a → AddsReached mid new b → AddsReachedBoth old new a b
+  reached_both first second k l n = elim (cases_lt k (length mid)) [
+    | inl h ↦ inl (reached_later mid new after (first k l h))
+    | inr h ↦ inr (second k h n)
   ]
-  | inr h ↦ last k h n
-]
+
+  -- and so from the row that has the two as its parts
+  pub reached_parts : AddsReachedBoth old mid a b → (r : Row) → IsPart r a → IsPart r b → (p : ℕ) → slice_get (rows_of new) p ≡ Some r →
+      AddsReached mid new p → AddsReached old new p
+  reached_parts both r f s p e last k l n = elim (cases_lt k (length mid)) [
+    | inl h ↦ elim (both k l h) [
+      | inl g ↦ reached_by (rows_of new) p a k r e f (reached_later mid new after g)
+      | inr g ↦ reached_by (rows_of new) p b k r e s (reached_later mid new after g)
+    ]
+    | inr h ↦ last k h n
+  ]

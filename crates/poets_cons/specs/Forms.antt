@@ -2,7 +2,7 @@
 use Rattle.std.specs.Prelude.{Bool, true, false, ◌||◌, ◌&&◌}
 use Rattle.poets_syntax.specs.Contract.{Contract, Success, Failure, Transmit, Plus, Par, Seq, App}
 
--- whether a `||` stands in the contract
+-- whether there is a `||` in the contract
 abbrev pub has_parallel : Contract → Bool
 has_parallel Success = false
 has_parallel Failure = false

@@ -22,7 +22,7 @@ grown cs (r ∷ rows) = grown (cs ++ contract_by (nth cs) r ∷ []) rows
 abbrev pub rows_of : List Node → List Row
 rows_of nodes = map row_of nodes
 
--- their contracts
+-- the contracts of the rows of a table of nodes
 abbrev pub contracts_of : List Node → List Contract
 contracts_of nodes = grown [] (rows_of nodes)
 
@@ -46,7 +46,7 @@ AreDistinct rows = IsDistinct same_row rows
 abbrev pub with_row : Row → List Row → List Row
 with_row r rows = if list_any (same_row r) rows then rows else rows ++ r ∷ []
 
--- a row is reached from the root by way of parts
+-- a row is reached from the root through parts
 pub data Reached (rows : List Row) (root : ℕ) : ℕ → Type 0 where
   Root : Reached rows root root
   Part : {i k : ℕ} {r : Row} → Reached rows root i → slice_get rows i ≡ Some r → IsPart r k → Reached rows root k

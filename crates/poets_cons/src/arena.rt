@@ -164,7 +164,7 @@ impl Arena {
         form_at(self.forms.as_slice(), place).grouped
     }
 
-    /// Whether a `||` stands in a row.
+    /// Whether there is a `||` in the contract of a row.
     pub fn has_parallel(&self, place: usize) -> bool
         requires { place < length self.now }
         ensures { result ≡ has_parallel (contract_at self.now place) }

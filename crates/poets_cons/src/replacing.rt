@@ -13,8 +13,8 @@ use poets_syntax::substitution::{below, subst_args};
 use poets_value::{Memory, Name};
 use std::alloc::Global;
 
-/// The contract of the row with that number, its names replaced by literals, of two pairs of one name by the later.
-/// Below a transmit that binds a name, that name stays.
+/// The contract of the row with that number, its names replaced by literals; of two pairs with one name the later
+/// counts. Below a transmit that binds a name, that name stays.
 pub fn replaced_at(
     alloc: Global,
     nodes: &[Node],

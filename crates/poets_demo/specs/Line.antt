@@ -23,7 +23,7 @@ abbrev pub is_ended : Reply → Bool
 is_ended Reply.EndedNow = true
 is_ended _ = false
 
--- an event is refused, for the contract does not go on with it
+-- an event is refused, because the contract cannot go on after it
 abbrev pub is_refused : Reply → Bool
 is_refused Reply.Unmatched = true
 is_refused _ = false
@@ -34,16 +34,16 @@ abbrev pub amount_of : (total : Option (Option Value)) → ℤ
 amount_of (Some (Some (V.Int n))) = n
 amount_of _ = pos 0
 
--- what a reply tells as paid: the total of a portfolio
+-- what a reply says was paid: the total of a portfolio
 abbrev pub paid_in : Reply → ℤ
 paid_in (Reply.Folio rows total) = amount_of total
 paid_in _ = pos 0
 
--- how many replies in a history are such
+-- how many replies in a history pass the test
 abbrev pub count_replies : (such : Reply → Bool) → List Entry → ℕ
 count_replies such h = count_by (λ e. such e.reply) h
 
--- what the replies of a history tell as paid, all together
+-- what the replies of a history say was paid, all together
 abbrev pub paid : List Entry → ℤ
 paid h = fold ◌+ℤ◌ (pos 0) (map (λ e. paid_in e.reply) h)
 

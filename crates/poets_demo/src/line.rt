@@ -79,8 +79,8 @@ fn sums_of(entries: &[Entry]) -> Sums
 
 /// The line that sums up the history of a demonstration with so many sales a clerk, with its line feed.
 ///
-/// It tells how many entries there are, how many contracts were registered, events recorded,
-/// contracts ended and events refused, and what the portfolios tell as paid, all together.
+/// It says how many entries there are, how many contracts were registered, events recorded, contracts ended and events
+/// refused, and how much was paid by the totals of the portfolios.
 pub fn demo_line(alloc: Global, sales: u32, entries: &[Entry]) -> Result<String, Memory>
     ensures { IfOk result (λ line. string_bytes line ≡ spec.demo_line sales (history_of entries.now)) }
 {

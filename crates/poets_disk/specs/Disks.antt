@@ -2,8 +2,8 @@
 use Rattle.std.specs.Prelude.{◌≡◌, ℕ, ◌+◌, ◌-◌, ◌^◌, ◌≤◌, ◌↔◌, ◌⊎◌, max, List, ◌++◌, length, take}
 use Rattle.std.specs.Prelude.{drop, Option, Some}
 
--- a disk at a moment: the bytes that a read gives, where they are told, how many moments there were
--- so far, and the images of each, which are what a crash at that moment may leave
+-- a disk at a moment: the bytes that a read gives, if the disk tells them, how many moments there
+-- were so far, and the images of each, which are what a crash at that moment may leave
 pub record Seen : Type 1 where
   pub bytes : Option (List ℕ)
   pub clock : ℕ
@@ -27,7 +27,7 @@ pub record GoesOn (old new : Seen) : Type 0 where
   pub nothing_else : (moment : ℕ) (image : List ℕ) → moment ≤ old.clock → new.images moment image
       → old.images moment image
 
--- each image of a moment of the call has this
+-- this holds of each image at each moment of the call
 abbrev pub During : Seen → Seen → (List ℕ → Type 0) → Type 0
 During old new P = (image : List ℕ) → Since new old.clock image → P image
 

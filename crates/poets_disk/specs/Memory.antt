@@ -56,7 +56,7 @@ abbrev pub left_by : List ℕ → (List ℕ → Type 0) → List DiskCall → Li
 left_by held left [] image = left image
 left_by held left (call ∷ calls) image = left_by (held_after held call) (left_after held left call) calls image
 
--- the disk as it is seen: a moment for each of its calls, and one ahead of them
+-- the disk as it is seen: a moment for each of its calls, and one before them
 abbrev pub seen_of : MemoryFile → Seen
 seen_of m = record {
   bytes = Some (held_now m);
@@ -80,8 +80,8 @@ most_calls = 300_000
 abbrev pub NextFails : MemoryFile → Type 0
 NextFails m = Contains m.fails (length m.calls + 1) ⊎ (most_calls ≤ length m.calls)
 
--- a write of so many bytes from that place on passes the longest file, or the room for what was
--- written
+-- a write of so many bytes from that place on goes past the longest file, or past the room for what
+-- was written
 abbrev pub PassesRoom : MemoryFile → ℕ → ℕ → Type 0
 PassesRoom m at count = (longest_text < at + count) ⊎ (longest_text < written_by m.calls + count)
 
@@ -114,7 +114,8 @@ filled byte (failed_write at count) = failed_write at count
 filled byte synced = synced
 filled byte failed_sync = failed_sync
 
--- this is what a read gave after the last successful sync, or at the making
+-- this is what a read gave after the last successful sync, or, if there was none, when the disk was
+-- made
 pub record WasSynced (first : List ℕ) (calls : List DiskCall) (image : List ℕ) : Type 0 where
   pub before : List DiskCall
   pub after : List DiskCall

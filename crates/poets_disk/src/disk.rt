@@ -10,7 +10,7 @@ use poets_io::Failed;
 ///
 /// Until the next successful sync, a crash may leave any bytes in the ranges that were written since the last one.
 pub trait Disk {
-    /// The bytes that a read gives, where they are told, and what a crash may leave.
+    /// The bytes that a read gives, if the disk tells them, and what a crash may leave.
     ghost seen: { Self → Seen };
 
     /// How many faults there were.
@@ -23,14 +23,14 @@ pub trait Disk {
         ensures rests { Rests (seen self.old) (seen self.new) }
         ensures cause { HasCause (faults self.old) (faults self.new) result };
 
-    /// Reads some of the bytes from a place on into the front of `buf`, and says how many.
+    /// Reads some of the bytes from a place on into the start of `buf`, and returns how many.
     fn read(&mut self, at: u64, buf: &mut [u8]) -> Result<usize, Failed>
         ensures bound { ReadsAtMost result buf.new }
         ensures bytes { IfOk result (λ n. IfSome (seen self.old).bytes (Gives at n buf.new)) }
         ensures rests { Rests (seen self.old) (seen self.new) }
         ensures cause { HasCause (faults self.old) (faults self.new) result };
 
-    /// Writes the piece over what stands from a place on, and past the end.
+    /// Writes the piece over what is there from a place on, and past the end.
     fn write(&mut self, at: u64, piece: &[u8]) -> Result<(), Failed>
         requires { IfSome (seen self.old).bytes (λ file. at ≤ length file) }
         ensures written { OnOk result ((seen self.new).bytes ≡ option_map (over at piece.now) (seen self.old).bytes) }
@@ -47,7 +47,7 @@ pub trait Disk {
     /// What a read gives is one of the images.
     ghost reads_image: { (disk : Self) (file : List ℕ) → (seen disk).bytes ≡ Some file → MayLeave (seen disk) file };
 
-    /// Where the bytes are not told, no image is told.
+    /// A disk that does not tell its bytes tells no image.
     ghost silent: { (disk : Self) (start : ℕ) (image : List ℕ) → (seen disk).bytes ≡ None
         → ¬ (Since (seen disk) start image) };
 }

@@ -25,8 +25,9 @@ pub(crate) enum Mark {
     FailedSync,
 }
 
-/// A disk in memory that keeps its calls, so that it can tell what a crash may have left. It fails at the calls named,
-/// and at a call that would pass its room: a file of 16,777,216 bytes, and 16,777,216 written bytes in 300,000 calls.
+/// A disk in memory that keeps its calls, so that it can tell what a crash may have left. It fails at the calls with
+/// the given numbers, and at a call that would go past its room: a file of 16,777,216 bytes, and 16,777,216 written
+/// bytes in 300,000 calls.
 #[derive(Drop)]
 pub struct MemoryDisk {
     first: List<u8>,

@@ -18,9 +18,9 @@ use Rattle.poets_command.specs.Calls.{Call, calls_of}
 use Rattle.poets_rules.specs.declared.rules.Rules.{Rules}
 use Rattle.poets_rules.specs.Rules.{book_of_rules, reports_of_rules}
 use Rattle.poets_history.specs.Ledger.{ledger_of}
+use Rattle.poets_history.specs.Frame.{frame_of}
 use Rattle.poets_history.specs.Histories.{IsLegal}
 use Rattle.poets_history.proofs.Histories.{one_history}
-use Rattle.poets_history.proofs.OneFrames.{one_frame}
 use Rattle.poets_engine.specs.Accounts.{Accounts}
 use Rattle.poets_engine.specs.Rows.{Stands}
 use Rattle.poets_engine.specs.Store.{StoreView}
@@ -75,7 +75,5 @@ pub accounted_after : (rules : Rules) (calls : List Call) (store : StoreView) (x
     AccountsInStore rules store x found → (h : List Entry) → IsLegal (book_of_rules rules) (reports_of_rules rules) h → calls_of h ≡ calls →
     Accounts rules.studied (ledger_of h) x found
 accounted_after rules calls store x found stands is h legal same =
-    let kept = stands.legal in
-    let there = one_frame legal.frame kept.frame h (legal.book ∙ sym kept.book) (legal.reports ∙ sym kept.reports) legal.holds in
-    let one = one_history kept.frame stands.history h kept.holds there (stands.same ∙ sym same) in
+    let one = one_history (frame_of (book_of_rules rules) (reports_of_rules rules)) stands.history h stands.legal legal (stands.same ∙ sym same) in
     subst (λ g. Accounts rules.studied (ledger_of g) x found) one (is.right (ledger_of stands.history) stands.ledger)

@@ -26,14 +26,14 @@ use Rattle.poets_engine.proofs.WatchLedgers.{watches_same}
 module _ (rules : Rules) (x : Name) (old : StoreView) where
   pub end_absent : number_named x old.rows ≡ None → Makes rules (Command.End x) old old (Reply.NoContract x)
   end_absent none =
-      leaves rules (Command.End x) (Reply.NoContract x) old (λ l. refl) (λ l h right. Replies.EndOfNone (absent rules l x old h none))
+      leaves rules (Command.End x) (Reply.NoContract x) old (λ l. refl) (λ l h. Replies.EndOfNone (absent rules l x old h none))
 
   module _ (n : ℕ) (r : RowView Term (List Node)) (found : number_named x old.rows ≡ Some n) (row : slice_get old.rows (n - 1) ≡ Some r) where
     standing : (l : Ledger) → IsLedger rules l old → Stood rules.studied l x old.rows n r
     standing l h = stood rules l x old h n r found row
 
     pub end_over : r.ended ≡ true → Makes rules (Command.End x) old old Reply.AlreadyEnded
-    end_over e = leaves rules (Command.End x) Reply.AlreadyEnded old (λ l. refl) (λ l h right.
+    end_over e = leaves rules (Command.End x) Reply.AlreadyEnded old (λ l. refl) (λ l h.
         let c = standing l h in
         Replies.AlreadyEnded c.named (sym c.is.ended ∙ e))
 
@@ -43,7 +43,7 @@ module _ (rules : Rules) (x : Name) (old : StoreView) where
       told l h c = told_end rules.studied (study rules l old h) l (1 + c.place) r c.is may_end tells
 
       pub end_owes : may_end ≡ false → Makes rules (Command.End x) old old Reply.NotPerformed
-      end_owes fails = leaves rules (Command.End x) Reply.NotPerformed old (λ l. refl) (λ l h right.
+      end_owes fails = leaves rules (Command.End x) Reply.NotPerformed old (λ l. refl) (λ l h.
           let c = standing l h in
           Replies.NotPerformed (running rules.studied l x old.rows n r c goes_on) (λ p. let z : true ≡ false = sym ((told l h c).1 p) ∙ fails in cc))
 
@@ -70,6 +70,6 @@ module _ (rules : Rules) (x : Name) (old : StoreView) where
             })
 
         pub end_now : may_end ≡ true → Makes rules (Command.End x) old new Reply.EndedNow
-        end_now holds = changes rules (Command.End x) Reply.EndedNow old new refl (λ l h right.
+        end_now holds = changes rules (Command.End x) Reply.EndedNow old new refl (λ l h.
             let c = standing l h in
             Replies.EndedNow (running rules.studied l x old.rows n r c goes_on) ((told l h c).0 holds)) finishes

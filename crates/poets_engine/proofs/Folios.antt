@@ -26,7 +26,7 @@ use Rattle.poets_command.specs.Reports.{report_in}
 use Rattle.poets_command.specs.Totals.{total_of}
 use Rattle.poets_rules.specs.declared.rules.Rules.{Rules}
 use Rattle.poets_rules.specs.Rules.{book_of_rules, reports_of_rules}
-use Rattle.poets_history.specs.Frame.{Frame}
+use Rattle.poets_history.specs.Frame.{Frame, frame_of}
 use Rattle.poets_history.specs.Ledger.{Ledger, ledger_of, contract_named, number_in, number_of, trace, absent_or, first_absent}
 use Rattle.poets_history.specs.Replies.{argument_values, AreFolioRows, Replies}
 use Rattle.poets_engine.specs.Store.{StoreView}
@@ -40,7 +40,7 @@ use Rattle.poets_engine.specs.declared.kept.FolioWork.{FolioWork}
 use Rattle.poets_engine.specs.declared.kept.Body.{Body}
 use Rattle.poets_engine.specs.declared.kept.Body.TheVariants.{Done, Folio}
 use Rattle.poets_engine.proofs.Histories.{answered}
-use Rattle.poets_engine.proofs.Standing.{frame_by, leaves, stood, absent, taken}
+use Rattle.poets_engine.proofs.Standing.{leaves, stood, absent, taken}
 use Rattle.poets_engine.proofs.Tallying.{values_by, within}
 use Rattle.poets_engine.proofs.Named.{has_name}
 
@@ -118,15 +118,16 @@ module _ (book : _) (reports : List Report) (l : Ledger) (x : Name) (args : List
   abbrev asked : Report
   asked = report_of (arc_value work.report)
 
-  gives : (f : Frame) → f.book ≡ book → f.reports ≡ reports → (rows : List (Name × plain.Answer)) →
+  abbrev f : Frame
+  f = frame_of book reports
+
+  gives : (rows : List (Name × plain.Answer)) →
       AllZip (IsPlainRow (declared_of (arc_value work.decls).names) asked work.args.items) work.parts.items rows →
       Replies f l (Command.Portfolio x args over) (Reply.Folio rows (total_of asked rows))
-  gives f b r rows answers =
-      let declared : declared_of (arc_value work.decls).names ≡ f.book.declared = h.decls ∙ ap (λ k. k.declared) (sym b) in
-      let values : work.args.items ≡ argument_values f args = h.values ∙ ap (λ k. map (val k.declared []) args) (sym b) in
-      let valued = subst (λ vs. AllZip (IsPlainRow (declared_of (arc_value work.decls).names) asked vs) work.parts.items rows) values answers in
-      let here = subst (λ d. AllZip (IsPlainRow d asked (argument_values f args)) work.parts.items rows) declared valued in
-      Replies.Folio h.there (ap (λ qs. report_in qs x) r ∙ h.report) (folio_rows f l asked args over work.parts.items rows h.parts here)
+  gives rows answers =
+      let valued = subst (λ vs. AllZip (IsPlainRow (declared_of (arc_value work.decls).names) asked vs) work.parts.items rows) h.values answers in
+      let here = subst (λ d. AllZip (IsPlainRow d asked (argument_values f args)) work.parts.items rows) h.decls valued in
+      Replies.Folio h.there h.report (folio_rows f l asked args over work.parts.items rows h.parts here)
 
 -- what `finish` makes of the work answers whatever command the work is owed to
 pub folio_fulfils : (place : ℕ) (work : FolioWork) (rows : List (Name × Answer)) (total : Option (Option Value)) →
@@ -135,21 +136,16 @@ pub folio_fulfils : (place : ℕ) (work : FolioWork) (rows : List (Name × Answe
     Fulfils (record { place = place; body = Folio work }) (Reply.Folio (map folio_row_of rows) total)
 folio_fulfils place work rows total r totalled = λ book reports calls command owes.
     let o = owes.reply in
-    let f = o.legal.frame in
+    let f = frame_of book reports in
     let q = report_of (arc_value work.report) in
     let plain = plain_rows (declared_of (arc_value work.decls).names) q work.args.items work.parts.items rows r in
-    let made = gives book reports (ledger_of o.history) o.report o.args o.over work o.holds f o.legal.book o.legal.reports (map folio_row_of rows) plain in
+    let made = gives book reports (ledger_of o.history) o.report o.args o.over work o.holds (map folio_row_of rows) plain in
     let asked = subst (λ c. Replies f (ledger_of o.history) c (Reply.Folio (map folio_row_of rows) (total_of q (map folio_row_of rows)))) (sym o.asked) made in
     record {
-      frame = f;
-      book = o.legal.book;
-      reports = o.legal.reports;
-      holds = record {
-        history = o.history;
-        legal = o.legal.holds;
-        same = o.same;
-        reply = subst (λ t. Replies f (ledger_of o.history) command (Reply.Folio (map folio_row_of rows) t)) (sym totalled) asked;
-      };
+      history = o.history;
+      legal = o.legal;
+      same = o.same;
+      reply = subst (λ t. Replies f (ledger_of o.history) command (Reply.Folio (map folio_row_of rows) t)) (sym totalled) asked;
     }
 
 -- what was prepared has a reply
@@ -161,7 +157,7 @@ prepared_makes rules command store work p =
     let reply = Reply.Folio found.0 (total_of q found.0) in (
       reply,
       subst (λ c. Makes rules c store store reply) (sym p.asked) (leaves rules (Command.Portfolio p.report p.args p.over) reply store (λ l. refl)
-          (λ l h right. gives (book_of_rules rules) (reports_of_rules rules) l p.report p.args p.over work (p.holds l h) (frame_by rules right) refl refl found.0 found.1)),
+          (λ l h. gives (book_of_rules rules) (reports_of_rules rules) l p.report p.args p.over work (p.holds l h) found.0 found.1)),
     )
 
 module _ (rules : Rules) (command : Command) (old new : StoreView) where
@@ -195,7 +191,7 @@ module _ (rules : Rules) (command : Command) (old new : StoreView) where
 module _ (rules : Rules) (x : Name) (args : List Expression) (over : List Name) (store : StoreView) where
   pub portfolio_absent : (y : Name) → absent_from store.rows over ≡ Some y → Makes rules (Command.Portfolio x args over) store store (Reply.NoContract y)
   portfolio_absent y e =
-      leaves rules (Command.Portfolio x args over) (Reply.NoContract y) store (λ l. refl) (λ l h right. Replies.PortfolioOfNone (sym (absent_same rules l store h over) ∙ e))
+      leaves rules (Command.Portfolio x args over) (Reply.NoContract y) store (λ l. refl) (λ l h. Replies.PortfolioOfNone (sym (absent_same rules l store h over) ∙ e))
 
   pub portfolio_prepared : (work : FolioWork) → absent_from store.rows over ≡ None → declared_of (arc_value work.decls).names ≡ (book_of_rules rules).declared →
       report_in (reports_of_rules rules) x ≡ Some (report_of (arc_value work.report)) → work.args.items ≡ values_by rules args → AllZip (IsPart store.rows) over work.parts.items →

@@ -9,39 +9,27 @@ use Rattle.std.specs.Arc.{arc_value}
 use Rattle.poets_syntax.specs.Contract.{contract_of}
 use Rattle.poets_syntax.specs.Whole.{IsWholeBook}
 use Rattle.poets_meaning.specs.Studied.{IsStudiedBook}
-use Rattle.poets_meaning.proofs.StudiedMarks.{AreRight-studied}
 use Rattle.poets_command.specs.declared.call.Command.{Command}
 use Rattle.poets_command.specs.Plain.{Reply, Entry}
 use Rattle.poets_command.specs.Calls.{Call, command_of}
 use Rattle.poets_command.specs.Plain as plain
 use Rattle.poets_rules.specs.declared.rules.Rules.{Rules}
 use Rattle.poets_rules.specs.Rules.{book_of_rules, reports_of_rules}
-use Rattle.poets_history.specs.Histories.{IsLegal, RepliesIn, AnswersIn}
+use Rattle.poets_history.specs.Histories.{RepliesIn, AnswersIn}
 use Rattle.poets_history.specs.Ledger.{ledger_of, empty_ledger}
 use Rattle.poets_history.specs.Replies.{Legal}
 use Rattle.poets_history.proofs.Histories.{ledger_last, calls_last}
-use Rattle.poets_history.proofs.OneFrames.{one_frame}
 use Rattle.poets_engine.specs.Store.{StoreView}
 use Rattle.poets_engine.specs.State.{commands_of, plain_calls}
 use Rattle.poets_engine.specs.Rows.{IsLedger, RowsAre, WatchIs, Stands}
 use Rattle.poets_engine.specs.code.Makes.{Makes}
-use Rattle.poets_engine.proofs.Standing.{frame_by}
-
--- no call is a legal history
-pub empty_legal : (rules : Rules) → IsStudiedBook (book_of_rules rules) rules.studied.marks → IsLegal (book_of_rules rules) (reports_of_rules rules) []
-empty_legal rules studied = record {
-  frame = frame_by rules (AreRight-studied (book_of_rules rules) rules.studied.marks studied);
-  book = refl;
-  reports = refl;
-  holds = Legal.Empty;
-}
 
 -- nothing kept is the empty ledger
 pub empty_stands : (rules : Rules) (calls : List Call) (store : StoreView) → IsStudiedBook (book_of_rules rules) rules.studied.marks → IsWholeBook (book_of_rules rules) →
     calls ≡ [] → store.rows ≡ [] → store.log ≡ [] → store.watches ≡ [] → Stands rules calls store
 empty_stands rules calls store studied whole c r l w = record {
   history = [];
-  legal = empty_legal rules studied;
+  legal = Legal.Empty;
   same = sym c;
   ledger = record {
     studied = studied;
@@ -60,28 +48,19 @@ module _ (rules : Rules) (calls : List Call) (command : plain.Command) (given_re
   reply : RepliesIn (book_of_rules rules) (reports_of_rules rules) (ledger_of h.history) command given_reply
   reply = makes.reply (ledger_of h.history) h.ledger
 
-  -- the history is legal in the frame of the reply
-  legal : Legal reply.frame h.history
-  legal = one_frame h.legal.frame reply.frame h.history (h.legal.book ∙ sym reply.book) (h.legal.reports ∙ sym reply.reports) h.legal.holds
-
   -- with one more entry what is kept is the ledger of a legal history again
   pub stands_more : (clerk : ℕ) → Stands rules (calls ++ (clerk, command) ∷ []) new
   stands_more clerk =
       let e : Entry = record { clerk = clerk; command = command; reply = given_reply } in
       record {
         history = h.history ++ e ∷ [];
-        legal = record { frame = reply.frame; book = reply.book; reports = reply.reports; holds = Legal.More e legal reply.holds };
+        legal = Legal.More e h.legal reply;
         same = calls_last h.history e ∙ ap (λ cs. cs ++ (clerk, command) ∷ []) h.same;
         ledger = subst (λ l. IsLedger rules l new) (sym (ledger_last h.history e)) (makes.store (ledger_of h.history) h.ledger);
       }
 
   pub answered : AnswersIn (book_of_rules rules) (reports_of_rules rules) calls command given_reply
-  answered = record {
-    frame = reply.frame;
-    book = reply.book;
-    reports = reply.reports;
-    holds = record { history = h.history; legal = legal; same = h.same; reply = reply.holds };
-  }
+  answered = record { history = h.history; legal = h.legal; same = h.same; reply = reply }
 
 pub commands_last : (h h' : List (ℕ × Arc Command Global)) (clerk : ℕ) (a : Arc Command Global) (command : Command) → h' ≡ h ++ (clerk, a) ∷ [] → arc_value a ≡ command →
     commands_of h' ≡ commands_of h ++ (clerk, command) ∷ []

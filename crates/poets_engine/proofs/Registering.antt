@@ -11,7 +11,6 @@ use Rattle.poets_syntax.specs.Applied.{CountsFit}
 use Rattle.poets_meaning.specs.Studied.{marks_of}
 use Rattle.poets_meaning.specs.Marks.{Hopeful}
 use Rattle.poets_calculus.specs.Normal.{normal}
-use Rattle.std.proofs.lemmas.Bool.{false≢true}
 use Rattle.poets_residue.specs.Limits.{is_past_limit_in}
 use Rattle.poets_cons.specs.declared.node.Node.{Node}
 use Rattle.poets_cons.specs.Table.{contract_of_rows}
@@ -30,14 +29,14 @@ use Rattle.poets_engine.specs.code.Judgements.{Refused, Owed, is_failure, judge,
 use Rattle.poets_engine.specs.code.Makes.{Makes}
 use Rattle.poets_engine.proofs.Named.{named}
 use Rattle.poets_engine.proofs.Rows.{with_contract, rows_added, new_row_is}
-use Rattle.poets_engine.proofs.Standing.{frame_by, study, leaves, changes, absent, taken}
+use Rattle.poets_engine.proofs.Standing.{frame_by, study, is_too_large, is_in_limit, leaves, changes, absent, taken}
 use Rattle.poets_engine.proofs.WatchLedgers.{watches_same}
 use Rattle.poets_engine.proofs.Owed.{normal_hopeless, normal_kept, normal_hopeful, failure_is, no_failure}
 
 module _ (rules : Rules) (x : Name) (c : Contract) (old : StoreView) where
   pub register_taken : (n : ℕ) → number_named x old.rows ≡ Some n → Makes rules (Command.Register x c) old old (Reply.NameTaken n)
   register_taken n found = leaves rules (Command.Register x c) (Reply.NameTaken n) old (λ l. refl)
-      (λ l h right. Replies.NameTaken (taken rules l x old h n found).1)
+      (λ l h. Replies.NameTaken (taken rules l x old h n found).1)
 
   module _ (is_taken : IsTaken (book_of_rules rules) (reports_of_rules rules) (Command.Register x c)) (free : number_named x old.rows ≡ None) where
     formed : IsWellFormed (book_of_rules rules).declared c
@@ -63,11 +62,11 @@ module _ (rules : Rules) (x : Name) (c : Contract) (old : StoreView) where
         (refusal : Reply) → Refused refusal ≡ judged Reply.Hopeless failed large form → Makes rules (Command.Register x c) old old refusal
     registers_refused true large e k refusal q = subst (Makes rules (Command.Register x c) old old) (let z : Reply.Hopeless ≡ refusal = cc in z)
         (leaves rules (Command.Register x c) Reply.Hopeless old (λ l. refl)
-        (λ l h right. Replies.Hopeless (none l h)
+        (λ l h. Replies.Hopeless (none l h)
         (normal_hopeless (book_of_rules rules) (marks_of rules.studied) (study rules l old h) c formed (failure_is form e))))
     registers_refused false true e k refusal q = subst (Makes rules (Command.Register x c) old old) (let z : Reply.TooLarge ≡ refusal = cc in z)
         (leaves rules (Command.Register x c) Reply.TooLarge old (λ l. refl)
-        (λ l h right. Replies.RegisterTooLarge (none l h) (hopeful l h e) k))
+        (λ l h. Replies.RegisterTooLarge (none l h) (hopeful l h e) (is_too_large rules l old h c [] k)))
     registers_refused false false e k refusal q = absurd cc
 
     pub register_refused : (made : Contract) (refusal : Reply) → made ≡ form → Refused refusal ≡ judge rules.studied Reply.Hopeless made →
@@ -106,10 +105,10 @@ module _ (rules : Rules) (x : Name) (c : Contract) (old : StoreView) where
       registers_kept false false e k q =
           let same : contract_of_rows current ≡ form = cc in
           changes rules (Command.Register x c) (Reply.Registered (length old.rows + 1)) old new refl
-          (λ l h right.
+          (λ l h.
           let count : length old.rows ≡ length l.contracts = sym (length-map old.rows named) ∙ ap length h.contracts in
-          subst (λ n. Replies (frame_by rules right) l (Command.Register x c) (Reply.Registered (n + 1))) (sym count)
-          (Replies.Registered (none l h) (hopeful l h e) (λ past. false≢true (sym k ∙ past))))
+          subst (λ n. Replies (frame_by rules) l (Command.Register x c) (Reply.Registered (n + 1))) (sym count)
+          (Replies.Registered (none l h) (hopeful l h e) (is_in_limit rules l old h c [] k)))
           (adds same e k)
 
       pub register_kept : (made : Contract) (n : ℕ) → made ≡ form → Owed (contract_of_rows current) ≡ judge rules.studied Reply.Hopeless made → n ≡ length old.rows + 1 →

@@ -12,14 +12,14 @@ use Rattle.poets_syntax.specs.WellFormed.{IsWellFormed, IsDeclaredEvent}
 use Rattle.poets_meaning.specs.Perf.{Perf}
 use Rattle.poets_meaning.specs.Studied.{IsStudiedBook, marks_in}
 use Rattle.poets_meaning.proofs.StudiedMarks.{AreRight-studied}
-use Rattle.poets_calculus.specs.Residual.{residual_after}
 use Rattle.poets_residue.proofs.Studies.{IsStudied-book}
 use Rattle.poets_residue.proofs.Traces.{trace_performed}
 use Rattle.poets_report.specs.Plain.{Report}
 use Rattle.poets_command.specs.Plain.{Command, Reply, Entry}
-use Rattle.poets_history.specs.Frame.{Frame}
+use Rattle.poets_history.specs.Frame.{Frame, frame_of}
 use Rattle.poets_history.specs.Histories.{ShowsWhatIsOwed}
 use Rattle.poets_history.specs.Gathered.{with_before}
+use Rattle.poets_history.specs.Owed.{Owed}
 use Rattle.poets_meaning.specs.declared.studied.Mark.{Mark}
 use Rattle.poets_value.specs.declared.event.Event.{Event}
 use Rattle.poets_command.specs.Typing.{IsTypedCommand}
@@ -27,7 +27,7 @@ use Rattle.poets_command.proofs.TypedCommands.{typed_registration, typed_event}
 use Rattle.poets_history.specs.Ledger.{Ledger, ledger_of, number_of, without, empty_ledger, with_entry, contract_from, contract_named, trace}
 use Rattle.poets_history.specs.Replies.{Legal, Replies}
 use Rattle.poets_history.proofs.Histories.{legal_reply}
-use Rattle.poets_history.proofs.OneFrames.{one_frame}
+use Rattle.poets_history.proofs.Owing.{owed_residual}
 use Rattle.poets_engine.specs.Laws.{LegalHistoriesShow}
 
 -- a chosen value is the first or the later one
@@ -108,25 +108,26 @@ module _ (book : Book) (reports : List Report) where
   some_one : {A : Type 0} (x y : A) → Some x ≡ Some y → x ≡ y
   some_one x y e = cc
 
-  -- a reply that shows a residual shows that of the contract's original by its trace
-  shown_is : (f : Frame) (l : Ledger) (x : Name) (n : ℕ) (o : Contract) (residual : Contract) (count : ℕ) (may_end ended : Bool) →
-      contract_named l x ≡ Some (n, o) → Replies f l (Command.Show x) (Reply.Shown residual count may_end ended) → residual ≡ residual_after f.book f.marks o (trace l n)
-  shown_is f l x n o _ _ _ _ e (Replies.Shown {i = i} {o = o'} named tells) =
-      ap (λ p. residual_after f.book f.marks p.1 (trace l p.0)) (some_one (i, o') (n, o) (sym named ∙ e))
+  -- the frame of the book and the reports
+  abbrev frame : Frame
+  frame = frame_of book reports
+
+  -- a reply that shows a residual shows what is owed on the contract's original after its trace
+  shown_is : (l : Ledger) (x : Name) (n : ℕ) (o : Contract) (residual : Contract) (count : ℕ) (may_end ended : Bool) →
+      contract_named l x ≡ Some (n, o) → Replies frame l (Command.Show x) (Reply.Shown residual count may_end ended) → Owed book o (trace l n) residual
+  shown_is l x n o residual _ _ _ e (Replies.Shown {i = i} {o = o'} named owed tells) =
+      subst (λ p. Owed book p.1 (trace l p.0) residual) (some_one (i, o') (n, o) (sym named ∙ e)) owed
 
   module _ (marks : List Mark) (studied : IsStudiedBook book marks) where
-    -- the frame of a studied book
-    abbrev frame : Frame
-    frame = record { book = book; reports = reports; marks = marks_in book.templates marks; right = AreRight-studied book marks studied }
-
     -- each reply shows what is owed
     shows_reply : (l : Ledger) (command : Command) (reply : Reply) → IsSound l → Replies frame l command reply → ShowsWhatIsOwed book l command reply
     shows_reply l (Command.Show x) (Reply.Shown residual count may_end ended) ok reply = λ number original named s.
-        let is = shown_is frame l x number original residual count may_end ended named reply in
+        let is = owed_residual book (marks_in book.templates marks) (AreRight-studied book marks studied) original (trace l number) residual
+        (shown_is l x number original residual count may_end ended named reply) in
         let fits = named_fits 1 x l.contracts number original ok.contracts named in
         let law = trace_performed book (marks_in book.templates marks) (IsStudied-book book marks studied) original fits.0 fits.1 (trace l number)
         (trace_declared l number ok) s in
-        subst (λ r. Perf book [] r s ↔ Perf book [] original (trace l number ++ s)) (sym is) law
+        subst (λ r. Perf book [] r s ↔ Perf book [] original (trace l number ++ s)) is law
     shows_reply l _ _ ok reply = tt
 
 -- what holds of each entry with all that stands before it
@@ -140,8 +141,7 @@ All-with_before P (e ∷ h) each =
 
 pub legal_histories_show : LegalHistoriesShow
 legal_histories_show book marks reports h studied legal typed =
-    let all : Legal (frame book reports marks studied) h = one_frame legal.frame (frame book reports marks studied) h legal.book legal.reports legal.holds in
     All-with_before (λ p. ShowsWhatIsOwed book (ledger_of p.0) p.1.command p.1.reply) h (λ before after e split.
-    let reply = legal_reply (frame book reports marks studied) before e after (subst (Legal (frame book reports marks studied)) split all) in
+    let reply = legal_reply (frame_of book reports) before e after (subst (Legal (frame_of book reports)) split legal) in
     let ok = sound book reports before (front book reports before (e ∷ after) (subst (AreTyped book reports) split typed)) in
     shows_reply book reports marks studied (ledger_of before) e.command e.reply ok reply)

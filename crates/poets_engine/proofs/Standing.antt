@@ -2,13 +2,15 @@
 use Rattle.std.proofs.Common.{◌≡◌, ℕ, ◌+◌, Bool, true, false, ◌-◌, List, [], Option, Some, None, slice_get, option_map, refl, sym, ◌∙◌, ap, subst, arith}
 use Rattle.std.specs.Prelude.{IsTrue, ◌↔◌}
 use Rattle.std.specs.List.{position}
+use Rattle.std.proofs.lemmas.Bool.{false≢true}
+use Rattle.poets_value.specs.declared.event.Event.{Event}
 use Rattle.poets_value.specs.declared.value.Name.{Name}
 use Rattle.poets_syntax.specs.Contract.{Contract, contract_of}
 use Rattle.poets_syntax.specs.declared.term.Term.{Term}
-use Rattle.poets_meaning.specs.Marks.{AreRight}
 use Rattle.poets_meaning.specs.Perf.{Perf}
 use Rattle.poets_meaning.specs.Studied.{StudiedBook, marks_of}
-use Rattle.poets_meaning.proofs.StudiedMarks.{AreRight-studied}
+use Rattle.poets_calculus.specs.Residual.{residual_after}
+use Rattle.poets_residue.specs.Limits.{is_past_limit_in}
 use Rattle.poets_residue.specs.Unfolding.{IsStudied}
 use Rattle.poets_residue.proofs.Studies.{IsStudied-book}
 use Rattle.poets_cons.specs.declared.node.Node.{Node}
@@ -18,9 +20,10 @@ use Rattle.poets_command.specs.Plain.{Command, Reply}
 use Rattle.poets_rules.specs.declared.rules.Rules.{Rules}
 use Rattle.poets_rules.specs.Rules.{book_of_rules, reports_of_rules}
 use Rattle.poets_history.specs.Ledger.{Ledger, with_entry, contract_named, contract_from, trace}
-use Rattle.poets_history.specs.Frame.{Frame}
-use Rattle.poets_history.specs.Histories.{RepliesIn}
-use Rattle.poets_history.specs.Replies.{Replies, IsOpen}
+use Rattle.poets_history.specs.Frame.{Frame, frame_of}
+use Rattle.poets_history.specs.Owed.{Owed}
+use Rattle.poets_history.specs.Replies.{Replies, IsOpen, IsTooLarge}
+use Rattle.poets_history.proofs.Owing.{residual_owed, large, found_large}
 use Rattle.poets_engine.specs.Store.{StoreView}
 use Rattle.poets_engine.specs.Rows.{IsLedger, RowIs}
 use Rattle.poets_history.specs.Ledger.{is_accepted}
@@ -29,31 +32,38 @@ use Rattle.poets_engine.proofs.Named.{has_name, contract_from-none, contract_fro
 use Rattle.poets_engine.proofs.Owed.{residual_performed}
 use Rattle.poets_engine.proofs.Rows.{book_in}
 
-abbrev pub marks_by : Rules → Type 0
-marks_by rules = AreRight (book_of_rules rules) (marks_of rules.studied)
-
 -- the frame of rules
-abbrev pub frame_by : (rules : Rules) → marks_by rules → Frame
-frame_by rules right = record { book = book_of_rules rules; reports = reports_of_rules rules; marks = marks_of rules.studied; right = right }
+abbrev pub frame_by : Rules → Frame
+frame_by rules = frame_of (book_of_rules rules) (reports_of_rules rules)
 
 -- the book of rules was studied
 pub study : (rules : Rules) (l : Ledger) (store : StoreView) → IsLedger rules l store → IsStudied (book_of_rules rules) (marks_of rules.studied)
 study rules l store h = IsStudied-book (book_of_rules rules) rules.studied.marks h.studied
 
+module _ (rules : Rules) (l : Ledger) (store : StoreView) (h : IsLedger rules l store) (o : Contract) (s : List Event) where
+  abbrev left : Contract
+  left = residual_after (book_of_rules rules) (marks_of rules.studied) o s
+
+  -- the residual by the marks of the studied book is owed, and its measures decide whether it is too large
+  pub residual_is_owed : Owed (book_of_rules rules) o s left
+  residual_is_owed = residual_owed (book_of_rules rules) (marks_of rules.studied) (study rules l store h).right o s
+
+  pub is_too_large : is_past_limit_in rules.studied left ≡ true → IsTooLarge (frame_by rules) o s
+  is_too_large e = large (book_of_rules rules) (marks_of rules.studied) (study rules l store h).right o s (frame_by rules) refl e
+
+  pub is_in_limit : is_past_limit_in rules.studied left ≡ false → IsTooLarge (frame_by rules) o s → ⊥
+  is_in_limit e past =
+      false≢true (sym e ∙ found_large (book_of_rules rules) (marks_of rules.studied) (study rules l store h).right o s (frame_by rules) refl past)
+
 module _ (rules : Rules) (command : Command) (given_reply : Reply) where
   -- the reply is right after the ledger of what is kept
   abbrev pub RepliesAfter : StoreView → Type 0
-  RepliesAfter store = (l : Ledger) → IsLedger rules l store → (right : marks_by rules) → Replies (frame_by rules right) l command given_reply
-
-  in_frame : (store : StoreView) → RepliesAfter store → (l : Ledger) → IsLedger rules l store → RepliesIn (book_of_rules rules) (reports_of_rules rules) l command given_reply
-  in_frame store reply l h =
-      let right = AreRight-studied (book_of_rules rules) rules.studied.marks h.studied in
-      record { frame = frame_by rules right; book = refl; reports = refl; holds = reply l h right }
+  RepliesAfter store = (l : Ledger) → IsLedger rules l store → Replies (frame_by rules) l command given_reply
 
   -- a command that leaves what is kept and the ledger
   pub leaves : (store : StoreView) → ((l : Ledger) → with_entry l command given_reply ≡ l) → RepliesAfter store → Makes rules command store store given_reply
   leaves store same reply = record {
-    reply = in_frame store reply;
+    reply = reply;
     store = λ l h. subst (λ m. IsLedger rules m store) (sym (same l)) h;
     refused = λ _. refl;
   }
@@ -61,7 +71,7 @@ module _ (rules : Rules) (command : Command) (given_reply : Reply) where
   -- a command that changes it
   pub changes : (old new : StoreView) → is_accepted given_reply ≡ true → RepliesAfter old →
       ((l : Ledger) → IsLedger rules l old → IsLedger rules (with_entry l command given_reply) new) → Makes rules command old new given_reply
-  changes old new accepted reply store = record { reply = in_frame old reply; store = store; refused = λ e. absurd cc }
+  changes old new accepted reply store = record { reply = reply; store = store; refused = λ e. absurd cc }
 
 -- the contract with the name, and its row
 pub record Stood (s : StudiedBook) (l : Ledger) (x : Name) (rows : List (RowView Term (List Node))) (n : ℕ) (r : RowView Term (List Node)) : Type 0 where

@@ -35,7 +35,7 @@ module _ (rules : Rules) (x : Name) (args : List Expression) (store : StoreView)
   pub tally_made : (q : plain.Report) (values : List (Option Value)) (a : Answer) → report_in (reports_of_rules rules) x ≡ Some q → values ≡ values_by rules args →
       IsAnswer (book_of_rules rules).declared q values (map (λ p. p.1) store.log) a → Makes rules (Command.Tally x args) store store (Reply.Answered a)
   tally_made q values a found valued answer =
-      leaves rules (Command.Tally x args) (Reply.Answered a) store (λ l. refl) (λ l h right. Replies.Tallied (
+      leaves rules (Command.Tally x args) (Reply.Answered a) store (λ l. refl) (λ l h. Replies.Tallied (
         q,
         found,
         subst (λ log. IsAnswer (book_of_rules rules).declared q (values_by rules args) (map (λ p. p.1) log) a) h.log
@@ -70,7 +70,7 @@ module _ (rules : Rules) (x : Name) (args : List Expression) (old new : StoreVie
       AddsWatch (book_of_rules rules).declared report values old new → n ≡ length old.watches + 1 → Makes rules (Command.Watch x args) old new (Reply.Watching n)
   watch_made report values n found valued added number =
       changes rules (Command.Watch x args) (Reply.Watching n) old new refl
-      (λ l h right. subst (λ m. Replies (frame_by rules right) l (Command.Watch x args) (Reply.Watching m))
+      (λ l h. subst (λ m. Replies (frame_by rules) l (Command.Watch x args) (Reply.Watching m))
       (ap (λ m. m + 1) (as_many rules l l.watches old.watches h.watches) ∙ sym number) Replies.Watching)
       (λ l h.
       let last = added.begins.last in
@@ -118,15 +118,15 @@ module _ (rules : Rules) (n : ℕ) (store : StoreView) where
   pub read_absent : (n ≡ 0) ⊎ (length store.watches < n) → Makes rules (Command.Read n) store store (Reply.NoWatch n)
   read_absent past =
       leaves rules (Command.Read n) (Reply.NoWatch n) store (λ l. refl)
-      (λ l h right. Replies.NoWatch (no_watch l n (subst (λ m. (n ≡ 0) ⊎ (m < n)) (sym (as_many rules l l.watches store.watches h.watches)) past)))
+      (λ l h. Replies.NoWatch (no_watch l n (subst (λ m. (n ≡ 0) ⊎ (m < n)) (sym (as_many rules l l.watches store.watches h.watches)) past)))
 
   pub read_found : (w : WatchView) (a : Answer) → 0 < n → slice_get store.watches (n - 1) ≡ Some w → a ≡ w.answer → Makes rules (Command.Read n) store store (Reply.Answered a)
   read_found w a positive here same =
       leaves rules (Command.Read n) (Reply.Answered a) store (λ l. refl)
-      (λ l h right.
+      (λ l h.
       let at : WatchAt rules l l.watches (n - 1) w = watch_there rules l l.watches store.watches (n - 1) w h.watches here in
       let x = at.0 in
       let is = at.2 in
-      subst (λ b. Replies (frame_by rules right) l (Command.Read n) (Reply.Answered b)) (sym same)
+      subst (λ b. Replies (frame_by rules) l (Command.Read n) (Reply.Answered b)) (sym same)
       (Replies.Read (watch_found l n (Some x) positive at.1)
       (report_of w.report, is.report, subst (λ vs. IsAnswer (book_of_rules rules).declared (report_of w.report) vs (events l) w.answer) is.args is.follows.answers)))

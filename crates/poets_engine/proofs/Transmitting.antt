@@ -14,7 +14,6 @@ use Rattle.poets_meaning.specs.Marks.{Hopeful}
 use Rattle.poets_meaning.specs.May.{May}
 use Rattle.poets_meaning.specs.Studied.{marks_of}
 use Rattle.poets_calculus.specs.Residual.{after, residual_after}
-use Rattle.std.proofs.lemmas.Bool.{false≢true}
 use Rattle.poets_residue.specs.Limits.{is_past_limit_in}
 use Rattle.poets_residue.proofs.WholeResiduals.{IsWhole-after_at}
 use Rattle.poets_residue.proofs.Traces.{residual_after-more}
@@ -35,14 +34,14 @@ use Rattle.poets_engine.specs.code.Judgements.{Refused, Owed, is_failure, judged
 use Rattle.poets_engine.specs.code.Makes.{Makes}
 use Rattle.poets_engine.proofs.Named.{named}
 use Rattle.poets_engine.proofs.Rows.{with_log, IsNext, in_room, place_below, rows_recorded, named-changed_at, length-changed_at}
-use Rattle.poets_engine.proofs.Standing.{frame_by, study, Stood, running, leaves, changes, stood, absent}
+use Rattle.poets_engine.proofs.Standing.{frame_by, study, is_too_large, is_in_limit, Stood, running, leaves, changes, stood, absent}
 use Rattle.poets_engine.proofs.WatchLedgers.{watches_recorded}
 use Rattle.poets_engine.proofs.Owed.{residual_hopeless, residual_hopeful, residual_kept, failure_is, no_failure, residual_performed}
 
 module _ (rules : Rules) (x : Name) (e : Event) (old : StoreView) where
   pub transmit_absent : number_named x old.rows ≡ None → Makes rules (Command.Transmit x e) old old (Reply.NoContract x)
   transmit_absent none =
-      leaves rules (Command.Transmit x e) (Reply.NoContract x) old (λ l. refl) (λ l h right. Replies.TransmitToNone (absent rules l x old h none))
+      leaves rules (Command.Transmit x e) (Reply.NoContract x) old (λ l. refl) (λ l h. Replies.TransmitToNone (absent rules l x old h none))
 
   module _ (is_taken : IsTaken (book_of_rules rules) (reports_of_rules rules) (Command.Transmit x e)) (n : ℕ) (r : RowView Term (List Node))
       (found : number_named x old.rows ≡ Some n) (row : slice_get old.rows (n - 1) ≡ Some r) where
@@ -143,16 +142,16 @@ module _ (rules : Rules) (x : Name) (e : Event) (old : StoreView) where
         r.ended ≡ ended → late_day r.events e.day ≡ late → is_failure next ≡ failed → is_past ≡ large →
         (refusal : Reply) → Refused refusal ≡ unless_over ended late (judged Reply.Unmatched failed large next) → Makes rules (Command.Transmit x e) old old refusal
     transmits_refused true late failed large n d fe le refusal q = subst (Makes rules (Command.Transmit x e) old old) (let z : Reply.Ended ≡ refusal = cc in z)
-        (leaves rules (Command.Transmit x e) Reply.Ended old (λ l. refl) (λ l h right. Replies.TransmitToEnded (c l h).named (over l h ∙ n)))
+        (leaves rules (Command.Transmit x e) Reply.Ended old (λ l. refl) (λ l h. Replies.TransmitToEnded (c l h).named (over l h ∙ n)))
     transmits_refused false (Some day) failed large goes_on d fe le refusal q = subst (Makes rules (Command.Transmit x e) old old) (let z : Reply.Late day ≡ refusal = cc in z)
-        (leaves rules (Command.Transmit x e) (Reply.Late day) old (λ l. refl) (λ l h right. Replies.Late (running rules.studied l x old.rows n r (c l h) goes_on) (ap (λ s. late_day s e.day) (past l h) ∙ d)))
+        (leaves rules (Command.Transmit x e) (Reply.Late day) old (λ l. refl) (λ l h. Replies.Late (running rules.studied l x old.rows n r (c l h) goes_on) (ap (λ s. late_day s e.day) (past l h) ∙ d)))
     transmits_refused false None true large n d fe le refusal q = subst (Makes rules (Command.Transmit x e) old old) (let z : Reply.Unmatched ≡ refusal = cc in z)
-        (leaves rules (Command.Transmit x e) Reply.Unmatched old (λ l. refl) (λ l h right. Replies.Unmatched (takes l h n d) (with_it l h (λ s. CanGoOn (frame_by rules right) original s → ⊥)
+        (leaves rules (Command.Transmit x e) Reply.Unmatched old (λ l. refl) (λ l h. Replies.Unmatched (takes l h n d) (with_it l h (λ s. CanGoOn (frame_by rules) original s → ⊥)
         (residual_hopeless (book_of_rules rules) (marks_of rules.studied) (study rules l old h) original longer_trace (c l h).is.formed (c l h).is.fit (declared l h) (sym (next_is l h) ∙ failure_is next fe)))))
     transmits_refused false None false true n d fe le refusal q = subst (Makes rules (Command.Transmit x e) old old) (let z : Reply.TooLarge ≡ refusal = cc in z)
-        (leaves rules (Command.Transmit x e) Reply.TooLarge old (λ l. refl) (λ l h right. Replies.TransmitTooLarge (takes l h n d) (with_it l h (CanGoOn (frame_by rules right) original) (hope l h fe))
-        (with_it l h (λ s. IsTooLarge (frame_by rules right) (residual_after (book_of_rules rules) (marks_of rules.studied) original s))
-        (subst (λ c. is_past_limit_in rules.studied c ≡ true) (next_is l h) le))))
+        (leaves rules (Command.Transmit x e) Reply.TooLarge old (λ l. refl) (λ l h. Replies.TransmitTooLarge (takes l h n d) (with_it l h (CanGoOn (frame_by rules) original) (hope l h fe))
+        (with_it l h (IsTooLarge (frame_by rules) original)
+        (is_too_large rules l old h original longer_trace (subst (λ c. is_past_limit_in rules.studied c ≡ true) (next_is l h) le)))))
     transmits_refused false None false false n d fe le refusal q = absurd cc
 
     pub transmit_refused : (refusal : Reply) → Refused refusal ≡ judgement_by rules.studied r e → Makes rules (Command.Transmit x e) old old refusal
@@ -171,11 +170,11 @@ module _ (rules : Rules) (x : Name) (e : Event) (old : StoreView) where
       transmits_kept false None false false n d fe le q =
           let same : contract_of_rows owed ≡ next = cc in
           changes rules (Command.Transmit x e) (Reply.Recorded (length r.events + 1) may_end) old new refl
-          (λ l h right. subst (λ s. Replies (frame_by rules right) l (Command.Transmit x e) (Reply.Recorded (length s + 1) may_end)) (past l h)
-          (Replies.Recorded (takes l h n d) (with_it l h (CanGoOn (frame_by rules right) original) (hope l h fe))
-          (with_it l h (λ s. IsTooLarge (frame_by rules right) (residual_after (book_of_rules rules) (marks_of rules.studied) original s) → ⊥)
-          (λ large. false≢true (sym le ∙ subst (λ c. is_past_limit_in rules.studied c ≡ true) (sym (next_is l h)) large)))
-          (with_it l h (TellsWhetherPerformed (frame_by rules right) may_end original)
+          (λ l h. subst (λ s. Replies (frame_by rules) l (Command.Transmit x e) (Reply.Recorded (length s + 1) may_end)) (past l h)
+          (Replies.Recorded (takes l h n d) (with_it l h (CanGoOn (frame_by rules) original) (hope l h fe))
+          (with_it l h (λ s. IsTooLarge (frame_by rules) original s → ⊥)
+          (is_in_limit rules l old h original longer_trace (subst (λ c. is_past_limit_in rules.studied c ≡ false) (next_is l h) le)))
+          (with_it l h (TellsWhetherPerformed (frame_by rules) may_end original)
           (performed l h may_end (subst (λ c. IsTrue may_end ↔ Perf (book_of_rules rules) [] c []) same tells)))))
           (λ l h. records l h owed (kept l h owed same d fe le) new recorded)
 

@@ -59,7 +59,7 @@ use Rattle.poets_engine.proofs.Owed.{residual_hopeless, residual_hopeful, residu
 use Rattle.poets_engine.proofs.Points.{front_points, later_points, joined-append, starts_from-append, start_is, take-starts_from, take-remove, take-both, start_stays}
 use Rattle.poets_engine.proofs.Renewing.{kept_unless_failed, owed_is, refused_is, residual_from-append, failure_stays, sum_from-earlier}
 use Rattle.poets_engine.proofs.Rows.{book_in, rows_changed, named-changed_at, length-changed_at}
-use Rattle.poets_engine.proofs.Standing.{frame_by, study, Stood, running, leaves, changes, stood, absent}
+use Rattle.poets_engine.proofs.Standing.{frame_by, study, is_too_large, is_in_limit, Stood, running, leaves, changes, stood, absent}
 use Rattle.poets_engine.proofs.WatchLedgers.{watches_led}
 use Rattle.poets_engine.proofs.Zipped.{AllZip-append, zip_at, zip_length}
 
@@ -299,14 +299,14 @@ with_less l n k = record l { log = without n k l.log }
 module _ (rules : Rules) (x : Name) (k : ℕ) (old : StoreView) where
   pub void_absent : number_named x old.rows ≡ None → Makes rules (Command.Void x k) old old (Reply.NoContract x)
   void_absent none =
-      leaves rules (Command.Void x k) (Reply.NoContract x) old (λ l. refl) (λ l h right. Replies.VoidOfNone (absent rules l x old h none))
+      leaves rules (Command.Void x k) (Reply.NoContract x) old (λ l. refl) (λ l h. Replies.VoidOfNone (absent rules l x old h none))
 
   module _ (n : ℕ) (r : RowView Term (List Node)) (found : number_named x old.rows ≡ Some n) (row : slice_get old.rows (n - 1) ≡ Some r) where
     standing : (l : Ledger) → IsLedger rules l old → Stood rules.studied l x old.rows n r
     standing l h = stood rules l x old h n r found row
 
     pub void_ended : r.ended ≡ true → Makes rules (Command.Void x k) old old Reply.Ended
-    void_ended e = leaves rules (Command.Void x k) Reply.Ended old (λ l. refl) (λ l h right.
+    void_ended e = leaves rules (Command.Void x k) Reply.Ended old (λ l. refl) (λ l h.
         let c = standing l h in
         Replies.VoidOfEnded c.named (sym c.is.ended ∙ e))
 
@@ -319,7 +319,7 @@ module _ (rules : Rules) (x : Name) (k : ℕ) (old : StoreView) where
           by (suc j) h e = let z : Some j ≡ None = sym (ap (λ b. if b then Some j else None) (lt-ltb j (length r.events) (omega (arith, h.1)))) ∙ e in cc
 
       pub void_nowhere : place_from_nought r.events k ≡ None → Makes rules (Command.Void x k) old old (Reply.NoEvent k)
-      void_nowhere e = leaves rules (Command.Void x k) (Reply.NoEvent k) old (λ l. refl) (λ l h right.
+      void_nowhere e = leaves rules (Command.Void x k) (Reply.NoEvent k) old (λ l. refl) (λ l h.
           let c = standing l h in
           Replies.NoEvent (running rules.studied l x old.rows n r c goes_on) (subst (λ s. HasPlace s k → ⊥) c.is.events (no_place e)))
 
@@ -426,15 +426,17 @@ module _ (rules : Rules) (x : Name) (k : ℕ) (old : StoreView) where
             Makes rules (Command.Void x k) old old refusal
         void_refused refusal (inl large) =
             subst (Makes rules (Command.Void x k) old old) (sym large.0)
-            (leaves rules (Command.Void x k) Reply.TooLarge old (λ l. refl) (λ l h right.
-            Replies.VoidTooLarge (open_at l h) (subst (GrowsTooLarge (frame_by rules right) (contract_of r.original)) (sym (remains_is l h)) large.1)))
+            (leaves rules (Command.Void x k) Reply.TooLarge old (λ l. refl) (λ l h.
+            Replies.VoidTooLarge (open_at l h) (subst (GrowsTooLarge (frame_by rules) (contract_of r.original)) (sym (remains_is l h))
+            (large.1.0, is_too_large rules l old h (contract_of r.original) (take large.1.0 remains) large.1.1))))
         void_refused refusal (inr stuck) =
             subst (Makes rules (Command.Void x k) old old) (sym stuck.0)
-            (leaves rules (Command.Void x k) Reply.Unmatched old (λ l. refl) (λ l h right.
-            let f = frame_by rules right in
+            (leaves rules (Command.Void x k) Reply.Unmatched old (λ l. refl) (λ l h.
+            let f = frame_by rules in
             let c = standing l h in
             Replies.VoidUnmatched (open_at l h)
-            (subst (λ s. GrowsTooLarge f (contract_of r.original) s → ⊥) (sym (remains_is l h)) (λ large. false≢true (sym (stuck.1 large.0) ∙ large.1)))
+            (subst (λ s. GrowsTooLarge f (contract_of r.original) s → ⊥) (sym (remains_is l h))
+            (λ large. is_in_limit rules l old h (contract_of r.original) (take large.0 remains) (stuck.1 large.0) large.1))
             (subst (λ s. CanGoOn f (contract_of r.original) s → ⊥) (sym (remains_is l h))
             (residual_hopeless (book_of_rules rules) (marks_of rules.studied) (study rules l old h) (contract_of r.original) remains c.is.formed c.is.fit (declared l h) stuck.2))))
 
@@ -445,14 +447,14 @@ module _ (rules : Rules) (x : Name) (k : ℕ) (old : StoreView) where
             Makes rules (Command.Void x k) old store (Reply.Voided (length remains) may_end)
         void_made cut fits place number log_place current points new may_end tells store w =
             changes rules (Command.Void x k) (Reply.Voided (length remains) may_end) old store refl
-            (λ l h right.
-            let f = frame_by rules right in
+            (λ l h.
+            let f = frame_by rules in
             let c = standing l h in
             let o = contract_of r.original in
             let law = residual_performed (book_of_rules rules) (marks_of rules.studied) (study rules l old h) o remains c.is.formed c.is.fit (declared l h) in
             subst (λ s. Replies f l (Command.Void x k) (Reply.Voided (length s) may_end)) (remains_is l h)
             (Replies.Voided (open_at l h)
-            (subst (λ s. GrowsTooLarge f o s → ⊥) (sym (remains_is l h)) (λ large. false≢true (sym (new.within large.0) ∙ large.1)))
+            (subst (λ s. GrowsTooLarge f o s → ⊥) (sym (remains_is l h)) (λ large. is_in_limit rules l old h o (take large.0 remains) (new.within large.0) large.1))
             (subst (CanGoOn f o) (sym (remains_is l h))
             (residual_hopeful (book_of_rules rules) (marks_of rules.studied) (study rules l old h) o remains c.is.formed c.is.fit (declared l h)
             (λ failed. failed_no (new.owed ∙ failed) new.hopeful)))

@@ -5,7 +5,7 @@ use Rattle.poets_history.specs.Ledger.{is_accepted}
 use Rattle.poets_engine.specs.declared.kept.Body.{Body}
 use Rattle.poets_engine.specs.declared.kept.Body.TheVariants.{Done, Folio}
 
--- a body after which something changed
+-- whether something changed where a call has this body
 abbrev pub has_changed : Body → Bool
 has_changed (Done reply) = is_accepted (reply_of reply)
 has_changed (Folio work) = false

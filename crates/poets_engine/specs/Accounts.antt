@@ -1,4 +1,4 @@
--- What an engine tells of a contract.
+-- What an engine gives of a contract.
 use Rattle.std.specs.Prelude.{◌≡◌, ℕ, List, All, Option, Some, None, IfSome}
 use Rattle.poets_value.specs.declared.value.Name.{Name}
 use Rattle.poets_syntax.specs.Applied.{CountsFit}

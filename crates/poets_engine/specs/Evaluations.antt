@@ -47,7 +47,7 @@ sum_from f first zero = 0
 sum_from f first (suc count) = f first + sum_from f (suc first) count
 
 -- the most evaluations that what is owed on a row takes without its event at a place, from 0: those
--- of the residuals from 255 events ahead of it on
+-- of the residuals from 255 events before it on
 abbrev pub asked_to_renew : StudiedBook → RowView Term (List Node) → (place : ℕ) → ℕ
 asked_to_renew s r place =
     let left = remove r.events place in
@@ -71,9 +71,10 @@ asked_to_void_number s store place (Some n) = asked_to_void_row s store n place 
 abbrev pub asked_to_void : Rules → StoreView → Name → (place : ℕ) → ℕ
 asked_to_void rules store x k = asked_to_void_number rules.studied store (k - 1) (number_named x store.rows)
 
--- the most evaluations that a command takes: a transmission asks as a residual does, and each watch
--- for its key and its next value; a withdrawal asks for what comes behind the event; a tally asks
--- for its arguments and its start, and at each event for its key and its next value
+-- the most evaluations that a command takes by the counter that is handed in: a transmission as
+-- many as the residual takes, and for each watch its key and its next value; a withdrawal those for
+-- what comes after the event; a tally its arguments, its start, and at each event its key and its
+-- next value
 abbrev pub most_evaluations : Rules → StoreView → Command → ℕ
 most_evaluations rules store (Command.Register x c) = size c
 most_evaluations rules store (Command.Transmit x e) = asked_owed rules.studied store.rows x + 2 * length store.watches

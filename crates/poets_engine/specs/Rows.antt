@@ -54,7 +54,7 @@ pub record RowIs (s : StudiedBook) (l : Ledger) (i : ℕ) (r : RowView Term (Lis
   pub hopeful : Hopeful (book_of s.book) (contract_of_rows r.current)
   -- after none of the first events is what is owed past the limit
   pub within_limit : (n : ℕ) → is_past_limit_in s (owed_after s r (take n r.events)) ≡ false
-  -- the events are in pieces, and ahead of each piece stands what was owed there
+  -- the events are in pieces, and for each piece there is what was owed before it
   pub starts : HasStarts r
   pub points : AllZip (λ n point. contract_of_rows point ≡ owed_after s r (take n r.events)) r.starts r.points
   -- all numbers and days are those of the language
@@ -82,7 +82,7 @@ pub record IsLedger (rules : Rules) (l : Ledger) (store : StoreView) : Type 0 wh
   pub log : store.log ≡ l.log
   pub rows : RowsAre rules.studied l 1 store.rows
   pub watches : AllZip (WatchIs rules l) l.watches store.watches
-  -- the log and the ends speak of these contracts alone
+  -- the log and the ends have numbers of these contracts alone
   pub logged : All (λ p. p.0 ≤ length store.rows) l.log
   pub ended : All (λ n. n ≤ length store.rows) l.ends
 

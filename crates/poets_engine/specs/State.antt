@@ -42,11 +42,11 @@ pub record HasLegalHistory (e : State) : Type 0 where
   pub same : calls_of entries ≡ plain_calls e.calls
   pub ledger : IsLedger e.rules (ledger_of entries) e.store
 
--- the engine has one call more, which is the clerk's, with the command
+-- the engine has one more call, which is the clerk's, with the command
 abbrev pub AddsCall : ℕ → Arc Command Global → (old new : State) → Type 0
 AddsCall clerk command old new = new.calls ≡ old.calls ++ (clerk, arc_value command) ∷ []
 
--- after a body by which nothing changed the engine keeps what it kept
+-- where the body is one by which nothing changed, the engine keeps what it kept
 abbrev pub IsKeptUnlessChanged : Body → (old new : State) → Type 0
 IsKeptUnlessChanged body old new = has_changed body ≡ false → new.store ≡ old.store
 

@@ -14,7 +14,7 @@ use poets_value::{Event, List, Memory, Name, push};
 use std::alloc::Global;
 
 /// A contract: as it was registered, what is still owed, its recorded events, and whether it was ended.
-#[derive(Drop)]
+#[derive(Debug, PartialEq, Eq, Drop)]
 pub struct Account {
     pub original: Term,
     pub residual: Term,

@@ -74,8 +74,7 @@ impl Engine {
         ensures calls { result.calls ≡ [] }
         ensures legal { IsLegal (book_of_rules rules) (reports_of_rules rules) [] }
     {
-        // The book is checked and guarded, and the marks are right.
-        let _book = rules.studied.book();
+        rules.studied.recall();
         Engine {
             rules,
             store: Store::new(alloc),
@@ -117,8 +116,8 @@ impl Engine {
 
     /// Makes a call. `finish` hands out the reply, and makes the rows of a portfolio.
     ///
-    /// All memory is taken before the first change, so that after want of memory nothing changed. After a refusal only
-    /// the call is added to the history.
+    /// All memory is taken before the first change, so if memory runs out, nothing changes. A refusal only adds the
+    /// call to the history.
     pub fn apply<T, R: Threads + Sync>(
         &mut self,
         rt: &R,

@@ -78,7 +78,7 @@ pub(crate) fn take_event<T>(
     ensures rises { asks.old ≤ asks.new }
 {
     // The numbers of arguments fit in the bodies of the templates.
-    let _book = studied.book();
+    studied.recall();
     let next = residual_rows(alloc, studied, owed, event, asks)?;
     judge(alloc, studied, Reply::Unmatched, next)
 }

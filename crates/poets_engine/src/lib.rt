@@ -1,4 +1,4 @@
-//! The engine of one thread: each reply is that of an engine which is only a list of calls.
+//! The engine, for one thread: each reply is that of an engine which is only a list of calls.
 #![tactic(auto)]
 
 mod accounts;

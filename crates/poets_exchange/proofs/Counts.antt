@@ -10,11 +10,11 @@ use Rattle.poets_value.specs.declared.value.Name.{Name}
 use Rattle.poets_expr.specs.Env.{same_name}
 use Rattle.poets_syntax.specs.Contract.{Contract}
 use Rattle.poets_command.specs.Plain.{Command, Reply, Entry}
-use Rattle.poets_command.specs.Taken.{IsWholeCommand}
 use Rattle.poets_history.specs.Frame.{Frame}
 use Rattle.poets_history.specs.Ledger.{Ledger, ledger_of, empty_ledger, with_entry, contract_from, number_of, trace}
 use Rattle.poets_history.specs.Ledger.{without}
 use Rattle.poets_history.specs.Replies.{Replies, Legal}
+use Rattle.poets_print.specs.Laws.{CanWriteNumberOf}
 use Rattle.poets_exchange.proofs.Lists.{front_holds, rest_holds}
 
 -- the number in the reply has 64 bits
@@ -136,48 +136,48 @@ within h =
 
 module _ (f : Frame) where
   reply_small :
-      (n : ℕ) (l : Ledger) → IsWithin n l → n + 1 < 2 ^ 64 → (command : Command) (r : Reply) → IsWholeCommand command →
+      (n : ℕ) (l : Ledger) → IsWithin n l → n + 1 < 2 ^ 64 → (command : Command) (r : Reply) → CanWriteNumberOf command →
       Replies f l command r → HasSmall r
-  reply_small n l w few _ _ whole (Replies.NameTaken {x = x} {o = o} {i = i} named) =
+  reply_small n l w few _ _ can (Replies.NameTaken {x = x} {o = o} {i = i} named) =
       omega (arith, few, w.contracts, place_below 1 x l.contracts i o named)
-  reply_small n l w few _ _ whole (Replies.Hopeless absent never) = tt
-  reply_small n l w few _ _ whole (Replies.RegisterTooLarge absent hopeful large) = tt
-  reply_small n l w few _ _ whole (Replies.Registered absent hopeful small) = omega (arith, few, w.contracts)
-  reply_small n l w few _ _ whole (Replies.TransmitToNone absent) = tt
-  reply_small n l w few _ _ whole (Replies.TransmitToEnded named ended) = tt
-  reply_small n l w few _ _ whole (Replies.Late live late) = tt
-  reply_small n l w few _ _ whole (Replies.Unmatched live stuck) = tt
-  reply_small n l w few _ _ whole (Replies.TransmitTooLarge live goes large) = tt
-  reply_small n l w few _ _ whole (Replies.Recorded {i = i} live goes small tells) =
+  reply_small n l w few _ _ can (Replies.Hopeless absent never) = tt
+  reply_small n l w few _ _ can (Replies.RegisterTooLarge absent hopeful large) = tt
+  reply_small n l w few _ _ can (Replies.Registered absent hopeful small) = omega (arith, few, w.contracts)
+  reply_small n l w few _ _ can (Replies.TransmitToNone absent) = tt
+  reply_small n l w few _ _ can (Replies.TransmitToEnded named ended) = tt
+  reply_small n l w few _ _ can (Replies.Late live late) = tt
+  reply_small n l w few _ _ can (Replies.Unmatched live stuck) = tt
+  reply_small n l w few _ _ can (Replies.TransmitTooLarge live goes large) = tt
+  reply_small n l w few _ _ can (Replies.Recorded {i = i} live goes small tells) =
       omega (arith, few, w.log, trace_short l i)
-  reply_small n l w few _ _ whole (Replies.VoidOfNone absent) = tt
-  reply_small n l w few _ _ whole (Replies.VoidOfEnded named ended) = tt
-  reply_small n l w few _ _ whole (Replies.NoEvent live none) = omega (arith, whole)
-  reply_small n l w few _ _ whole (Replies.VoidTooLarge live large) = tt
-  reply_small n l w few _ _ whole (Replies.VoidUnmatched live small stuck) = tt
-  reply_small n l w few _ _ whole (Replies.Voided {k = k} {i = i} live small goes tells) =
+  reply_small n l w few _ _ can (Replies.VoidOfNone absent) = tt
+  reply_small n l w few _ _ can (Replies.VoidOfEnded named ended) = tt
+  reply_small n l w few _ _ can (Replies.NoEvent live none) = omega (arith, can)
+  reply_small n l w few _ _ can (Replies.VoidTooLarge live large) = tt
+  reply_small n l w few _ _ can (Replies.VoidUnmatched live small stuck) = tt
+  reply_small n l w few _ _ can (Replies.Voided {k = k} {i = i} live small goes tells) =
       omega (arith, few, w.log, trace_short l i, removed_short (trace l i) (k - 1))
-  reply_small n l w few _ _ whole (Replies.EndOfNone absent) = tt
-  reply_small n l w few _ _ whole (Replies.AlreadyEnded named ended) = tt
-  reply_small n l w few _ _ whole (Replies.NotPerformed live fails) = tt
-  reply_small n l w few _ _ whole (Replies.EndedNow live performed) = tt
-  reply_small n l w few _ _ whole (Replies.ShowOfNone absent) = tt
-  reply_small n l w few _ _ whole (Replies.Shown {i = i} named tells) = omega (arith, few, w.log, trace_short l i)
-  reply_small n l w few _ _ whole (Replies.Tallied answers) = tt
-  reply_small n l w few _ _ whole (Replies.PortfolioOfNone none) = tt
-  reply_small n l w few _ _ whole (Replies.Folio present found are) = tt
-  reply_small n l w few _ _ whole Replies.Watching = omega (arith, few, w.watches)
-  reply_small n l w few _ _ whole (Replies.NoWatch none) = omega (arith, whole)
-  reply_small n l w few _ _ whole (Replies.Read watch answers) = tt
+  reply_small n l w few _ _ can (Replies.EndOfNone absent) = tt
+  reply_small n l w few _ _ can (Replies.AlreadyEnded named ended) = tt
+  reply_small n l w few _ _ can (Replies.NotPerformed live fails) = tt
+  reply_small n l w few _ _ can (Replies.EndedNow live performed) = tt
+  reply_small n l w few _ _ can (Replies.ShowOfNone absent) = tt
+  reply_small n l w few _ _ can (Replies.Shown {i = i} named owed tells) = omega (arith, few, w.log, trace_short l i)
+  reply_small n l w few _ _ can (Replies.Tallied answers) = tt
+  reply_small n l w few _ _ can (Replies.PortfolioOfNone none) = tt
+  reply_small n l w few _ _ can (Replies.Folio present found are) = tt
+  reply_small n l w few _ _ can Replies.Watching = omega (arith, few, w.watches)
+  reply_small n l w few _ _ can (Replies.NoWatch none) = omega (arith, can)
+  reply_small n l w few _ _ can (Replies.Read watch answers) = tt
 
   pub replies_small :
-      {h : List Entry} → Legal f h → All (λ e. IsWholeCommand e.command) h → length h < 2 ^ 64 →
+      {h : List Entry} → Legal f h → All (λ e. CanWriteNumberOf e.command) h → length h < 2 ^ 64 →
       All (λ e. HasSmall e.reply) h
-  replies_small Legal.Empty whole few = All-nil (λ e. HasSmall e.reply)
-  replies_small (Legal.More {h = h} e legal reply) whole few =
+  replies_small Legal.Empty can few = All-nil (λ e. HasSmall e.reply)
+  replies_small (Legal.More {h = h} e legal reply) can few =
       let longer = length-append h (e ∷ []) in
-      let behind = rest_holds (λ x. IsWholeCommand x.command) h (e ∷ []) whole in
-      let last = All-head (λ x. IsWholeCommand x.command) e [] behind in
+      let behind = rest_holds (λ x. CanWriteNumberOf x.command) h (e ∷ []) can in
+      let last = All-head (λ x. CanWriteNumberOf x.command) e [] behind in
       All-push (λ x. HasSmall x.reply) h e
-      (replies_small legal (front_holds (λ x. IsWholeCommand x.command) h (e ∷ []) whole) (omega (arith, few, longer)))
+      (replies_small legal (front_holds (λ x. CanWriteNumberOf x.command) h (e ∷ []) can) (omega (arith, few, longer)))
       (reply_small (length h) (ledger_of h) (within h) (omega (arith, few, longer)) e.command e.reply last reply)

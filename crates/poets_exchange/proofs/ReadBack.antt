@@ -3,8 +3,10 @@ use Rattle.std.proofs.Common.{◌≡◌, ◌^◌, ◌<◌, length, All, Some, sy
 use Rattle.std.proofs.lemmas.List.Elements.{All-weaker}
 use Rattle.serde_json.specs.Data.{Data}
 use Rattle.poets_lex.specs.Table.{Table, IsTable}
-use Rattle.poets_command.specs.Taken.{IsTaken, IsWholeCommand}
-use Rattle.poets_print.specs.Laws.{CanWriteCommand}
+use Rattle.poets_command.specs.Taken.{IsTaken}
+use Rattle.poets_history.specs.Frame.{frame_of}
+use Rattle.poets_print.specs.Laws.{CanWriteCommand, CanWriteNumberOf}
+use Rattle.poets_print.proofs.WritingCommands.{number_written}
 use Rattle.poets_json.specs.Plain.{Exported}
 use Rattle.poets_json.specs.Document.{document}
 use Rattle.poets_import.specs.Reading.{IsDocumentOf}
@@ -24,9 +26,9 @@ module _ (names : Table) (x : Exported) (table : IsTable names) (can : IsExporta
   entries_small : length x.history < 2 ^ 64 → All (IsSmallEntry names table) x.history
   entries_small few =
       both_hold (λ e. e.clerk < 2 ^ 32) (λ e. HasSmall e.reply) x.history can.history.clerks
-      (replies_small can.history.legal.frame can.history.legal.holds
+      (replies_small (frame_of (book_in x) x.reports) can.history.legal
       (All-weaker (λ e. IsTaken (book_in x) x.reports e.command × CanWriteCommand names e.command)
-      (λ e. IsWholeCommand e.command) (λ e h. h.0.whole) x.history can.history.commands)
+      (λ e. CanWriteNumberOf e.command) (λ e h. number_written names e.command h.1) x.history can.history.commands)
       few)
 
   -- a value that the document is, is a document of nothing else

@@ -40,11 +40,11 @@ IsShort names phrase =
 
 -- ---- what is exported
 
--- its book
+-- the book of what is exported
 abbrev pub book_in : Exported → Book
 book_in x = record { declared = declared_in x.declared; templates = x.templates }
 
--- the statements of its book
+-- the statements of the book of what is exported
 abbrev pub statements_in : Exported → List Statement
 statements_in x = book_statements x.declared x.templates x.reports
 
@@ -68,7 +68,8 @@ pub record AreShort (names : Table) (x : Exported) : Type 0 where
   pub book : All (IsShort names) (map Sentence (statements_in x))
   pub history : All (IsShort names) (flat_map entry_phrases x.history)
 
--- so it can be exported and read back
+-- what can be exported and read back: its book and its history can be written, and its texts are
+-- short enough
 pub record IsExportable (names : Table) (x : Exported) : Type 0 where
   pub book : CanWriteBookIn names x
   pub history : CanWriteHistoryIn names x

@@ -22,8 +22,8 @@ use Rattle.poets_exchange.specs.Exportable.{AreShort, book_in, exported_from, st
 abbrev pub BooksDeclareThemselves : Type 0
 BooksDeclareThemselves = (names : Table) (x : Exported) → CanWriteBookIn names x → Declare (statements_in x) x
 
--- the book that a session declares can be exported with the session's names, where its declared
--- names stand in order
+-- the book that a session declares can be exported with the session's names, if its declared names
+-- are in order
 abbrev pub SessionBooksCanBeExported : Type 0
 SessionBooksCanBeExported =
     (text : Text) (form : Form) (names : Table) (statements : List Statement) (x : Exported) →

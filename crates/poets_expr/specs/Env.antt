@@ -17,6 +17,7 @@ Declared = Name → Option Ty
 abbrev pub Env : Type 0
 Env = List (Name × Option Value)
 
+-- whether two names are one
 abbrev pub same_name : Name → Name → Bool
 same_name x y = nat_eq x.id y.id
 

@@ -12,7 +12,7 @@ use Rattle.poets_expr.specs.Env.{Declared, Env, value_in}
 use Rattle.poets_expr.specs.Val.{val}
 use Rattle.poets_expr.specs.Subst.{literal_of}
 
--- every free name is declared
+-- whether every free name is declared
 abbrev pub is_closed : Declared → Expression → Bool
 is_closed declared (Literal v) = true
 is_closed declared (Undefined t) = true
@@ -22,7 +22,7 @@ is_closed declared (Make a b) = is_closed declared a && is_closed declared b
 is_closed declared (Binary o a b) = is_closed declared a && is_closed declared b
 is_closed declared (If a b c) = is_closed declared a && is_closed declared b && is_closed declared c
 
--- a literal; a declared name is the literal of its agent or kind
+-- whether it is a literal; a declared name is the literal of its agent or kind
 abbrev pub is_literal : Declared → Expression → Bool
 is_literal declared (Literal v) = true
 is_literal declared (Undefined t) = true
@@ -33,21 +33,23 @@ is_literal declared _ = false
 abbrev pub is_folded : Declared → Expression → Bool
 is_folded declared e = is_closed declared e && not (is_literal declared e)
 
--- the literal of the value, where the expression is closed and no literal yet
+-- the literal of the expression's value where it is closed and no literal yet, and otherwise the
+-- expression itself
 abbrev pub fold_closed : Declared → Expression → Ty → Expression
 fold_closed declared e t = if is_folded declared e then literal_of (val declared [] e) t else e
 
--- agents and kinds, also those within resources, are declared as such
+-- a value that is an agent or a kind is declared as such, and so is the kind of a resource
 abbrev pub HasDeclaredNames : Declared → Option Value → Type 0
 HasDeclaredNames declared (Some (V.Agent x)) = declared x ≡ Some T.Agent
 HasDeclaredNames declared (Some (V.Kind x)) = declared x ≡ Some T.Kind
 HasDeclaredNames declared (Some (V.Resource r)) = declared r.kind ≡ Some T.Kind
 HasDeclaredNames declared _ = Unit {0}
 
--- the literals of an expression are
+-- each literal in the expression that is an agent or a kind is declared as such, and so is the kind
+-- of a resource
 abbrev pub HasDeclaredLiterals : Declared → Expression → Type 0
 HasDeclaredLiterals declared e = EachLiteral (λ v. HasDeclaredNames declared (Some v)) e
 
--- declared names stand for themselves, as they do where no pair has one
+-- each declared name stands for itself, as it does in an environment without pairs
 abbrev pub KeepsDeclared : Declared → Env → Type 0
 KeepsDeclared declared env = (x : Name) → ((declared x ≡ None) → ⊥) → value_in declared env x ≡ value_in declared [] x

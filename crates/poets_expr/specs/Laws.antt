@@ -40,26 +40,27 @@ LiteralHasValue =
     IsDeclared declared o →
     val declared env (literal_of o t) ≡ o
 
--- folding keeps the value, where a closed expression has no value that is an undeclared agent or
--- kind
+-- folding an expression keeps its value, unless it is closed and its value is an undeclared agent
+-- or kind
 abbrev pub FoldedKeepsValue : Type 0
 FoldedKeepsValue = (declared : Declared) (env : Env) (e : Expression) (t : Ty) → PairsAreUndeclared declared env →
     (IsTrue (is_closed declared e) → IsDeclared declared (val declared [] e)) →
     val declared env (fold_closed declared e t) ≡ val declared env e
 
--- folding an `Expr` keeps the value, where a closed one has no value that is an undeclared kind
+-- folding an `Expr` keeps its value, unless it is closed and its value is an undeclared kind
 abbrev pub FoldedKeepsValueOfExpr : Type 0
 FoldedKeepsValueOfExpr = (declared : Declared) (env : Env) (e : Expr) (t : Ty) → PairsAreUndeclared declared env →
     (IsTrue (is_closed declared (expression_of e)) → (k : Name) → val declared [] (expression_of e) ≡ Some (V.Kind k) →
     declared k ≡ Some T.Kind) →
     val declared env (fold_closed declared (expression_of e) t) ≡ val declared env (expression_of e)
 
--- where the literals are of declared agents and kinds, so are the values
+-- where the agents and kinds in the literals are declared as such, so is a value that is an agent
+-- or a kind
 abbrev pub DeclaredLiteralsGiveDeclared : Type 0
 DeclaredLiteralsGiveDeclared =
     (declared : Declared) (e : Expression) → HasDeclaredLiterals declared e → IsDeclared declared (val declared [] e)
 
--- closed are the expressions of which every free name is declared
+-- an expression is closed exactly where each of its free names is declared
 abbrev pub ClosedNamesAreDeclared : Type 0
 ClosedNamesAreDeclared =
     (declared : Declared) (e : Expression) →

@@ -10,7 +10,7 @@ use Rattle.poets_expr.specs.Expression.{Unary, Make, Binary, If}
 use Rattle.poets_expr.specs.Env.{same_name}
 use Rattle.poets_expr.specs.Val.{same_value}
 
--- the place of an operator, of a type, and of an operator of one operand among their kin
+-- the place of an operator of two operands among them all
 abbrev pub op_place : Op → ℕ
 op_place O.Add = 0
 op_place O.Sub = 1
@@ -26,6 +26,7 @@ op_place O.Ge = 10
 op_place O.And = 11
 op_place O.Or = 12
 
+-- the place of a type among the types
 abbrev pub ty_place : Ty → ℕ
 ty_place T.Int = 0
 ty_place T.Bool = 1
@@ -34,6 +35,7 @@ ty_place T.Kind = 3
 ty_place T.Resource = 4
 ty_place T.Day = 5
 
+-- the place of an operator of one operand among them all
 abbrev pub unary_place : UnaryOp → ℕ
 unary_place Minus = 0
 unary_place Not = 1

@@ -13,6 +13,7 @@ nodes (Make a b) = 1 + nodes a + nodes b
 nodes (Binary o a b) = 1 + nodes a + nodes b
 nodes (If a b c) = 1 + nodes a + nodes b + nodes c
 
+-- the number of nodes of several expressions
 abbrev pub nodes_of_all : List Expression → ℕ
 nodes_of_all [] = 0
 nodes_of_all (a ∷ args) = nodes a + nodes_of_all args

@@ -44,13 +44,13 @@ subst given (If a b c) = If (subst given a) (subst given b) (subst given c)
 abbrev pub env_of : Givens → Env
 env_of given = map (λ p. (p.0, p.1.value)) given
 
--- an agent or a kind among the values is declared as such
+-- a value that is an agent or a kind is declared as such
 abbrev pub IsDeclared : Declared → Option Value → Type 0
 IsDeclared declared (Some (V.Agent x)) = declared x ≡ Some T.Agent
 IsDeclared declared (Some (V.Kind x)) = declared x ≡ Some T.Kind
 IsDeclared declared _ = Unit {0}
 
--- the values of the replaced names are
+-- each value that a name is replaced by is declared as such, if it is an agent or a kind
 abbrev pub AreDeclared : Declared → Givens → Type 0
 AreDeclared declared [] = Unit {0}
 AreDeclared declared (p ∷ given) = IsDeclared declared p.1.value × AreDeclared declared given

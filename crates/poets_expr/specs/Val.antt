@@ -13,7 +13,7 @@ use Rattle.poets_expr.specs.Expression.{Undefined, Named}
 use Rattle.poets_expr.specs.Expression.{Unary, Make, Binary, If}
 use Rattle.poets_expr.specs.Env.{Declared, Env, value_in, same_name}
 
--- the whole number, undefined where it is none of the language
+-- the number, undefined where it is no whole number of the language
 abbrev pub whole : ℤ → Option Value
 whole z = if is_whole z then Some (V.Int z) else None
 
@@ -21,15 +21,18 @@ whole z = if is_whole z then Some (V.Int z) else None
 abbrev pub day_at : ℤ → Option Value
 day_at z = if is_day z then Some (V.Day z) else None
 
+-- a truth value
 abbrev pub truth : Bool → Option Value
 truth b = Some (V.Bool b)
 
+-- whether two numbers are equal
 abbrev pub int_eq : ℤ → ℤ → Bool
 int_eq (pos m) (pos n) = nat_eq m n
 int_eq (negsuc m) (negsuc n) = nat_eq m n
 int_eq (pos m) (negsuc n) = false
 int_eq (negsuc m) (pos n) = false
 
+-- whether two truth values are equal
 abbrev pub bool_eq : Bool → Bool → Bool
 bool_eq true b = b
 bool_eq false b = not b
@@ -44,7 +47,7 @@ equal (V.Resource x) (V.Resource y) = Some (int_eq x.amount y.amount && same_nam
 equal (V.Day x) (V.Day y) = Some (int_eq x y)
 equal _ _ = None
 
--- whether two values are one
+-- whether two values are the same
 abbrev pub same_value : Value → Value → Bool
 same_value v w = unwrap_or (equal v w) false
 
@@ -83,7 +86,7 @@ abbrev pub divided : (ℤ → ℤ → ℤ) → Value → Value → Option Value
 divided f (V.Int x) (V.Int y) = if int_eq y (pos 0) then None else whole (f x y)
 divided f _ _ = None
 
--- of two operands, undefined where one of them is
+-- the value of an operator of two operands, undefined where one of them is
 abbrev pub strict : (Value → Value → Option Value) → Option Value → Option Value → Option Value
 strict f None y = None
 strict f (Some x) None = None
@@ -94,7 +97,7 @@ abbrev pub truth_value : Option Value → Option Value
 truth_value (Some (V.Bool b)) = truth b
 truth_value _ = None
 
--- `and`, where b is false, and `or`, where b is true: b where the first part is b, and else the
+-- `and` with b = false, and `or` with b = true: b where the first part is b, and otherwise the
 -- second part
 abbrev pub decided : Bool → Option Value → Option Value → Option Value
 decided b None y = None

@@ -9,7 +9,7 @@ use std::collections::BTreeMap;
 use std::marker::Model;
 
 /// The declared agents and kinds: of each name `Ty::Agent` or `Ty::Kind`.
-#[derive(Drop)]
+#[derive(Debug, PartialEq, Eq, Drop)]
 pub struct Decls {
     pub names: BTreeMap<Name, Ty>,
 }
@@ -21,7 +21,7 @@ pub struct Env<'a> {
     pub pairs: &'a [(Name, Option<Value>)],
 }
 
-/// A count of evaluations, which stays at the greatest `u64`. Only `eval` and what calls it count.
+/// A count of evaluations, which stops at the greatest `u64`. Only `eval`, and what calls it, counts.
 ///
 /// A function that is generic in `L` can make no counter of its own to put in place of the one that it was handed.
 #[derive(Drop)]

@@ -34,7 +34,7 @@ pub enum Op {
 }
 
 /// An expression of `docs/LANGUAGE.md`, "Values".
-#[derive(Drop)]
+#[derive(Debug, PartialEq, Eq, Drop)]
 pub enum Expr {
     /// A number.
     Int(i64),

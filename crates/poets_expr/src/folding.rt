@@ -38,7 +38,7 @@ fn is_literal(decls: &Decls, e: &Expr) -> bool
     }
 }
 
-/// The literal of the expression's value where it is closed and no literal yet, and else the expression itself.
+/// The literal of the expression's value where it is closed and no literal yet, and otherwise the expression itself.
 ///
 /// `ty` is the expression's type.
 pub fn fold_closed<L>(

@@ -8,7 +8,7 @@ use crate::expr::Expr;
 use poets_value::{List, Memory, Name};
 use std::alloc::Global;
 
-/// Each free name once, in the order of first standing. A kind within a resource literal is no free name.
+/// Each free name once, in the order in which they first occur. A kind within a resource literal is no free name.
 #[tactic(auto, using(crate::proofs::FreeNames::with_names_free))]
 pub fn free_names(alloc: Global, e: &Expr) -> Result<List<Name>, Memory>
     ensures { IfOk result (λ r. r.items ≡ free_names_of (expression_of e.now)) }

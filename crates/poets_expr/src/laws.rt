@@ -20,12 +20,12 @@ pub fn values_of_folded()
     ensures literals { DeclaredLiteralsGiveDeclared }
 {}
 
-/// Closed are the expressions of which every free name is declared.
+/// An expression is closed exactly where each of its free names is declared.
 pub fn closed_expressions()
     ensures { ClosedNamesAreDeclared }
 {}
 
-/// Of whole expressions under whole values all that this crate makes is whole.
+/// What this crate makes of whole expressions and whole values is whole.
 pub fn whole_results()
     ensures value { ValueIsWhole }
     ensures literal { LiteralIsWhole }

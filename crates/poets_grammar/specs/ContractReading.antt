@@ -1,5 +1,5 @@
--- Reading of contracts as functions on lists. What is a contract ContractGrammar.antt says; that
--- both agree is proved.
+-- Contracts read by functions on lists. ContractGrammar.antt says what a contract is; that both
+-- agree is proved.
 use Rattle.std.specs.Prelude.{ℕ, zero, suc, List, ◌∷◌, length, Option, Some, None}
 use Rattle.poets_value.specs.declared.value.Name.{Name}
 use Rattle.poets_syntax.specs.declared.term.Binders.{Binders}

@@ -11,15 +11,15 @@ use Rattle.poets_grammar.specs.Reading.{whole_expression}
 use Rattle.poets_grammar.specs.ContractReading.{whole_contract}
 use Rattle.poets_grammar.specs.StatementReading.{statement}
 
--- no tokens are two expressions
+-- tokens are one expression at most
 abbrev pub OneExpression : Type 0
 OneExpression = (ts : List Tok) (a b : Expression) → IsExpression ts a → IsExpression ts b → a ≡ b
 
--- no tokens are two contracts
+-- tokens are one contract at most
 abbrev pub OneContract : Type 0
 OneContract = (ts : List Tok) (a b : Contract) → IsContract ts a → IsContract ts b → a ≡ b
 
--- no statement says two things
+-- tokens say one thing at most as a statement
 abbrev pub OneStatement : Type 0
 OneStatement = (ts : List Tok) (a b : Statement) → IsStatement ts a → IsStatement ts b → a ≡ b
 

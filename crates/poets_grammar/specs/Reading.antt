@@ -1,6 +1,5 @@
--- Reading of expressions as functions on lists: what stands at the front of the tokens, as long as
--- possible, and what stands after it. What is an expression Expressions.antt says; that both agree
--- is proved.
+-- Expressions read by functions on lists: the longest one at the start of the tokens, and the
+-- tokens after it. Expressions.antt says what an expression is; that both agree is proved.
 use Rattle.std.specs.Prelude.{ℕ, zero, suc, ◌+◌, nat_eq, Bool, true, false, if◌then◌else◌, List, []}
 use Rattle.std.specs.Prelude.{◌∷◌, length}
 use Rattle.std.specs.Prelude.{Option, Some, None, ℤ, pos, neg_ℤ}
@@ -22,7 +21,7 @@ use Rattle.poets_lex.specs.contracts.token.SignPartialEq.TheImpl as sign_eq
 use Rattle.poets_lex.specs.contracts.token.WordPartialEq.TheImpl as word_eq
 use Rattle.poets_grammar.specs.Tokens.{infix_operator, type_of}
 
--- what is read from the front of the tokens, and what stands after it
+-- what is read from the start of the tokens, and the tokens after it
 abbrev pub Reading : Type 0 → Type 0
 Reading A = Option (A × List Tok)
 
@@ -42,7 +41,7 @@ same_sign a b = (sign_eq.ghosts).eq a b
 abbrev pub same_word : Word → Word → Bool
 same_word a b = (word_eq.ghosts).eq a b
 
--- what stands after the sign
+-- the tokens after the sign, if it comes first
 abbrev pub behind_sign : Sign → List Tok → Option (List Tok)
 behind_sign wanted (K.Sign found ∷ ts) = if same_sign found wanted then Some ts else None
 behind_sign wanted _ = None
@@ -77,7 +76,7 @@ abbrev pub operator : ℕ → List Tok → Reading Op
 operator level (t ∷ ts) = of_level level (infix_operator t) ts
 operator level [] = None
 
--- nothing stands after what is read
+-- what is read, if no token is left
 abbrev pub whole : {A : Type 0} → A → List Tok → Option A
 whole x [] = Some x
 whole x (t ∷ ts) = None

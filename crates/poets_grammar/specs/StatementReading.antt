@@ -1,5 +1,5 @@
--- Reading of statements as functions on lists. What is a statement Statements.antt says; that both
--- agree is proved.
+-- Statements read by functions on lists. Statements.antt says what a statement is; that both agree
+-- is proved.
 use Rattle.std.specs.Prelude.{ℕ, List, [], ◌∷◌, Option, Some, None, ℤ, pos}
 use Rattle.poets_value.specs.declared.value.Name.{Name}
 use Rattle.poets_value.specs.declared.value.Ty.{Ty}

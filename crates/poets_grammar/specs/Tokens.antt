@@ -21,7 +21,7 @@ abbrev pub IsNatural : Tok → Type 0
 IsNatural (K.Number n) = pos 0 ≤ℤ n
 IsNatural _ = Unit {0}
 
--- no number is below 0
+-- no number among the tokens is below 0
 abbrev pub AreNatural : List Token → Type 0
 AreNatural tokens = All (λ t. IsNatural t.what) tokens
 

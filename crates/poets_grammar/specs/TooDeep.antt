@@ -67,17 +67,17 @@ most_open_stored = MOST_OPEN_STORED
 abbrev pub most_operators : ℕ
 most_operators = MOST_OPERATORS
 
--- more brackets than the most are open after some of the first tokens, or there are more than 1,000
+-- after some number of tokens more than `most` brackets are open, or there are more than 1,000
 -- operators
 pub data IsDeeper (most : ℕ) (tokens : List Tok) : Type 0 where
   Nested : (count : ℕ) → most < open_at_end (take count tokens) → IsDeeper most tokens
   Long : most_operators < operators tokens → IsDeeper most tokens
 
--- too deep for a statement of a session, in which 200 brackets may be open
+-- too deep for a statement of a session, which may have 200 brackets open at one place
 abbrev pub IsTooDeep : List Tok → Type 0
 IsTooDeep tokens = IsDeeper most_open tokens
 
--- too deep for a statement that was printed and kept, in which 201 may be open: `- -5` is printed
+-- too deep for a statement that was printed and stored, which may have 201 open: `- -5` is printed
 -- as `-(-5)`
 abbrev pub IsTooDeepStored : List Tok → Type 0
 IsTooDeepStored tokens = IsDeeper most_open_stored tokens

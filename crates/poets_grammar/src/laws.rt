@@ -2,17 +2,17 @@
 ghost use Rattle.poets_grammar.specs.Laws.{OneExpression, OneContract, OneStatement, ExpressionRead, ContractRead};
 ghost use Rattle.poets_grammar.specs.Laws.{StatementRead};
 
-/// No tokens have two trees as an expression.
+/// Tokens have one tree at most as an expression.
 pub fn one_expression()
     ensures { OneExpression }
 {}
 
-/// No tokens have two trees as a contract.
+/// Tokens have one tree at most as a contract.
 pub fn one_contract()
     ensures { OneContract }
 {}
 
-/// No statement says two things.
+/// Tokens say one thing at most as a statement.
 pub fn one_statement()
     ensures { OneStatement }
 {}

@@ -1,4 +1,4 @@
-//! What a statement of a session is, over tokens.
+//! Which lists of tokens are statements of a session, and what they say.
 #![tactic(auto)]
 
 mod examples;

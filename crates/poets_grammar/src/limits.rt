@@ -1,10 +1,11 @@
 //! How deep a statement may be nested.
 
-/// No statement has more brackets open at one place.
+/// The most brackets that a statement may have open at one place.
 pub const MOST_OPEN: usize = 200;
 
-/// No printed statement has more brackets open at one place: printing opens one more than stood in the source.
+/// The most brackets that a printed statement may have open at one place: printing may open one more than the source
+/// had.
 pub const MOST_OPEN_STORED: usize = 201;
 
-/// No statement has more operators.
+/// The most operators of a statement.
 pub const MOST_OPERATORS: usize = 1000;

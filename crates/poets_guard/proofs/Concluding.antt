@@ -140,31 +140,32 @@ module _ (granted : Bool) (facts : Name → Option ℕ) where
   }
 
   -- both parts of `||` and `;` have to end
-  pub AreAdded-both : (a b c : Contract) (given goal first : ℕ) (old middle now new : Rules) → first ≡ old.count → middle.count ≡ old.count + 1 → middle.rules ≡ old.rules →
-      ((says : Name → Bool) → ends granted says c ≡ true → (ends granted says a && ends granted says b) ≡ true) →
-      ((book : plain.Book) → ApplicationsFit book c → ApplicationsFit book a × ApplicationsFit book b × (MayEnd book granted a → MayEnd book granted b → MayEnd book granted c)) →
-      AreAdded granted facts a given first middle now → AreAdded granted facts b first goal now new → AreAdded granted facts c given goal old new
-  AreAdded-both a b c given goal first old middle now new is count rules splits joins i j = record {
-    complete = λ known closed. (let h = j.complete known closed in let k = i.complete known h.0 in (
-      rw rules at k.0,
-      λ g e.
-          let x = both_true (ends granted (says known facts) a) (ends granted (says known facts) b) (splits (says known facts) e) in h.1 (k.1 g x.0) x.1,
-    ));
-    sound = λ book meant fit m l n to. (
-        let part = joins book fit in
-        let gs = slice_index_or meant given [] in
-        let s = AreMeant-more book granted facts meant (a ∷ gs) old middle count (ap (λ v. v.items) rules) m in
-        let more = meant ++ (a ∷ gs) ∷ [] in
-        let place : length meant ≡ first = m.many ∙ sym is in
-        let top : slice_index_or more first [] ≡ a ∷ gs = get_or_push meant (a ∷ gs) [] first place in
-        let long = length-append meant ((a ∷ gs) ∷ []) in
-        let x = i.sound book more part.0 s.1 (omega (arith, l, long)) (omega (arith, place, long))
-        (λ h e. subst (AllMayEnd book granted) (sym top) (e, FactHolds-back book granted meant more s.0 given l h)) in
-        let y = j.sound book x.0 part.1 x.2 (let w = x.1.longer in omega (arith, w, place, long)) (let w = x.1.longer in omega (arith, w, n, long))
-        (λ h e. let k = subst (AllMayEnd book granted) (x.1.same first (omega (arith, place, long)) ∙ top) h in
-        FactHolds-on book granted meant x.0 (GoOn-trans meant more x.0 s.0 x.1) goal n (to k.1 (part.2 k.0 e))) in
-        (y.0, GoOn-trans meant more y.0 s.0 (GoOn-trans more x.0 y.0 x.1 y.1), y.2));
-  }
+  module _ (a b c : Contract) (splits : (says : Name → Bool) → ends granted says c ≡ true → (ends granted says a && ends granted says b) ≡ true)
+      (joins : (book : plain.Book) → ApplicationsFit book c
+      → ApplicationsFit book a × ApplicationsFit book b × (MayEnd book granted a → MayEnd book granted b → MayEnd book granted c)) where
+    pub AreAdded-both : (given goal first : ℕ) (old middle now new : Rules) → first ≡ old.count → middle.count ≡ old.count + 1 → middle.rules ≡ old.rules →
+        AreAdded granted facts a given first middle now → AreAdded granted facts b first goal now new → AreAdded granted facts c given goal old new
+    AreAdded-both given goal first old middle now new is count rules i j = record {
+      complete = λ known closed. (let h = j.complete known closed in let k = i.complete known h.0 in (
+        rw rules at k.0,
+        λ g e.
+            let x = both_true (ends granted (says known facts) a) (ends granted (says known facts) b) (splits (says known facts) e) in h.1 (k.1 g x.0) x.1,
+      ));
+      sound = λ book meant fit m l n to. (
+          let part = joins book fit in
+          let gs = slice_index_or meant given [] in
+          let s = AreMeant-more book granted facts meant (a ∷ gs) old middle count (ap (λ v. v.items) rules) m in
+          let more = meant ++ (a ∷ gs) ∷ [] in
+          let place : length meant ≡ first = m.many ∙ sym is in
+          let top : slice_index_or more first [] ≡ a ∷ gs = get_or_push meant (a ∷ gs) [] first place in
+          let long = length-append meant ((a ∷ gs) ∷ []) in
+          let x = i.sound book more part.0 s.1 (omega (arith, l, long)) (omega (arith, place, long))
+          (λ h e. subst (AllMayEnd book granted) (sym top) (e, FactHolds-back book granted meant more s.0 given l h)) in
+          let y = j.sound book x.0 part.1 x.2 (let w = x.1.longer in omega (arith, w, place, long)) (let w = x.1.longer in omega (arith, w, n, long))
+          (λ h e. let k = subst (AllMayEnd book granted) (x.1.same first (omega (arith, place, long)) ∙ top) h in
+          FactHolds-on book granted meant x.0 (GoOn-trans meant more x.0 s.0 x.1) goal n (to k.1 (part.2 k.0 e))) in
+          (y.0, GoOn-trans meant more y.0 s.0 (GoOn-trans more x.0 y.0 x.1 y.1), y.2));
+    }
 
 known_some : (known : ℕ → Bool) (o : Option ℕ) → known_of known o ≡ true → (i : ℕ) × (o ≡ Some i) × (known i ≡ true)
 known_some known None h = absurd cc

@@ -102,14 +102,15 @@ template_in-take book checked k t s f =
     rw more (template_in-push (take k book.templates.items) t f (none_before book checked k t s))
 
 -- one more entry of a map that has one for each template
-pub template_in-entry : {V W : Type 0} (book : Book) → IsChecked (book_of book) → (h : V → W) (g : plain.Template → W) (k : ℕ) (t : Template) → StandsAt book.templates.items k t →
-    (old new : Name → Option V) (v : V) → h v ≡ g (template_of t) → ((f : Name) → new f ≡ cond (is_eq (name_cmp t.name f)) (Some v) (old f)) →
-    ((f : Name) → option_map h (old f) ≡ option_map g (template_in (map template_of (take k book.templates.items)) f)) →
-    (f : Name) → option_map h (new f) ≡ option_map g (template_in (map template_of (take (k + 1) book.templates.items)) f)
-template_in-entry book checked h g k t s old new v same update before f =
-    ap (option_map h) (update f) ∙ by (same_name t.name f) (name_cmp-same t.name f) ∙ sym (ap (option_map g) (template_in-take book checked k t s f))
-  where
-    by : (b : Bool) → is_eq (name_cmp t.name f) ≡ b → option_map h (cond (is_eq (name_cmp t.name f)) (Some v) (old f))
-        ≡ option_map g (if b then Some (template_of t) else template_in (map template_of (take k book.templates.items)) f)
-    by true e = rw e (ap Some same)
-    by false e = rw e (before f)
+module _ {V W : Type 0} (book : Book) (checked : IsChecked (book_of book)) (h : V → W) (g : plain.Template → W) (k : ℕ) (t : Template)
+    (s : StandsAt book.templates.items k t) where
+  pub template_in-entry : (old new : Name → Option V) (v : V) → h v ≡ g (template_of t) → ((f : Name) → new f ≡ cond (is_eq (name_cmp t.name f)) (Some v) (old f)) →
+      ((f : Name) → option_map h (old f) ≡ option_map g (template_in (map template_of (take k book.templates.items)) f)) →
+      (f : Name) → option_map h (new f) ≡ option_map g (template_in (map template_of (take (k + 1) book.templates.items)) f)
+  template_in-entry old new v same update before f =
+      ap (option_map h) (update f) ∙ by (same_name t.name f) (name_cmp-same t.name f) ∙ sym (ap (option_map g) (template_in-take book checked k t s f))
+    where
+      by : (b : Bool) → is_eq (name_cmp t.name f) ≡ b → option_map h (cond (is_eq (name_cmp t.name f)) (Some v) (old f))
+          ≡ option_map g (if b then Some (template_of t) else template_in (map template_of (take k book.templates.items)) f)
+      by true e = rw e (ap Some same)
+      by false e = rw e (before f)

@@ -60,26 +60,27 @@ module _ (graph : BTreeMap Name Node) where
     | inr e ↦ subst (λ x. IsSeen graph new x × (x ≢ goal)) (sym e) (searched.0, other)
   ]
 
-  -- the search from a name, after all that it exposes
-  pub IsSearched-node : (goal f : Name) (n : Node) (old inserted new : BTreeSet Name) (names : List Name) (k : ℕ) → get name_cmp graph f ≡ Some n →
-      names ≡ n.exposed.items → length names ≤ k → length inserted.keys ≡ length old.keys + 1 →
-      ((q : Name) → contains name_cmp inserted q ≡ cond (is_eq (name_cmp f q)) true (contains name_cmp old q)) → IsSearching graph goal inserted new →
-      ((g : Name) → is_among (take k names) g ≡ true → IsSeen graph new g × (g ≢ goal)) → IsSearched graph goal f old new
-  IsSearched-node goal f n old inserted new names k here all l longer more searching passed = (
-    inl (searching.kept f (now_said (contains name_cmp old) (contains name_cmp inserted) f more)),
-    record {
-      kept = λ g e. searching.kept g (still_said (contains name_cmp old) (contains name_cmp inserted) f more g e);
-      passed = λ g e. elim (searching.passed g e) [
-        | inl i ↦ elim (said (contains name_cmp old) (contains name_cmp inserted) f more g i) [
-          | inl q ↦ inr (subst (IsPassed graph goal new) q (edges-all graph f n names k here all (λ x. IsSeen graph new x × (x ≢ goal)) l passed))
-          | inr o ↦ inl o
-        ]
-        | inr p ↦ inr p
-      ];
-      have_nodes = searching.have_nodes;
-      as_many = (let m = searching.as_many in omega (arith, longer, m));
-    },
-  )
+  -- the search from a name that was put in, after all that the name exposes
+  module _ (goal f : Name) (old inserted new : BTreeSet Name) (longer : length inserted.keys ≡ length old.keys + 1)
+      (more : (q : Name) → contains name_cmp inserted q ≡ cond (is_eq (name_cmp f q)) true (contains name_cmp old q))
+      (searching : IsSearching graph goal inserted new) where
+    pub IsSearched-node : (n : Node) (names : List Name) (k : ℕ) → get name_cmp graph f ≡ Some n → names ≡ n.exposed.items → length names ≤ k →
+        ((g : Name) → is_among (take k names) g ≡ true → IsSeen graph new g × (g ≢ goal)) → IsSearched graph goal f old new
+    IsSearched-node n names k here all l passed = (
+      inl (searching.kept f (now_said (contains name_cmp old) (contains name_cmp inserted) f more)),
+      record {
+        kept = λ g e. searching.kept g (still_said (contains name_cmp old) (contains name_cmp inserted) f more g e);
+        passed = λ g e. elim (searching.passed g e) [
+          | inl i ↦ elim (said (contains name_cmp old) (contains name_cmp inserted) f more g i) [
+            | inl q ↦ inr (subst (IsPassed graph goal new) q (edges-all graph f n names k here all (λ x. IsSeen graph new x × (x ≢ goal)) l passed))
+            | inr o ↦ inl o
+          ]
+          | inr p ↦ inr p
+        ];
+        have_nodes = searching.have_nodes;
+        as_many = (let m = searching.as_many in omega (arith, longer, m));
+      },
+    )
 
   -- names with nodes are no more than the nodes
   pub no_more_seen : (seen : BTreeSet Name) → HaveNodes graph seen → IsOrdered name_cmp seen → length seen.keys ≤ length graph.entries

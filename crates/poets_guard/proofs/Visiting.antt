@@ -161,13 +161,13 @@ module _ (graph : BTreeMap Name Node) where
       rw length-keys_of at l
 
   -- one exposed name more
-  pub seen-more : (old new : Visits) (least next : ℕ) (names : List Name) (k : ℕ) (d : Name) → k < length names → AreGrown old new →
-      ((g : Name) → is_among (take k names) g ≡ true → IsFrom graph old least g) → IsFrom graph new next (slice_index_or names k d) →
-      (g : Name) → is_among (take (k + 1) names) g ≡ true → IsFrom graph new (min least next) g
-  seen-more old new least next names k d l grown before here g h = elim (among_more names k d g l h) [
-    | inl a ↦ IsFrom-later old new least (min least next) g grown (omega arith) (before g a)
-    | inr e ↦ subst (IsFrom graph new (min least next)) (sym e) (IsFrom-less new next (min least next) (slice_index_or names k d) (omega arith) here)
-  ]
+  module _ (old new : Visits) (grown : AreGrown old new) (least next : ℕ) where
+    pub seen-more : (names : List Name) (k : ℕ) (d : Name) → k < length names → ((g : Name) → is_among (take k names) g ≡ true → IsFrom graph old least g) →
+        IsFrom graph new next (slice_index_or names k d) → (g : Name) → is_among (take (k + 1) names) g ≡ true → IsFrom graph new (min least next) g
+    seen-more names k d l before here g h = elim (among_more names k d g l h) [
+      | inl a ↦ IsFrom-later old new least (min least next) g grown (omega arith) (before g a)
+      | inr e ↦ subst (IsFrom graph new (min least next)) (sym e) (IsFrom-less new next (min least next) (slice_index_or names k d) (omega arith) here)
+    ]
 
   pub way-more : (start old : Visits) (least next : ℕ) (f x : Name) → AreGrown start old → HasEdge graph f x → ((g : Name) → IsOpenAt start least g → Reaches graph f g) →
       ((g : Name) → IsOpenAt old next g → (x ≡ g) ⊎ Reaches graph x g) → (g : Name) → IsOpenAt start (min least next) g → Reaches graph f g

@@ -152,21 +152,22 @@ pub HaveSameNames-trans : (xs ys zs : BTreeSet Name) → HaveSameNames xs ys →
 HaveSameNames-trans xs ys zs h k = record { same = λ f. k.same f ∙ h.same f; as_many = k.as_many ∙ h.as_many }
 
 -- a name that was put in and taken out
-pub HaveSameNames-removed : (old inserted now removed : BTreeSet Name) (f : Name) (added taken : Bool) →
-    added ≡ not (contains name_cmp old f) → added ≡ true → ((q : Name) → contains name_cmp inserted q ≡ cond (is_eq (name_cmp f q)) true (contains name_cmp old q)) →
-    length inserted.keys ≡ length old.keys + 1 → HaveSameNames inserted now → taken ≡ contains name_cmp now f →
-    ((q : Name) → contains name_cmp removed q ≡ cond (is_eq (name_cmp f q)) false (contains name_cmp now q)) → length removed.keys + cond taken 1 0 ≡ length now.keys →
-    HaveSameNames old removed
-HaveSameNames-removed old inserted now removed f added taken new put more longer same was less shorter = record {
-  same = λ q. less q ∙ by (same_name f q) q (name_cmp-same f q) refl;
-  as_many = (let t : taken ≡ true = was ∙ same.same f ∙ more f ∙ rw (name_cmp-same f f ∙ same_name-self f) refl in
-      let s : length removed.keys + 1 ≡ length now.keys = rw t at shorter in let m = same.as_many in omega (arith, s, m, longer));
-}
-  where
-    unsaid : (a : Bool) → not a ≡ true → a ≡ false
-    unsaid true k = absurd cc
-    unsaid false k = refl
+module _ (old inserted now removed : BTreeSet Name) (f : Name) where
+  pub HaveSameNames-removed : (added taken : Bool) → added ≡ not (contains name_cmp old f) → added ≡ true →
+      ((q : Name) → contains name_cmp inserted q ≡ cond (is_eq (name_cmp f q)) true (contains name_cmp old q)) → length inserted.keys ≡ length old.keys + 1 →
+      HaveSameNames inserted now → taken ≡ contains name_cmp now f →
+      ((q : Name) → contains name_cmp removed q ≡ cond (is_eq (name_cmp f q)) false (contains name_cmp now q)) →
+      length removed.keys + cond taken 1 0 ≡ length now.keys → HaveSameNames old removed
+  HaveSameNames-removed added taken new put more longer same was less shorter = record {
+    same = λ q. less q ∙ by (same_name f q) q (name_cmp-same f q) refl;
+    as_many = (let t : taken ≡ true = was ∙ same.same f ∙ more f ∙ rw (name_cmp-same f f ∙ same_name-self f) refl in
+        let s : length removed.keys + 1 ≡ length now.keys = rw t at shorter in let m = same.as_many in omega (arith, s, m, longer));
+  }
+    where
+      unsaid : (a : Bool) → not a ≡ true → a ≡ false
+      unsaid true k = absurd cc
+      unsaid false k = refl
 
-    by : (b : Bool) (q : Name) → is_eq (name_cmp f q) ≡ same_name f q → same_name f q ≡ b → cond (is_eq (name_cmp f q)) false (contains name_cmp now q) ≡ contains name_cmp old q
-    by true q e k = rw (e ∙ k) (sym (ap (contains name_cmp old) (sym (name_one f q k)) ∙ unsaid (contains name_cmp old f) (sym new ∙ put)))
-    by false q e k = rw (e ∙ k) (same.same q ∙ rw (e ∙ k) at (more q))
+      by : (b : Bool) (q : Name) → is_eq (name_cmp f q) ≡ same_name f q → same_name f q ≡ b → cond (is_eq (name_cmp f q)) false (contains name_cmp now q) ≡ contains name_cmp old q
+      by true q e k = rw (e ∙ k) (sym (ap (contains name_cmp old) (sym (name_one f q k)) ∙ unsaid (contains name_cmp old f) (sym new ∙ put)))
+      by false q e k = rw (e ∙ k) (same.same q ∙ rw (e ∙ k) at (more q))

@@ -16,11 +16,11 @@ use poets_value::{List, Memory, Name};
 use std::alloc::Global;
 
 /// Why a book is not studied.
-#[derive(Drop)]
+#[derive(Debug, PartialEq, Eq, Drop)]
 pub enum GuardFault {
     /// Templates that apply one another in a circle before a transmission, each the next and the last the first.
     Unguarded { cycle: List<Name> },
-    /// Want of memory.
+    /// Out of memory.
     Memory,
 }
 

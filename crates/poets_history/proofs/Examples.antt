@@ -1,6 +1,8 @@
 -- Worked histories: their replies were written by hand, and each is the right one.
 use Rattle.std.proofs.Common.{arith, ◌≡◌, ℕ, zero, suc, ◌+◌, Bool, true, false, nat_lt, List, [], ◌∷◌, Some, None, if◌then◌else◌, take, refl, sym, ◌∙◌, subst, inl, inr}
 use Rattle.std.specs.Prelude.{ℤ, pos, IsTrue, ◌↔◌}
+use Rattle.std.proofs.lemmas.Bool.{false≢true}
+use Rattle.std.proofs.lemmas.Option.{none-some}
 use Rattle.poets_value.specs.declared.value.Name.{Name}
 use Rattle.poets_value.specs.declared.event.Event.{Event}
 use Rattle.poets_value.specs.declared.value.Ty.TheVariants as T
@@ -17,7 +19,9 @@ use Rattle.poets_syntax.proofs.Replacing.{truth}
 use Rattle.poets_meaning.specs.Between.{Between}
 use Rattle.poets_meaning.specs.Perf.{Perf}
 use Rattle.poets_meaning.specs.May.{May}
-use Rattle.poets_meaning.specs.NoTemplates.{without_templates}
+use Rattle.poets_meaning.specs.NoTemplates.{without_templates, no_marks}
+use Rattle.poets_meaning.specs.Spread.{is_past_limit}
+use Rattle.poets_calculus.specs.Residual.{residual_after}
 use Rattle.poets_meaning.specs.Marks.{Marks, AreRight, BodySatisfies, Hopeful}
 use Rattle.poets_report.specs.Keys.{Key, same_key}
 use Rattle.poets_report.specs.Plain.{Report, Answer}
@@ -26,10 +30,10 @@ use Rattle.poets_report.specs.Keyed.{row_at}
 use Rattle.poets_report.proofs.FoldsByKey.{if_any, rows_by_key}
 use Rattle.poets_command.specs.Plain.{Command, Reply, Entry}
 use Rattle.poets_history.specs.Gathered.{log_of}
-use Rattle.poets_history.specs.Frame.{Frame}
-use Rattle.poets_history.specs.NoTemplates.{frame_without_templates}
-use Rattle.std.proofs.lemmas.Bool.{false≢true}
-use Rattle.poets_history.specs.Replies.{Replies, Legal, HasPlace, GrowsTooLarge}
+use Rattle.poets_history.specs.Frame.{Frame, frame_of}
+use Rattle.poets_history.specs.Owed.{Owed}
+use Rattle.poets_history.specs.Replies.{Replies, Legal, HasPlace, IsTooLarge, GrowsTooLarge}
+use Rattle.poets_history.proofs.Owing.{residual_owed, large, found_large}
 
 abbrev name : ℕ → Name
 name n = record { id = n }
@@ -71,7 +75,7 @@ abbrev moved : Report
 moved = record sum { name = name 21; key = Some (Unary KindOf (Named (name 12))) }
 
 abbrev frame : Frame
-frame = frame_without_templates declared (sum ∷ moved ∷ [])
+frame = frame_of (without_templates declared) (sum ∷ moved ∷ [])
 
 -- transmit(s, v, r, t | kind(r) = Oil). then
 abbrev oil_then : Contract → Contract
@@ -93,8 +97,22 @@ c = name 31
 abbrev d : Name
 d = name 32
 
-is_not_too_large : {past : Bool} → past ≡ false → IsTrue past → ⊥
-is_not_too_large within past = false≢true (sym within ∙ past)
+abbrev plain : Book
+plain = without_templates declared
+
+-- no template is nullable or hopeful, for there is none
+no_marks_right : AreRight plain no_marks
+no_marks_right = record {
+  nullable = λ f. (λ h. absurd (false≢true h), λ b. absurd (none-some b.0 b.1));
+  hopeful = λ f. (λ h. absurd (false≢true h), λ b. absurd (none-some b.0 b.1));
+}
+
+-- the residual is owed
+owed : (o : Contract) (s : List Event) → Owed plain o s (residual_after plain no_marks o s)
+owed o s = residual_owed plain no_marks no_marks_right o s
+
+is_not_too_large : (o : Contract) (s : List Event) → is_past_limit plain no_marks (residual_after plain no_marks o s) ≡ false → IsTooLarge frame o s → ⊥
+is_not_too_large o s within large = false≢true (sym within ∙ found_large plain no_marks no_marks_right o s frame refl large)
 
 -- a contract is registered, shown and ended once; a second one of its name, and an event that it does not want, are refused
 abbrev first_day : List Entry
@@ -125,14 +143,14 @@ no e = absurd cc
 
 pub first_day_is_legal : Legal frame first_day
 first_day_is_legal =
-    let h₁ : Legal frame (take 1 first_day) = Legal.More _ Legal.Empty (Replies.Registered refl (0, May.Done) (is_not_too_large refl)) in
+    let h₁ : Legal frame (take 1 first_day) = Legal.More _ Legal.Empty (Replies.Registered refl (0, May.Done) (is_not_too_large Contract.Success [] refl)) in
     let h₂ : Legal frame (take 2 first_day) = Legal.More _ h₁ (Replies.NameTaken refl) in
     let h₃ : Legal frame (take 3 first_day) = Legal.More _ h₂ (Replies.Unmatched ((refl, no), refl) (λ m. success_is_over m.1)) in
-    let h₄ : Legal frame (take 4 first_day) = Legal.More _ h₃ (Replies.Shown refl success_is_performed) in
+    let h₄ : Legal frame (take 4 first_day) = Legal.More _ h₃ (Replies.Shown refl (owed Contract.Success []) success_is_performed) in
     let h₅ : Legal frame (take 5 first_day) = Legal.More _ h₄ (Replies.EndedNow (refl, no) Perf.Done) in
     let h₆ : Legal frame (take 6 first_day) = Legal.More _ h₅ (Replies.AlreadyEnded refl refl) in
     let h₇ : Legal frame (take 7 first_day) = Legal.More _ h₆ (Replies.TransmitToEnded refl refl) in
-    let h₈ : Legal frame (take 8 first_day) = Legal.More _ h₇ (Replies.Shown refl success_is_performed) in
+    let h₈ : Legal frame (take 8 first_day) = Legal.More _ h₇ (Replies.Shown refl (owed Contract.Success []) success_is_performed) in
     let h₉ : Legal frame (take 9 first_day) = Legal.More _ h₈ (Replies.Hopeless refl (λ m. failure_is_hopeless m.1)) in
     Legal.More _ h₉ (Replies.ShowOfNone refl)
 
@@ -187,16 +205,16 @@ seven_moved k = at_oil (same_key k (Some (V.Kind oil))) refl
 pub trade_is_legal : Legal frame trade
 trade_is_legal =
     let h₁ : Legal frame (take 1 trade) = Legal.More _ Legal.Empty
-    (Replies.Registered refl (2, May.Granted (May.Granted May.Done)) (is_not_too_large refl)) in
-    let h₂ : Legal frame (take 2 trade) = Legal.More _ h₁ (Replies.Registered refl (0, May.Done) (is_not_too_large refl)) in
+    (Replies.Registered refl (2, May.Granted (May.Granted May.Done)) (is_not_too_large (oil_then (oil_then Contract.Success)) [] refl)) in
+    let h₂ : Legal frame (take 2 trade) = Legal.More _ h₁ (Replies.Registered refl (0, May.Done) (is_not_too_large Contract.Success [] refl)) in
     let h₃ : Legal frame (take 3 trade) = Legal.More _ h₂ Replies.Watching in
     let h₄ : Legal frame (take 4 trade) = Legal.More _ h₃
-    (Replies.Recorded ((refl, no), refl) (1, May.Taken refl (May.Granted May.Done)) (is_not_too_large refl) is_not) in
+    (Replies.Recorded ((refl, no), refl) (1, May.Taken refl (May.Granted May.Done)) (is_not_too_large (oil_then (oil_then Contract.Success)) (moves (pos 5) 2 ∷ []) refl) is_not) in
     let h₅ : Legal frame (take 5 trade) = Legal.More _ h₄ (Replies.Late (refl, no) refl) in
-    let h₆ : Legal frame (take 6 trade) = Legal.More _ h₅ (Replies.Shown refl is_not) in
+    let h₆ : Legal frame (take 6 trade) = Legal.More _ h₅ (Replies.Shown refl (owed (oil_then (oil_then Contract.Success)) (moves (pos 5) 2 ∷ [])) is_not) in
     let h₇ : Legal frame (take 7 trade) = Legal.More _ h₆ (Replies.NotPerformed (refl, no) one_is_too_few) in
     let h₈ : Legal frame (take 8 trade) = Legal.More _ h₇
-    (Replies.Recorded ((refl, no), refl) (0, May.Taken refl (May.Taken refl May.Done)) (is_not_too_large refl) (λ _. two_are_enough, λ _. refl)) in
+    (Replies.Recorded ((refl, no), refl) (0, May.Taken refl (May.Taken refl May.Done)) (is_not_too_large (oil_then (oil_then Contract.Success)) (moves (pos 5) 2 ∷ moves (pos 2) 2 ∷ []) refl) (λ _. two_are_enough, λ _. refl)) in
     let h₉ : Legal frame (take 9 trade) = Legal.More _ h₈
     (Replies.Read refl (moved, refl, rows_by_key declared moved [] _ _ _ tt seven_moved)) in
     let h₁₀ : Legal frame (take 10 trade) = Legal.More _ h₉ (Replies.NoWatch refl) in
@@ -236,22 +254,22 @@ no_second : HasPlace (moves (pos 5) 2 ∷ []) 2 → ⊥
 no_second h = omega (arith, h.1)
 
 never_too_large : GrowsTooLarge frame (oil_then (oil_then Contract.Success)) [] → ⊥
-never_too_large (zero, large) = is_not_too_large refl large
-never_too_large (suc n, large) = is_not_too_large refl large
+never_too_large (zero, large) = is_not_too_large (oil_then (oil_then Contract.Success)) [] refl large
+never_too_large (suc n, large) = is_not_too_large (oil_then (oil_then Contract.Success)) [] refl large
 
 pub withdrawal_is_legal : Legal frame withdrawal
 withdrawal_is_legal =
     let h₁ : Legal frame (take 1 withdrawal) = Legal.More _ Legal.Empty
-    (Replies.Registered refl (2, May.Granted (May.Granted May.Done)) (is_not_too_large refl)) in
+    (Replies.Registered refl (2, May.Granted (May.Granted May.Done)) (is_not_too_large (oil_then (oil_then Contract.Success)) [] refl)) in
     let h₂ : Legal frame (take 2 withdrawal) = Legal.More _ h₁
-    (Replies.Recorded ((refl, no), refl) (1, May.Taken refl (May.Granted May.Done)) (is_not_too_large refl) is_not) in
+    (Replies.Recorded ((refl, no), refl) (1, May.Taken refl (May.Granted May.Done)) (is_not_too_large (oil_then (oil_then Contract.Success)) (moves (pos 5) 2 ∷ []) refl) is_not) in
     let h₃ : Legal frame (take 3 withdrawal) = Legal.More _ h₂ (Replies.NoEvent (refl, no) no_second) in
     let h₄ : Legal frame (take 4 withdrawal) = Legal.More _ h₃ (Replies.VoidOfNone refl) in
     let h₅ : Legal frame (take 5 withdrawal) = Legal.More _ h₄
     (Replies.Voided ((refl, no), (omega arith, omega arith)) never_too_large (2, May.Granted (May.Granted May.Done))
     (λ e. absurd (no e), λ p. absurd (none_is_too_few p))) in
     let h₆ : Legal frame (take 6 withdrawal) = Legal.More _ h₅
-    (Replies.Recorded ((refl, no), refl) (1, May.Taken refl (May.Granted May.Done)) (is_not_too_large refl)
+    (Replies.Recorded ((refl, no), refl) (1, May.Taken refl (May.Granted May.Done)) (is_not_too_large (oil_then (oil_then Contract.Success)) (moves (pos 2) 1 ∷ []) refl)
     (λ e. absurd (no e), λ p. absurd (another_is_too_few p))) in
     Legal.More _ h₆ (Replies.Tallied (sum, refl, refl))
 
@@ -288,11 +306,11 @@ pub either_side_is_legal : Legal frame either_side
 either_side_is_legal =
     let first : Between (moves (pos 1) 1 ∷ []) [] (moves (pos 1) 1 ∷ []) = Between.First Between.Empty in
     let h₁ : Legal frame (take 1 either_side) = Legal.More _ Legal.Empty
-    (Replies.Registered refl (3, May.Beside Between.Empty refl (May.Granted May.Done) (May.Granted (May.Granted May.Done))) (is_not_too_large refl)) in
+    (Replies.Registered refl (3, May.Beside Between.Empty refl (May.Granted May.Done) (May.Granted (May.Granted May.Done))) (is_not_too_large (Contract.Par (oil_then Contract.Success) (oil_then usd_then_success)) [] refl)) in
     let h₂ : Legal frame (take 2 either_side) = Legal.More _ h₁
     (Replies.Recorded ((refl, no), refl) (2, May.Beside first refl (May.Taken refl May.Done) (May.Granted (May.Granted May.Done)))
-    (is_not_too_large refl) not_both) in
-    Legal.More _ h₂ (Replies.Shown refl not_both)
+    (is_not_too_large (Contract.Par (oil_then Contract.Success) (oil_then usd_then_success)) (moves (pos 1) 1 ∷ []) refl) not_both) in
+    Legal.More _ h₂ (Replies.Shown refl (owed (Contract.Par (oil_then Contract.Success) (oil_then usd_then_success)) (moves (pos 1) 1 ∷ [])) not_both)
 
 -- a predicate with so many nodes above its literal
 abbrev nots : ℕ → Expression
@@ -311,8 +329,8 @@ at_the_limit =
 
 pub at_the_limit_is_legal : Legal frame at_the_limit
 at_the_limit_is_legal =
-    let h₁ : Legal frame (take 1 at_the_limit) = Legal.More _ Legal.Empty (Replies.RegisterTooLarge refl (1, May.Granted May.Done) refl) in
-    Legal.More _ h₁ (Replies.Registered refl (1, May.Granted May.Done) (is_not_too_large refl))
+    let h₁ : Legal frame (take 1 at_the_limit) = Legal.More _ Legal.Empty (Replies.RegisterTooLarge refl (1, May.Granted May.Done) (large plain no_marks no_marks_right (wide_by 998) [] frame refl refl)) in
+    Legal.More _ h₁ (Replies.Registered refl (1, May.Granted May.Done) (is_not_too_large (wide_by 997) [] refl))
 
 -- template filled(n: Int) = transmit(s, v, r, t | ..). Success, of size 1000
 abbrev filled : Name
@@ -349,7 +367,7 @@ mark_is_right = record {
     no_transmit p = elim p [ ]
 
 abbrev one_frame : Frame
-one_frame = record { book = one_template; reports = []; marks = one_mark; right = mark_is_right }
+one_frame = frame_of one_template []
 
 abbrev filled_with : ℕ → Contract
 filled_with n = Contract.App filled (Literal (V.Int (pos n)) ∷ [])
@@ -376,5 +394,7 @@ far_spread =
 
 pub far_spread_is_legal : Legal one_frame far_spread
 far_spread_is_legal =
-    let h₁ : Legal one_frame (take 1 far_spread) = Legal.More _ Legal.Empty (Replies.RegisterTooLarge refl (five_hopeful 1 2 3 4 5) refl) in
-    Legal.More _ h₁ (Replies.Registered refl (five_hopeful 1 1 2 3 4) (is_not_too_large refl))
+    let h₁ : Legal one_frame (take 1 far_spread) = Legal.More _ Legal.Empty (Replies.RegisterTooLarge refl (five_hopeful 1 2 3 4 5)
+    (large one_template one_mark mark_is_right (five 1 2 3 4 5) [] one_frame refl refl)) in
+    Legal.More _ h₁ (Replies.Registered refl (five_hopeful 1 1 2 3 4)
+    (λ past. false≢true (found_large one_template one_mark mark_is_right (five 1 1 2 3 4) [] one_frame refl past)))

@@ -7,8 +7,6 @@ use Rattle.poets_expr.specs.Expression.{Expression}
 use Rattle.poets_syntax.specs.Contract.{Contract}
 use Rattle.poets_meaning.specs.Marks.{Hopeful}
 use Rattle.poets_meaning.specs.Perf.{Perf}
-use Rattle.poets_calculus.specs.Normal.{normal}
-use Rattle.poets_calculus.specs.Residual.{residual_after}
 use Rattle.poets_report.specs.Plain.{Report, Answer}
 use Rattle.poets_report.proofs.OneAnswers.{one_answer}
 use Rattle.poets_command.specs.Plain.{Command, Reply}
@@ -16,9 +14,11 @@ use Rattle.poets_command.specs.Totals.{total_of}
 use Rattle.poets_command.specs.Reports.{report_in}
 use Rattle.poets_history.specs.Ledger.{Ledger, contract_named, number_of, trace, events, is_ended, late_day, first_absent, watch_at}
 use Rattle.poets_history.specs.Frame.{Frame}
+use Rattle.poets_history.specs.Owed.{Owed}
 use Rattle.poets_history.specs.Replies.{Replies, IsTooLarge, CanGoOn, TellsWhetherPerformed, WasEnded, HasPlace, GrowsTooLarge, trace_with, trace_without}
 use Rattle.poets_history.specs.Replies.{ReportAnswers, argument_values, AnswersReport, AreFolioRows}
 use Rattle.poets_history.specs.Laws.{OneReply}
+use Rattle.poets_history.proofs.Owing.{one_by, one_owed}
 
 -- ---- the cases of each command in order, of which the first that applies has the reply
 
@@ -34,7 +34,7 @@ abbrev Registers : Frame → Ledger → Contract → (named : Option (ℕ × Con
 Registers f l c (Some named) r = r ≡ Reply.NameTaken named.0
 Registers f l c None r =
     Unless (Hopeful f.book c) (r ≡ Reply.Hopeless) (
-    When (IsTooLarge f (normal f.book f.marks c)) (r ≡ Reply.TooLarge)
+    When (IsTooLarge f c []) (r ≡ Reply.TooLarge)
     (r ≡ Reply.Registered (length l.contracts + 1)))
 
 -- `later` is the last day of the trace, if the event's is before it; s is the trace with the event
@@ -42,7 +42,7 @@ abbrev Records : Frame → Contract → (count : ℕ) → (s : List Event) → (
 Records f o n s (Some later) r = r ≡ Reply.Late later
 Records f o n s None r =
     Unless (CanGoOn f o s) (r ≡ Reply.Unmatched) (
-    When (IsTooLarge f (residual_after f.book f.marks o s)) (r ≡ Reply.TooLarge)
+    When (IsTooLarge f o s) (r ≡ Reply.TooLarge)
     ((b : Bool) × TellsWhetherPerformed f b o s × (r ≡ Reply.Recorded (n + 1) b)))
 
 abbrev Transmits : Frame → Ledger → Name → Event → (named : Option (ℕ × Contract)) → Reply → Type 0
@@ -76,8 +76,8 @@ abbrev Shows : Frame → Ledger → Name → (named : Option (ℕ × Contract)) 
 Shows f l x None r = r ≡ Reply.NoContract x
 Shows f l x (Some named) r =
     let s = trace l named.0 in
-    (b : Bool) × TellsWhetherPerformed f b named.1 s
-    × (r ≡ Reply.Shown (residual_after f.book f.marks named.1 s) (length s) b (is_ended l named.0))
+    (owed : Contract) × Owed f.book named.1 s owed
+    × ((b : Bool) × TellsWhetherPerformed f b named.1 s × (r ≡ Reply.Shown owed (length s) b (is_ended l named.0)))
 
 abbrev Tallies : Frame → Name → List Expression → List Event → Reply → Type 0
 Tallies f x args s r = (a : Answer) × ReportAnswers f x args s a × (r ≡ Reply.Answered a)
@@ -147,7 +147,8 @@ cases_of f l _ _ (Replies.NotPerformed {x = x} live fails) =
     at (Ends f l x) live.0 (inr (live.1, inl (fails, refl)))
 cases_of f l _ _ (Replies.EndedNow {x = x} live done) = at (Ends f l x) live.0 (inr (live.1, inr (done, refl)))
 cases_of f l _ _ (Replies.ShowOfNone {x = x} absent) = at (Shows f l x) absent refl
-cases_of f l _ _ (Replies.Shown {x = x} {b = b} named tells) = at (Shows f l x) named (b, tells, refl)
+cases_of f l _ _ (Replies.Shown {x = x} {r = owed} {b = b} named is tells) =
+    at (Shows f l x) named (owed, is, (b, tells, refl))
 cases_of f l _ _ (Replies.Tallied {a = a} answers) = (a, answers, refl)
 cases_of f l _ _ (Replies.PortfolioOfNone {x = x} {args = args} {over = over} absent) =
     at (GivesFolio f l x args over) absent refl
@@ -175,13 +176,8 @@ unless_one G (inr a) (inr b) f g = g a.1 b.1
 both : {A : Type 0} {x y z : A} → x ≡ z → y ≡ z → x ≡ y
 both e k = e ∙ sym k
 
-pub bool_one : (a b : Bool) → (a ≡ true → b ≡ true) → (b ≡ true → a ≡ true) → a ≡ b
-bool_one true b f g = sym (f refl)
-bool_one false true f g = g refl
-bool_one false false f g = refl
-
 tells_one : (f : Frame) (b b' : Bool) (o : Contract) (s : List Event) → TellsWhetherPerformed f b o s → TellsWhetherPerformed f b' o s → b ≡ b'
-tells_one f b b' o s h k = bool_one b b' (λ e. k.1 (h.0 e)) (λ e. h.1 (k.0 e))
+tells_one f b b' o s h k = one_by b b' h k
 
 some_one : {A : Type 0} (x y : A) → Some x ≡ Some y → x ≡ y
 some_one x y e = cc
@@ -221,7 +217,8 @@ shows_one : (f : Frame) (l : Ledger) (x : Name) (o : Option (ℕ × Contract)) (
 shows_one f l x None r r' h k = both h k
 shows_one f l x (Some c) r r' h k =
     let s = trace l c.0 in
-    h.2 ∙ ap (λ b. Reply.Shown (residual_after f.book f.marks c.1 s) (length s) b (is_ended l c.0)) (tells_one f h.0 k.0 c.1 s h.1 k.1) ∙ sym k.2
+    h.2.2 ∙ ap₂ (λ owed b. Reply.Shown owed (length s) b (is_ended l c.0)) (one_owed f.book c.1 s h.0 k.0 h.1 k.1)
+    (tells_one f h.2.0 k.2.0 c.1 s h.2.1 k.2.1) ∙ sym k.2.2
 
 report_one : (reports : List Report) (x : Name) (q q' : Report) → report_in reports x ≡ Some q → report_in reports x ≡ Some q' → q ≡ q'
 report_one reports x q q' e e' = some_one q q' (sym e ∙ e')

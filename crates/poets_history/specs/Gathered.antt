@@ -22,7 +22,7 @@ registered h = filter_map (λ e. registration e.command e.reply) h
 abbrev pub number_after : List Entry → Name → ℕ
 number_after before x = number_in (contract_from 1 x (registered before))
 
--- each entry, with all that stands before it
+-- each entry, with all entries before it
 abbrev pub with_before : List Entry → List (List Entry × Entry)
 with_before [] = []
 with_before (e ∷ h) = ([], e) ∷ map (λ p. (e ∷ p.0, p.1)) (with_before h)

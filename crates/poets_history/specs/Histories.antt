@@ -1,5 +1,4 @@
--- Histories of a book and its reports. The marks that a frame has beside these are determined by
--- the book.
+-- Histories of a book and its reports.
 use Rattle.std.specs.Prelude.{◌≡◌, ℕ, List, [], ◌++◌, Some, All, ⊤, ◌↔◌}
 use Rattle.poets_value.specs.declared.event.Event.{Event}
 use Rattle.poets_syntax.specs.Plain.{Book}
@@ -9,28 +8,22 @@ use Rattle.poets_report.specs.Plain.{Report}
 use Rattle.poets_command.specs.Plain.{Command, Reply, Entry}
 use Rattle.poets_command.specs.Calls.{Call}
 use Rattle.poets_history.specs.Ledger.{Ledger, ledger_of, contract_named, trace}
-use Rattle.poets_history.specs.Frame.{Frame}
+use Rattle.poets_history.specs.Frame.{frame_of}
 use Rattle.poets_history.specs.Gathered.{with_before}
 use Rattle.poets_history.specs.Replies.{Replies, Legal, Answers}
 
--- it holds in a frame of the book and the reports
-pub record InFrame (b : Book) (queries : List Report) (Property : Frame → Type 0) : Type 0 where
-  pub frame : Frame
-  pub book : frame.book ≡ b
-  pub reports : frame.reports ≡ queries
-  pub holds : Property frame
-
--- each entry has the right reply
+-- the history is legal: each entry has the reply that follows from the book, the reports and the
+-- entries before it
 abbrev pub IsLegal : Book → List Report → List Entry → Type 0
-IsLegal book reports h = InFrame book reports (λ f. Legal f h)
+IsLegal book reports h = Legal (frame_of book reports) h
 
 -- this is the reply to the command after the history of a ledger
 abbrev pub RepliesIn : Book → List Report → Ledger → Command → Reply → Type 0
-RepliesIn book reports l command reply = InFrame book reports (λ f. Replies f l command reply)
+RepliesIn book reports l command reply = Replies (frame_of book reports) l command reply
 
 -- after those calls this is the reply to the command
 abbrev pub AnswersIn : Book → List Report → List Call → Command → Reply → Type 0
-AnswersIn book reports calls command reply = InFrame book reports (λ f. Answers f calls command reply)
+AnswersIn book reports calls command reply = Answers (frame_of book reports) calls command reply
 
 -- where a residual is shown of a contract of the ledger, exactly the completions of its recorded
 -- trace perform it

@@ -11,7 +11,8 @@ use Rattle.poets_syntax.specs.Contract.{Contract}
 use Rattle.poets_command.specs.Plain.{Command, Reply, Entry}
 
 pub record Ledger : Type 0 where
-  -- the names and the originals of the accepted registrations; their places count from 1
+  -- the names and the originals of the accepted registrations; a contract's number is its place
+  -- here, from 1
   pub contracts : List (Name × Contract)
   -- the contracts' numbers and the events of the accepted transmissions, but for the events that
   -- were withdrawn
@@ -56,7 +57,7 @@ is_accepted Reply.EndedNow = true
 is_accepted (Reply.Watching n) = true
 is_accepted _ = false
 
--- with an entry: only accepted commands change the ledger
+-- the ledger with one more entry: only accepted commands change it
 abbrev pub with_entry : Ledger → Command → Reply → Ledger
 with_entry ledger (Command.Register x c) (Reply.Registered n) =
     record ledger { contracts = ledger.contracts ++ (x, c) ∷ [] }
@@ -77,7 +78,7 @@ ledger_of h = fold (λ ledger e. with_entry ledger e.command e.reply) empty_ledg
 abbrev pub events : Ledger → List Event
 events ledger = map (λ p. p.1) ledger.log
 
--- those of the contract with a number
+-- the recorded events of the contract with a number, without those that were withdrawn
 abbrev pub trace : Ledger → ℕ → List Event
 trace ledger n = map (λ p. p.1) (filter (λ p. nat_eq p.0 n) ledger.log)
 

@@ -1,7 +1,7 @@
 pub mod Ledger
 pub mod Gathered
 pub mod Frame
-pub mod NoTemplates
+pub mod Owed
 pub mod Replies
 pub mod Laws
 pub mod Histories

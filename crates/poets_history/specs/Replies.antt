@@ -11,9 +11,6 @@ use Rattle.poets_syntax.specs.Contract.{Contract}
 use Rattle.poets_meaning.specs.Perf.{Perf}
 use Rattle.poets_meaning.specs.May.{May}
 use Rattle.poets_meaning.specs.Marks.{Hopeful}
-use Rattle.poets_meaning.specs.Spread.{is_past_limit}
-use Rattle.poets_calculus.specs.Normal.{normal}
-use Rattle.poets_calculus.specs.Residual.{residual_after}
 use Rattle.poets_report.specs.Plain.{Report, Answer}
 use Rattle.poets_report.specs.Answers.{IsAnswer}
 use Rattle.poets_command.specs.Plain.{Command, Reply, Entry}
@@ -24,10 +21,11 @@ use Rattle.poets_history.specs.Ledger.{Ledger, ledger_of, contract_named, number
 use Rattle.poets_history.specs.Ledger.{is_ended, late_day}
 use Rattle.poets_history.specs.Ledger.{first_absent, watch_at}
 use Rattle.poets_history.specs.Frame.{Frame}
+use Rattle.poets_history.specs.Owed.{Owed, IsPastLimit}
 
--- the contract is past the limit
-abbrev pub IsTooLarge : Frame → Contract → Type 0
-IsTooLarge f c = IsTrue (is_past_limit f.book f.marks c)
+-- what is owed after the trace is past the limit
+abbrev pub IsTooLarge : Frame → Contract → List Event → Type 0
+IsTooLarge f o s = (r : Contract) × Owed f.book o s r × IsPastLimit f.book r
 
 -- some number of granted steps after the trace performs it
 abbrev pub CanGoOn : Frame → Contract → List Event → Type 0
@@ -37,11 +35,11 @@ CanGoOn f o s = (n : ℕ) × May f.book [] o s n
 abbrev pub TellsWhetherPerformed : Frame → Bool → Contract → List Event → Type 0
 TellsWhetherPerformed f b o s = IsTrue b ↔ Perf f.book [] o s
 
--- the values of a report's arguments, or undefined
+-- the values of a report's arguments, each of which may be undefined
 abbrev pub argument_values : Frame → List Expression → List (Option Value)
 argument_values f args = map (val f.book.declared []) args
 
--- what a report answers over events
+-- this is the report's answer over the events
 abbrev pub AnswersReport : Frame → Report → List Expression → List Event → Answer → Type 0
 AnswersReport f q args s a = IsAnswer f.book.declared q (argument_values f args) s a
 
@@ -89,9 +87,9 @@ trace_without l i k = remove (trace l i) (k - 1)
 
 -- what is owed after some of the first events of the trace is past the limit
 abbrev pub GrowsTooLarge : Frame → Contract → List Event → Type 0
-GrowsTooLarge f o s = (n : ℕ) × IsTooLarge f (residual_after f.book f.marks o (take n s))
+GrowsTooLarge f o s = (n : ℕ) × IsTooLarge f o (take n s)
 
--- the report with the name answers this over the events
+-- this is the answer over the events of the report with the name
 abbrev pub ReportAnswers : Frame → Name → List Expression → List Event → Answer → Type 0
 ReportAnswers f x args s a = (q : Report) × (report_in f.reports x ≡ Some q) × AnswersReport f q args s a
 
@@ -105,10 +103,10 @@ pub data Replies (f : Frame) (l : Ledger) : Command → Reply → Type 0 where
       {x : Name} {c : Contract} → IsAbsent l x → (Hopeful f.book c → ⊥) →
       Replies f l (Command.Register x c) Reply.Hopeless
   RegisterTooLarge :
-      {x : Name} {c : Contract} → IsAbsent l x → Hopeful f.book c → IsTooLarge f (normal f.book f.marks c) →
+      {x : Name} {c : Contract} → IsAbsent l x → Hopeful f.book c → IsTooLarge f c [] →
       Replies f l (Command.Register x c) Reply.TooLarge
   Registered :
-      {x : Name} {c : Contract} → IsAbsent l x → Hopeful f.book c → (IsTooLarge f (normal f.book f.marks c) → ⊥) →
+      {x : Name} {c : Contract} → IsAbsent l x → Hopeful f.book c → (IsTooLarge f c [] → ⊥) →
       Replies f l (Command.Register x c) (Reply.Registered (length l.contracts + 1))
   -- transmit
   TransmitToNone :
@@ -127,12 +125,12 @@ pub data Replies (f : Frame) (l : Ledger) : Command → Reply → Type 0 where
       Replies f l (Command.Transmit x e) Reply.Unmatched
   TransmitTooLarge :
       {x : Name} {e : Event} {i : ℕ} {o : Contract} → IsOpenTo e l x i o → CanGoOn f o (trace_with l i e) →
-      IsTooLarge f (residual_after f.book f.marks o (trace_with l i e)) →
+      IsTooLarge f o (trace_with l i e) →
       Replies f l (Command.Transmit x e) Reply.TooLarge
   Recorded :
       {x : Name} {e : Event} {i : ℕ} {o : Contract} {b : Bool} → IsOpenTo e l x i o →
       CanGoOn f o (trace_with l i e) →
-      (IsTooLarge f (residual_after f.book f.marks o (trace_with l i e)) → ⊥) →
+      (IsTooLarge f o (trace_with l i e) → ⊥) →
       TellsWhetherPerformed f b o (trace_with l i e) →
       Replies f l (Command.Transmit x e) (Reply.Recorded (length (trace l i) + 1) b)
   -- void
@@ -175,9 +173,9 @@ pub data Replies (f : Frame) (l : Ledger) : Command → Reply → Type 0 where
       {x : Name} → IsAbsent l x →
       Replies f l (Command.Show x) (Reply.NoContract x)
   Shown :
-      {x : Name} {i : ℕ} {o : Contract} {b : Bool} → IsNamed l x i o → TellsWhetherPerformed f b o (trace l i) →
-      Replies f l (Command.Show x)
-      (Reply.Shown (residual_after f.book f.marks o (trace l i)) (length (trace l i)) b (is_ended l i))
+      {x : Name} {i : ℕ} {o r : Contract} {b : Bool} → IsNamed l x i o → Owed f.book o (trace l i) r →
+      TellsWhetherPerformed f b o (trace l i) →
+      Replies f l (Command.Show x) (Reply.Shown r (length (trace l i)) b (is_ended l i))
   -- tally
   Tallied :
       {x : Name} {args : List Expression} {a : Answer} → ReportAnswers f x args (events l) a →

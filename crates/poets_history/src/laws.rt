@@ -1,6 +1,6 @@
-//! Laws of replies, each carried by a function that does nothing.
+//! Laws of what is owed and of replies, each carried by a function that does nothing.
 ghost use Rattle.poets_history.specs.Gathered.{LedgerIsGathered};
-ghost use Rattle.poets_history.specs.Laws.{OneReply, OnlyAcceptedChange, OneHistory, OneAnswer, OneFrame, AnyFrame, AnyFrameAnswers};
+ghost use Rattle.poets_history.specs.Laws.{OneReply, OnlyAcceptedChange, OneHistory, OneAnswer, OneMarks, OneOwed, OwedIsResidual, PastLimitIs};
 
 /// After the same history a command has at most one reply.
 pub fn one_reply()
@@ -27,17 +27,22 @@ pub fn ledger_is_gathered()
     ensures { LedgerIsGathered }
 {}
 
-/// Which histories are legal depends on the book and the reports alone.
-pub fn one_frame()
-    ensures { OneFrame }
+/// Which templates are nullable, and which hopeful, depends on the book alone.
+pub fn one_marks()
+    ensures { OneMarks }
 {}
 
-/// Whether a history is legal for a book and its reports may be asked in any frame of them.
-pub fn any_frame()
-    ensures { AnyFrame }
+/// After a trace one contract is owed at most.
+pub fn one_owed()
+    ensures { OneOwed }
 {}
 
-/// So may be asked which reply answers a command after those calls.
-pub fn any_frame_answers()
-    ensures { AnyFrameAnswers }
+/// With right marks the residual by the trace is what is owed.
+pub fn owed_is_residual()
+    ensures { OwedIsResidual }
+{}
+
+/// With right marks `is_past_limit` decides whether a contract is past the limit.
+pub fn past_limit_is()
+    ensures { PastLimitIs }
 {}

@@ -4,6 +4,6 @@
 mod laws;
 
 pub use laws::{
-    any_frame, any_frame_answers, ledger_is_gathered, one_frame, one_history, one_reply,
-    only_accepted_change,
+    ledger_is_gathered, one_answer, one_history, one_marks, one_owed, one_reply,
+    only_accepted_change, owed_is_residual, past_limit_is,
 };

@@ -9,13 +9,12 @@ use Rattle.poets_command.specs.declared.call.Command as code
 use Rattle.poets_command.specs.Calls.{Call, calls_of, command_of, reply_of}
 use Rattle.poets_command.specs.Plain.{Command, Entry, Reply}
 use Rattle.poets_rules.specs.Rules.{book_of_rules, reports_of_rules}
+use Rattle.poets_history.specs.Frame.{frame_of}
 use Rattle.poets_history.specs.Histories.{AnswersIn, IsLegal}
 use Rattle.poets_history.specs.Ledger.{ledger_of, is_accepted, with_entry}
-use Rattle.poets_history.specs.Replies.{Legal, Replies}
+use Rattle.poets_history.specs.Replies.{Legal}
 use Rattle.poets_history.proofs.Accepting.{only_accepted_change}
-use Rattle.poets_history.proofs.Histories.{calls_last, ledger_last, one_history}
-use Rattle.poets_history.proofs.OneFrames.{one_frame, replies_in}
-use Rattle.poets_history.proofs.OneReplies.{one_reply}
+use Rattle.poets_history.proofs.Histories.{calls_last, ledger_last, one_history, one_answer as after_calls}
 use Rattle.poets_engine.specs.Accounts.{Accounts}
 use Rattle.poets_engine.specs.Accepted.{has_changed}
 use Rattle.poets_engine.specs.State.{State, AddsCall, plain_calls}
@@ -28,39 +27,31 @@ use Rattle.poets_host.specs.Calls.{HasCallMore, IsReplyAfter, KeepsAll}
 -- there is one legal history of the same calls
 pub one_legal : (book : Book) (reports : List Report) (h h' : List Entry) → IsLegal book reports h → IsLegal book reports h' → calls_of h ≡ calls_of h' → h ≡ h'
 one_legal book reports h h' legal legal' same =
-    one_history legal'.frame h h' (one_frame legal.frame legal'.frame h (legal.book ∙ sym legal'.book) (legal.reports ∙ sym legal'.reports) legal.holds) legal'.holds same
+    one_history (frame_of book reports) h h' legal legal' same
 
 module _ (book : Book) (reports : List Report) (calls : List Call) (command : Command) (reply : Reply) (answers : AnswersIn book reports calls command reply) where
   -- the legal history of the calls before
   abbrev pub before : List Entry
-  before = answers.holds.history
+  before = answers.history
 
   pub before_legal : IsLegal book reports before
-  before_legal = record { frame = answers.frame; book = answers.book; reports = answers.reports; holds = answers.holds.legal }
+  before_legal = answers.legal
 
   -- a legal history of these calls is that one
   pub before_is : (h : List Entry) → IsLegal book reports h → calls_of h ≡ calls → h ≡ before
-  before_is h legal same = one_legal book reports h before legal before_legal (same ∙ sym answers.holds.same)
+  before_is h legal same = one_legal book reports h before legal before_legal (same ∙ sym answers.same)
 
   -- a legal history with the call at its end has the reply there
   pub ledger_after : (clerk : ℕ) (h : List Entry) → IsLegal book reports h → calls_of h ≡ calls ++ (clerk, command) ∷ [] → ledger_of h ≡ with_entry (ledger_of before) command reply
   ledger_after clerk h legal same =
       let e : Entry = record { clerk = clerk; command = command; reply = reply } in
-      let more : IsLegal book reports (before ++ e ∷ []) = record {
-        frame = answers.frame;
-        book = answers.book;
-        reports = answers.reports;
-        holds = Legal.More e answers.holds.legal answers.holds.reply;
-      } in
-      let calls_are = same ∙ ap (λ cs. cs ++ (clerk, command) ∷ []) (sym answers.holds.same) ∙ sym (calls_last before e) in
+      let more : IsLegal book reports (before ++ e ∷ []) = Legal.More e answers.legal answers.reply in
+      let calls_are = same ∙ ap (λ cs. cs ++ (clerk, command) ∷ []) (sym answers.same) ∙ sym (calls_last before e) in
       ap ledger_of (one_legal book reports h (before ++ e ∷ []) legal more calls_are) ∙ ledger_last before e
 
 -- there is one right reply
 pub one_answer : (book : Book) (reports : List Report) (calls : List Call) (command : Command) (r r' : Reply) → AnswersIn book reports calls command r → AnswersIn book reports calls command r' → r ≡ r'
-one_answer book reports calls command r r' a b =
-    let same = before_is book reports calls command r' b a.holds.history (before_legal book reports calls command r a) a.holds.same in
-    let here = replies_in a.frame b.frame (ledger_of a.holds.history) command r (a.book ∙ sym b.book) (a.reports ∙ sym b.reports) a.holds.reply in
-    one_reply b.frame (ledger_of b.holds.history) command r r' (subst (λ h. Replies b.frame (ledger_of h) command r) same here) b.holds.reply
+one_answer book reports calls command r r' a b = after_calls (frame_of book reports) calls command r r' a b
 
 -- after a call that is not accepted all is as before
 pub keeps_all : (clerk : ℕ) (command : Command) (reply : Reply) (old new : State) → IsReplyAfter old command reply → HasCallMore clerk command old new → new.rules ≡ old.rules →
@@ -74,7 +65,7 @@ keeps_all clerk command reply old new answers more rules store declined = record
       let here = subst (λ r. IsLegal (book_of_rules r) (reports_of_rules r) h) rules legal in
       let ledger = ledger_after book reports calls command reply answers clerk h here (same ∙ more)
       ∙ only_accepted_change (ledger_of (before book reports calls command reply answers)) command reply declined in
-      let was = right (before book reports calls command reply answers) (before_legal book reports calls command reply answers) answers.holds.same in
+      let was = right (before book reports calls command reply answers) (before_legal book reports calls command reply answers) answers.same in
       subst (λ r. Accounts r.studied (ledger_of h) x found) (sym rules) (subst (λ l. Accounts old.rules.studied l x found) (sym ledger) was);
 }
 

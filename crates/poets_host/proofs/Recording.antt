@@ -101,7 +101,7 @@ module _ (clerk : ℕ) (x : Name) (e : Event) (reply : Reply) (old new : State) 
   first = ledger_of (before book reports (plain_calls old.calls) command reply answers)
 
   abbrev r : IsRecorded first x reply
-  r = recorded answers.holds.reply accepted
+  r = recorded answers.reply accepted
 
   abbrev last : Ledger
   last = record first { log = first.log ++ (r.number, e) ∷ [] }
@@ -122,7 +122,7 @@ module _ (clerk : ℕ) (x : Name) (e : Event) (reply : Reply) (old new : State) 
         log = legal'.ledger.log ∙ ap (λ l. l.log) (last_is legal'.entries legal'.legal legal'.same) ∙ ap (λ s. s ++ (r.number, e) ∷ []) (sym kept.log);
         account = λ a a' right right'.
             let was = events_are old.rules first x r.number r.original a r.named
-            (right (before book reports (plain_calls old.calls) command reply answers) (before_legal book reports (plain_calls old.calls) command reply answers) answers.holds.same) in
+            (right (before book reports (plain_calls old.calls) command reply answers) (before_legal book reports (plain_calls old.calls) command reply answers) answers.same) in
             let is = events_are new.rules last x r.number r.original a' r.named
             (subst (λ l. Accounts new.rules.studied l x (Some a')) (last_is legal'.entries legal'.legal legal'.same) (right' legal'.entries legal'.legal legal'.same)) in
             is ∙ trace_more first r.number e ∙ ap (λ s. s ++ e ∷ []) (sym was);
@@ -189,6 +189,6 @@ module _ (clerk : ℕ) (x : Name) (args : Listed Expr) (a : Arc CodeCommand Glob
     pub tally_keeps : (reply : CodeReply) (new : State) → kept.body ≡ Done reply → AddsCall clerk a old new → new.rules ≡ old.rules → IsKeptUnlessChanged kept.body old new → KeepsAll old new
     tally_keeps reply new done adds rules same =
         let here = tally_right reply done in
-        let declined = tallied here.holds.reply in
+        let declined = tallied here.reply in
         let more : HasCallMore clerk (Command.Tally x []) old new = subst (λ c. HasCallMore clerk c old new) tally_is (call_more clerk a (arc_value a) old new adds refl) in
         keeps_all clerk (Command.Tally x []) (reply_of reply) old new here more rules (same (ap has_changed done ∙ declined)) declined

@@ -1,4 +1,4 @@
--- Commands that a host makes of values.
+-- Commands that a host makes from values.
 use Rattle.std.specs.Prelude.{ℕ, [], ◌∷◌, pos}
 use Rattle.poets_value.specs.declared.value.Name.{Name}
 use Rattle.poets_value.specs.declared.value.Value.TheVariants as V

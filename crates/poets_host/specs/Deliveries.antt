@@ -1,4 +1,4 @@
--- What a delivery changes that is recorded.
+-- What changes when a delivery is recorded.
 use Rattle.std.specs.Prelude.{◌≡◌, ℕ, [], ◌∷◌, ◌++◌, Some}
 use Rattle.poets_value.specs.declared.event.Event.{Event}
 use Rattle.poets_value.specs.declared.value.Name.{Name}
@@ -9,7 +9,7 @@ use Rattle.poets_engine.specs.declared.accounts.Account.{Account}
 
 -- the event is recorded on the contract
 pub record Records (contract : Name) (event : Event) (old new : State) : Type 0 where
-  -- it stands at the end of the log, under the contract's number
+  -- it is at the end of the log, under the contract's number
   pub number : ℕ
   pub named : number_named contract old.store.rows ≡ Some number
   pub log : new.store.log ≡ old.store.log ++ (number, event) ∷ []

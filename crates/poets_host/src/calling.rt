@@ -15,7 +15,7 @@ use std::alloc::Global;
 use std::sync::Arc;
 use std::thread::Threads;
 
-/// Makes a call, and gives its reply. Where memory ran out for the reply alone, the call stands in the history.
+/// Makes a call, and returns its reply. If memory runs out for the reply alone, the call is in the history.
 pub fn call<T, R: Threads + Sync>(
     rt: &R,
     alloc: Global,

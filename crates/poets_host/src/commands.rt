@@ -1,4 +1,4 @@
-//! Commands that are made of values.
+//! Commands that are made from values.
 ghost use Rattle.std.specs.Prelude.{◌≡◌, pos, IfOk};
 ghost use Rattle.std.specs.Arc.{arc_value};
 ghost use Rattle.poets_value.specs.Whole.{IsWholeEvent};

@@ -15,7 +15,7 @@ use poets_value::{Event, Name};
 use std::alloc::Global;
 use std::thread::Threads;
 
-/// Tells the engine of a delivery. `Ok(false)` where the contract does not take it.
+/// Reports a delivery to the engine. `Ok(false)` means that the contract does not take it.
 pub fn deliver<T, R: Threads + Sync>(
     rt: &R,
     alloc: Global,

@@ -18,7 +18,7 @@ use std::sync::{Arc, Wait};
 use std::thread::Threads;
 
 /// Two clerks call a new engine at a turnstile. The first makes its call, and tells the second of it by a note; then
-/// the second makes its own. Both go, and the engine comes back, also where memory ran out.
+/// the second makes its own. At the end both leave, and the engine comes back, even if memory ran out.
 pub fn share<R: Threads + Wait + Sync>(
     rt: &R,
     alloc: Global,

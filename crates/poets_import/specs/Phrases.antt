@@ -30,7 +30,7 @@ phrase_text names (Sentence s) = statement_text names s
 phrase_text names (Owed c) = contract_text names c
 phrase_text names (Called x) = name_text names x
 
--- the name that stands ahead of what is owed: any would do
+-- the name before what is owed: any would do
 abbrev pub some_name : Name
 some_name = record { id = 0 }
 
@@ -49,8 +49,8 @@ Say tokens (Sentence s) = AreSentence tokens s
 Say tokens (Owed c) = AreSentence (registration ++ tokens) (Command (plain.Register some_name c))
 Say tokens (Called x) = tokens ≡ K.Name x ∷ []
 
--- the text is cut into tokens that say this; names are numbered on from the table before to the
--- table after
+-- the text is cut into tokens that say this; its new names lead from the table before to the table
+-- after
 pub record Says (before : Table) (text : List ℕ) (phrase : Phrase) (after : Table) : Type 0 where
   pub tokens : List Token
   pub cut : Lexes before text 0 tokens after
@@ -58,7 +58,7 @@ pub record Says (before : Table) (text : List ℕ) (phrase : Phrase) (after : Ta
 
 -- ---- the texts of a document
 
--- the texts are these statements, one after the other, each from the table that the one ahead of it
+-- the texts are these statements, one after the other, each with the table that the one before it
 -- left
 pub data AreStatements : Table → List (List ℕ) → List Statement → Table → Type 0 where
   NoTexts : {names : Table} → AreStatements names [] [] names
@@ -67,7 +67,7 @@ pub data AreStatements : Table → List (List ℕ) → List Statement → Table 
       Says before text (Sentence s) between → AreStatements between texts ss after →
       AreStatements before (text ∷ texts) (s ∷ ss) after
 
--- what stands with names in a reply, apart from values
+-- the parts of a reply that have names, apart from values
 abbrev pub reply_phrases : plain.Reply → List Phrase
 reply_phrases (plain.NoContract x) = Called x ∷ []
 reply_phrases (plain.Shown c n may_end ended) = Owed c ∷ []

@@ -58,7 +58,7 @@ IsReadable names declared e = (e.clerk < 2 ^ 32) × HasReplied names declared e.
 abbrev pub declared_in : List (Name × Ty) → Declared
 declared_in declared = type_in (λ _. None) declared
 
--- each name is an agent or a kind, and stands once, in the order of their numbers
+-- each name is an agent or a kind, and occurs once, in the order of their numbers
 pub record AreDeclared (declared : List (Name × Ty)) : Type 0 where
   pub types : All (λ d. (d.1 ≡ T.Agent) ⊎ (d.1 ≡ T.Kind)) declared
   pub order : IsStrictlySortedBy name_cmp (map (λ d. d.0) declared)
@@ -69,7 +69,7 @@ pub record Declare (statements : List Statement) (x : Exported) : Type 0 where
   pub templates : flat_map template_in_statement statements ≡ x.templates
   pub reports : reports_of statements ≡ x.reports
 
--- the texts of the book are statements that declare it; names are numbered on from the table before
+-- the texts of the book are statements that declare it; their new names lead from the table before
 -- to the table between
 pub record IsBookRead (before : Table) (names : Table) (x : Exported) (between : Table) : Type 0 where
   pub statements : List Statement
@@ -79,8 +79,8 @@ pub record IsBookRead (before : Table) (names : Table) (x : Exported) (between :
 
 -- ---- the document
 
--- the value is the document of x, which is readable; the names of its texts are numbered on from
--- the table before to the table after, first those of the book
+-- the value is the document of x, which is readable; the new names of its texts, first those of the
+-- book, lead from the table before to the table after
 pub record IsDocumentOf (before : Table) (value : Data) (after : Table) (x : Exported) : Type 0 where
   pub document : value ≡ document after x
   pub between : Table

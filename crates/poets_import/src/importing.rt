@@ -99,10 +99,11 @@ fn exported_in(alloc: Global, names: &mut Names, value: &Json) -> Result<Exporte
     })
 }
 
-/// What a document is of. Names that are new stand behind those of the table, also after a refusal.
+/// Reads a document back: the book, its reports and the history that it is the document of. New names are added to the
+/// table, also where the document is refused.
 ///
-/// It checks no types, and does not say that the history is legal. The JSON value of the whole is kept meanwhile, and one
-/// entry at a time is made a value again.
+/// It checks neither types nor whether the history is legal. The JSON value of the whole is in memory meanwhile, and
+/// one entry at a time is made a value again.
 pub fn import(alloc: Global, text: &[u8], names: &mut Names) -> Result<Exported, ImportFault>
     requires { length text.now + length names.old < 2 ^ 32 }
     ensures read { IfOk result (λ x. IsReadAs names.old text.now names.new (exported_of x)) }

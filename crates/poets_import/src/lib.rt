@@ -2,7 +2,7 @@
 //!
 //! The texts that have names are read first, in their order, and they alone add names to the table; then the other
 //! parts. Each part that was found is written again and compared with what was read, one entry at a time: so a document
-//! is taken where it is written as `poets_json` writes it, but for blanks, escapes and the order of members.
+//! is accepted where it is written as `poets_json` writes it, except for blanks, escapes and the order of members.
 #![tactic(auto)]
 
 mod answers;

@@ -26,7 +26,7 @@ use std::sync::Arc;
 // The places of names: no table has more.
 const MOST_PLACES: usize = u32::MAX as usize;
 
-// The tokens of the text, whose names are numbered on from those of the table. The text and the table are shorter
+// The tokens of the text, whose new names get the next numbers of the table. The text and the table are shorter
 // together than a document and the table that it was read with, so there are places enough.
 fn cut(alloc: Global, names: &mut Names, text: &str) -> Result<List<Token>, Unread>
     ensures cut { IfOk result (λ tokens. Lexes names.old text.now 0 tokens.items names.new) }

@@ -17,14 +17,15 @@ OnFailed result P = IsErrOf result F.Failed → P
 abbrev pub OnTooLong : ReadResult → Type 0 → Type 0
 OnTooLong result P = IsErrOf result F.TooLong → P
 
--- this holds where memory was wanting
+-- this holds where the read was out of memory
 abbrev pub OnMemory : ReadResult → Type 0 → Type 0
 OnMemory result P = IsErrOf result F.Memory → P
 
--- the text has all bytes that were left, where these are told, and none is left
+-- the text has all bytes that were left, and none is left now; of a source that does not tell its
+-- bytes it says nothing
 abbrev pub GivesWhole : Option (List ℕ) → Option (List ℕ) → Listed ℕ → Type 0
 GivesWhole old new text = GivesAll old new text.items
 
--- the bytes left lost their front, which is longer than the limit by at most a block
+-- the bytes left lost a prefix, which is longer than the limit, by at most a block
 abbrev pub LosesPast : (limit block : ℕ) → Option (List ℕ) → Option (List ℕ) → Type 0
 LosesPast limit block old new = LosesFront (limit + 1) (limit + block) old new

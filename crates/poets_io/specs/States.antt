@@ -54,7 +54,7 @@ after_read n s = record s { left = drop n s.left; plan = after_call s.plan }
 abbrev pub after_failed_read : TextLeft → TextLeft
 after_failed_read s = record s { plan = after_fault s.plan }
 
--- a write of the piece fails by plan, or since the text would be too long
+-- a write of the piece fails: by plan, or because the text would be too long
 abbrev pub WriteFails : TextHeld → List ℕ → Type 0
 WriteFails s piece = NextFails s.plan ⊎ (longest_text < length s.held + length piece)
 

@@ -4,7 +4,7 @@ ghost use Rattle.std.specs.Prelude.{◌≡◌};
 use poets_value::Memory;
 use thiserror::Error;
 
-/// A fault of the outside.
+/// A read, a write or another call on the outside failed.
 #[derive(Debug, Clone, Copy, PartialEq, Eq, Error)]
 #[error("the outside failed")]
 pub struct Failed;
@@ -20,7 +20,7 @@ pub enum ReadFault {
     #[error("the source gave too many bytes")]
     TooLong,
 
-    /// Want of memory.
+    /// Out of memory.
     #[error("no memory is left")]
     Memory,
 }

@@ -21,7 +21,7 @@ pub fn copied(alloc: Global, bytes: &[u8]) -> Result<List<u8>, Memory>
 ///
 /// # Errors
 ///
-/// Out of memory: how much of the bytes the list then has is not said.
+/// Out of memory. No clause says how many of the bytes the list then has.
 pub fn append(list: &mut List<u8>, bytes: &[u8]) -> Result<(), Memory>
     ensures { OnOk result (list.new.items ≡ list.old.items ++ bytes.now) }
 {

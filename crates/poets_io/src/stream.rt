@@ -8,14 +8,14 @@ use crate::Failed;
 
 /// Bytes that come in, with a count of faults that never falls.
 pub trait Source {
-    /// The bytes that are left, where they are told.
+    /// The bytes that are left; `None` where the source does not tell them.
     ghost left: { Self → Option (List ℕ) };
 
     /// How many faults there were.
     ghost faults: { Self → ℕ };
 
-    /// Reads some of the next bytes into the front of `buf`, and says how many. For a buffer that is
-    /// not empty 0 is the end of input.
+    /// Reads some of the next bytes into the start of `buf`, and returns how many. If the buffer is not empty, 0 means
+    /// the end of input.
     fn read(&mut self, buf: &mut [u8]) -> Result<usize, Failed>
         ensures bound { ReadsAtMost result buf.new }
         // `Ok(n)` took the next n bytes, 0 of them into some room only at the end; `Err` took none.
@@ -25,14 +25,14 @@ pub trait Source {
 
 /// Bytes that go out, with a count of faults that never falls.
 pub trait Sink {
-    /// The bytes that it holds, where they are told.
+    /// The bytes that it holds; `None` where the sink does not tell them.
     ghost held: { Self → Option (List ℕ) };
 
     /// How many faults there were.
     ghost faults: { Self → ℕ };
 
-    /// Takes some bytes from the front of `piece`, and says how many. A sink is never given an empty piece, since some
-    /// writers take one for the end of what is written.
+    /// Takes some bytes from the start of `piece`, and returns how many. A sink is never given an empty piece, since
+    /// some writers take one for the end of what is written.
     fn write(&mut self, piece: &[u8]) -> Result<usize, Failed>
         requires { 0 < length piece.now }
         ensures bound { WritesAtMost result piece.now }

@@ -73,7 +73,7 @@ impl SureSink {
         SureSink { taken: 0 }
     }
 
-    /// How many bytes it took, which stays at the greatest number once there.
+    /// How many bytes it took, or the greatest `u64` where they were more.
     pub fn taken(&self) -> u64
         ensures { result ≡ self.now }
     {

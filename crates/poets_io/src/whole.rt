@@ -26,8 +26,8 @@ pub fn write_all<K: Sink>(sink: &mut K, piece: &[u8]) -> Result<(), Failed>
     Ok(())
 }
 
-/// Reads the source to its end, or until it fails or gave more than `limit` bytes. Each read takes a
-/// byte at least, but for the last one, so there are at most `limit + 1` of them.
+/// Reads the source to its end, or until it fails or has given more than `limit` bytes. Each read but the last takes at
+/// least one byte, so there are at most `limit + 1` reads.
 #[tactic(auto, using(crate::proofs::Transfers::transfers))]
 pub fn read_up_to<S: Source>(
     alloc: Global,

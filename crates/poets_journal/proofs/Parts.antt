@@ -107,21 +107,32 @@ pub reading_smaller : (more : Bool) (long old new : ℕ) → (more ≡ true → 
 reading_smaller true long old new grows within le = let g : old < new = grows refl in omega arith
 reading_smaller false long old new grows within le = omega arith
 
--- one record more was read
-pub one_more : (bytes : List ℕ) (old new : List (Listed ℕ)) (own : Listed ℕ) (text rest b more : List ℕ) → AreRecords bytes (map (λ t. t.items) old) rest → length old + length rest ≤ length bytes → rest ≡ 1 ∷ drop 1 rest → b ≡ drop 1 rest
-    → BeginsWith text (1 ∷ b) more → new ≡ old ++ own ∷ [] → own.items ≡ text
-    → AreRecords bytes (map (λ t. t.items) new) more × (length new + length more ≤ length bytes) × (length more < length rest)
-one_more bytes old new own text rest b more records few opens is begins added same =
-    let begins' : BeginsWith text rest more = gate_begins text rest b more opens is begins in
-    let long : length rest ≡ 5 + length text + length more = ap length begins'.is ∙ omega (arith, length-append text more) in (
-      subst (λ ts. AreRecords bytes ts more) (sym (texts_pushed old new own text added same)) (records_more bytes (map (λ t. t.items) old) text rest more records begins'),
-      omega (arith, few, long, ap length added, length-append old (own ∷ [])),
-      omega (arith, long),
-    )
+-- ---- the record at the front of the rest that is to be read
 
-pub begins_shorter : (text rest b more : List ℕ) → rest ≡ 1 ∷ drop 1 rest → b ≡ drop 1 rest → BeginsWith text (1 ∷ b) more → length more < length rest
-begins_shorter text rest b more opens is begins =
-    let begins' : BeginsWith text rest more = gate_begins text rest b more opens is begins in omega (arith, ap length begins'.is, length-append text more)
+module _
+    (text rest b more : List ℕ) (opens : rest ≡ 1 ∷ drop 1 rest) (is : b ≡ drop 1 rest)
+    (begins : BeginsWith text (1 ∷ b) more) where
+  begins_rest : BeginsWith text rest more
+  begins_rest = gate_begins text rest b more opens is begins
+
+  -- one record more was read
+  pub one_more :
+      (bytes : List ℕ) (old new : List (Listed ℕ)) (own : Listed ℕ) → AreRecords bytes (map (λ t. t.items) old) rest →
+      length old + length rest ≤ length bytes → new ≡ old ++ own ∷ [] → own.items ≡ text →
+      AreRecords bytes (map (λ t. t.items) new) more × (length new + length more ≤ length bytes) × (length more < length rest)
+  one_more bytes old new own records few added same =
+      let long : length rest ≡ 5 + length text + length more =
+      ap length begins_rest.is ∙ omega (arith, length-append text more) in (
+        subst (λ ts. AreRecords bytes ts more) (sym (texts_pushed old new own text added same))
+            (records_more bytes (map (λ t. t.items) old) text rest more records begins_rest),
+        omega (arith, few, long, ap length added, length-append old (own ∷ [])),
+        omega (arith, long),
+      )
+
+  pub begins_shorter : length more < length rest
+  begins_shorter = omega (arith, ap length begins_rest.is, length-append text more)
+
+-- ---- answers that are no error
 
 abbrev is_ok : {T E : Type 0} → Result T E → Type 0
 is_ok (Ok value) = Unit {0}

@@ -2,8 +2,8 @@
 use Rattle.std.specs.Prelude.{ℕ, Bool, refl}
 use Rattle.std.specs.Coded.{Coded, code_by, coded×, coded_ℕ, coded_bool}
 
--- its disk, how many bytes stand ahead of the gate behind which the next text goes, and whether an
--- `append` failed
+-- what contracts see of a journal: its disk, how many bytes come before the gate after which the
+-- next text goes, and whether an `append` failed
 pub record JournalOf (D : Type 0) : Type 0 where
   pub disk : D
   pub gate : ℕ

@@ -12,7 +12,7 @@ AllHold disk texts = (image : List ℕ) → MayLeave disk image → HoldsTexts i
 abbrev pub HoldsOrMore : List (List ℕ) → List ℕ → List ℕ → Type 0
 HoldsOrMore texts text file = HoldsTexts file texts ⊎ HoldsTexts file (texts ++ text ∷ [])
 
--- the file with the frame behind the gate at that place, and then the gate opened
+-- the file with the frame after the gate at that place, and then the gate opened
 abbrev pub with_record : ℕ → List ℕ → List ℕ → List ℕ
 with_record gate frame file = over gate (1 ∷ []) (over (gate + 1) frame file)
 

@@ -8,8 +8,9 @@ use Rattle.poets_journal.specs.Texts.{HoldsTexts, Texts}
 use Rattle.poets_journal.specs.Journals.{AllHold}
 use Rattle.poets_journal.specs.JournalValue.{JournalOf, journal_code}
 
--- what contracts see of it: the machine, its journal, what gives calls their texts, how many of its
--- first calls are stored, and the disk at its making
+-- what contracts see of a machine with a journal: the machine, its journal, what gives calls their
+-- texts, how many of its first calls are stored, and the disk as it was when the two were put
+-- together
 pub record JournaledOf (M D P : Type 0) : Type 0 where
   pub machine : M
   pub journal : JournalOf D

@@ -7,14 +7,14 @@ use Rattle.poets_journal.specs.declared.start.StartFault.{StartFault}
 use Rattle.poets_journal.specs.declared.start.StartFault.TheVariants.{Disk as DiskFailed, Damaged}
 use Rattle.poets_journal.specs.declared.start.StartFault.TheVariants.{Memory as NoMemory}
 
--- the disk that comes back
+-- the disk that comes back, whether or not a journal was started
 abbrev pub disk_of : {D : Type 0} → Result (Started D) (StartFault D) → D
 disk_of (Ok started) = started.journal.disk
 disk_of (Err (DiskFailed disk)) = disk
 disk_of (Err (Damaged disk number)) = disk
 disk_of (Err (NoMemory disk)) = disk
 
--- the count of faults rose where the disk failed, and else stayed as it was
+-- the count of faults rose where the disk failed, and otherwise stayed as it was
 abbrev pub HasStartCause : {D : Type 0} → ℕ → ℕ → Result (Started D) (StartFault D) → Type 0
 HasStartCause before now (Ok started) = now ≡ before
 HasStartCause before now (Err (DiskFailed disk)) = Rose before now

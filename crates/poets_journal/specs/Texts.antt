@@ -1,4 +1,4 @@
--- Texts in a file: each behind an open gate and its length, and a gate that is not open behind the
+-- Texts in a file: each after an open gate and its length, and a gate that is not open after the
 -- last one.
 use Rattle.std.specs.Prelude.{◌≡◌, ◌≢◌, ◌⊎◌, ℕ, ◌+◌, ◌*◌, ◌<◌, ◌≤◌, List, [], ◌∷◌, ◌++◌, length}
 
@@ -44,13 +44,13 @@ pub record HoldsFrom (bytes : List ℕ) (texts : List (List ℕ)) : Type 0 where
 abbrev pub HoldsTexts : List ℕ → List (List ℕ) → Type 0
 HoldsTexts file texts = ((length file ≤ 1) × (texts ≡ [])) ⊎ HoldsFrom file texts
 
--- a record is begun that is not whole, or has no byte behind it
+-- a record begins that is not whole, or has no byte after it
 pub record IsCutShort (bytes : List ℕ) : Type 0 where
   pub rest : List ℕ
   pub begun : bytes ≡ 1 ∷ rest
   pub short : (text more : List ℕ) (next : ℕ) → ¬ (BeginsWith text bytes (next ∷ more))
 
--- so many records come first in the file, the last of which is not whole or has no byte behind it
+-- so many records come first in the file, the last of which is not whole or has no byte after it
 pub record IsDamaged (file : List ℕ) (number : ℕ) : Type 0 where
   pub texts : List (List ℕ)
   pub rest : List ℕ
@@ -59,6 +59,6 @@ pub record IsDamaged (file : List ℕ) (number : ℕ) : Type 0 where
   pub count : number ≡ length texts + 1
   pub cut : IsCutShort rest
 
--- a record without its gate, and a closed gate behind it
+-- the bytes are a record of the text without its gate, and a closed gate after it
 abbrev pub IsFrame : List ℕ → List ℕ → Type 0
 IsFrame text frame = BeginsWith text (1 ∷ frame) (0 ∷ [])

@@ -11,7 +11,7 @@ use poets_io::Failed;
 use poets_value::List;
 use std::marker::Model;
 
-/// A journal on a disk. Behind its records stands a gate, a byte that is not 1. A text is written behind the gate and
+/// A journal on a disk. After its records comes a gate, a byte that is not 1. A text is written after the gate and
 /// synced, and counts once the gate is 1.
 #[derive(Drop)]
 pub struct Journal<D: Disk> {

@@ -57,7 +57,7 @@ impl<M: Machine, D: Disk, P: Put<M::Call>> Model for Journaled<M, D, P> {
 }
 
 impl<M: Machine, D: Disk + Drop, P: Put<M::Call> + Drop> Journaled<M, D, P> {
-    /// A machine that took no call yet, whose calls go into the journal, behind the texts that it holds. It takes no
+    /// A machine that took no call yet, whose calls go into the journal, after the texts that it holds. It takes no
     /// memory.
     pub fn new(machine: M, journal: Journal<D>, put: P) -> Journaled<M, D, P>
         requires new { M.history machine ≡ [] }

@@ -5,9 +5,9 @@ ghost use Rattle.poets_journal.specs.Texts.{Text};
 use poets_value::{List, Memory};
 use std::alloc::Global;
 
-/// What gives each call its text.
+/// Gives each call its text.
 pub trait Put<C> {
-    /// What the texts depend on beside the calls. No value of it is made.
+    /// What the texts depend on besides the calls. No value of it is made.
     type Table;
 
     ghost table: { Self → Self.Table };

@@ -7,7 +7,7 @@ use poets_io::append;
 use poets_value::{List, Memory, push};
 use std::alloc::Global;
 
-/// What stands behind a text's gate: its length, the text, and a closed gate.
+/// What comes after a text's gate: its length, the text, and a closed gate.
 pub fn frame(alloc: Global, text: &[u8]) -> Result<List<u8>, Memory>
     requires { length text.now < 2 ^ 32 }
     ensures { IfOk result (λ made. IsFrame text.now made.items) }

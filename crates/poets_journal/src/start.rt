@@ -27,15 +27,15 @@ pub struct Started<D: Disk> {
 }
 
 /// Why a journal was not started.
-#[derive(Drop)]
+#[derive(Debug, PartialEq, Eq, Drop)]
 pub enum StartFault<D> {
     /// The disk failed.
     Disk { disk: D },
 
-    /// The record with this number, from 1, is not whole, or has no byte behind it.
+    /// The record with this number, from 1, is not whole, or has no byte after it.
     Damaged { disk: D, number: u64 },
 
-    /// Want of memory.
+    /// Out of memory.
     Memory { disk: D },
 }
 

@@ -1,4 +1,4 @@
--- The JSON document of a book, its reports and a history. Members stand in the byte order of their
+-- The JSON document of a book, its reports and a history. Members are in the byte order of their
 -- names.
 use Rattle.std.specs.Prelude.{ℕ, Bool, List, map, Option, Some, None, codes}
 use Rattle.serde_json.specs.Data.{Data, null, boolean, number, unsigned, string, array, object}
@@ -70,11 +70,11 @@ abbrev pub total_members : Table → Option (Option Value) → Members
 total_members names None = no_members
 total_members names (Some total) = only (codes "total") (value_data names total)
 
--- `"rows": R`, and the total behind it
+-- `"rows": R`, and the total after it
 abbrev pub folio_members : (rows : Data) → (total : Members) → Members
 folio_members rows total = member (codes "rows") rows total
 
--- what a reply tells besides its kind
+-- what is in a reply besides its kind
 abbrev pub reply_members : Table → Reply → Members
 reply_members names (Reply.Registered n) = only (codes "id") (count_data n)
 reply_members names (Reply.NameTaken n) = only (codes "id") (count_data n)
@@ -91,7 +91,7 @@ reply_members names (Reply.Watching n) = only (codes "number") (count_data n)
 reply_members names (Reply.NoWatch n) = only (codes "number") (count_data n)
 reply_members names _ = no_members
 
--- a reply: what it is, and what it tells
+-- a reply: its kind, and what else is in it
 abbrev pub reply_data : Table → Reply → Data
 reply_data names reply = of_kind (kind_text reply) (reply_members names reply)
 

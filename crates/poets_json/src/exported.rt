@@ -6,7 +6,7 @@ use poets_syntax::Book;
 use poets_value::List;
 
 /// A book with its reports, and a history.
-#[derive(Drop)]
+#[derive(Debug, PartialEq, Eq, Drop)]
 pub struct Exported {
     pub book: Book,
     pub reports: List<Report>,

@@ -25,14 +25,14 @@ abbrev pub FileIsDamaged : Seen → (number : ℕ) → Type 0
 FileIsDamaged disk number = IfSome disk.bytes (λ file. IsDamaged file number)
 
 -- nothing was done to the disk but that its journal was started, or begun to be: at each moment a
--- crash leaves what it may have left before, or at most one byte
+-- crash leaves what it may have left before the run, or at most one byte
 pub record OnlyStarted (disk disk' : Seen) : Type 0 where
   pub time : GoesOn disk disk'
   pub during : During disk disk' (StaysOrIsShort disk disk')
 
 -- a journal was started without a fault on a disk that held these texts: whatever a crash leaves
 -- now holds them too, and a read gives what it gave, but for a closed gate in place of at most one
--- byte; where there are texts, a crash on the way left what it may have left before
+-- byte; where there are texts, a crash during the start left what it may have left before
 pub record HeldTexts (disk disk' : Seen) (faults faults' : ℕ) (texts : Texts) : Type 0 where
   pub held : FileHolds disk texts
   pub all : AllHold disk' texts
@@ -40,14 +40,14 @@ pub record HeldTexts (disk disk' : Seen) (faults faults' : ℕ) (texts : Texts) 
   pub faultless : faults' ≡ faults
   pub still : texts ≢ [] → During disk disk' (MayLeave disk)
 
--- no journal was started, since the record with this number is damaged: nothing failed, and a read
--- gives what it gave
+-- no journal was started, because the record with this number is damaged: nothing failed, and a
+-- read gives what it gave
 pub record FoundDamage (disk disk' : Seen) (faults faults' number : ℕ) : Type 0 where
   pub damaged : FileIsDamaged disk number
   pub bytes : disk'.bytes ≡ disk.bytes
   pub faultless : faults' ≡ faults
 
--- behind the earlier texts, the first so many calls of the history are acknowledged
+-- after the earlier texts, the first so many calls of the history are acknowledged
 pub record AreAcknowledged (names : Table) (earlier : Texts) (disk disk' : Seen) (stored : ℕ) (h : List Entry) :
     Type 0 where
   pub within : stored ≤ length h

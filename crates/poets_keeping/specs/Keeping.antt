@@ -26,8 +26,8 @@ use Rattle.poets_keeping.specs.Journals.{damaged_line, holds_line, texts_of}
 use Rattle.poets_opening.specs.Unread.{EndsUnread, GaveSession}
 use Rattle.poets_keeping.specs.Writing.{EndsWriting}
 
--- a right history in which the commands of each clerk are a prefix of his script, and no other
--- clerk's stand there
+-- a right history in which the commands of each clerk are a prefix of his script, and there are no
+-- others
 pub record IsPartOf (statements : List Statement) (h : List Entry) : Type 0 where
   pub right : IsRightHistory (book_from statements) (reports_of statements) h
   pub own : (place : ℕ) (script : List Command) → slice_get (scripts_of statements) place ≡ Some script →
@@ -48,7 +48,7 @@ pub data IsKeptAs (names : Table) (statements : List Statement) (disk disk' : Se
       {h : List Entry} {stored : ℕ} → FileHolds disk [] → IsHistoryOf statements h →
       AreAcknowledged names [] disk disk' stored h → stored < length h → Rose faults faults' →
       IsKeptAs names statements disk disk' faults faults' stored DISK_FAULT h (history_text names (take stored h))
-  -- the disk failed ahead of all calls
+  -- the disk failed before any call
   NotStarted : OnlyStarted disk disk' → Rose faults faults' →
       IsKeptAs names statements disk disk' faults faults' 0 DISK_FAULT [] []
   -- the journal holds calls already
@@ -69,12 +69,12 @@ module _ {D : Type 0} (seen : D → Seen) (faults : D → ℕ) where
         IsKeptAs names statements (seen disk) (seen disk') (faults disk) (faults disk') stored answer h text →
         EndsWriting answer text sink sink' status →
         KeepsSession names statements sink sink' disk disk' status h stored
-    -- out of memory ahead of all calls, and of all writing
+    -- out of memory before any call and any writing
     NoneMade :
         OnlyStarted (seen disk) (seen disk') → sink' ≡ sink →
         KeepsSession names statements sink sink' disk disk' NO_MEMORY [] 0
-    -- out of memory once calls were made, ahead of all writing: they are some of what the scripts
-    -- ask for, or all
+    -- out of memory once calls were made, before any writing: they are some of what the scripts ask
+    -- for, or all
     PartMade :
         {stored : ℕ} {made : List Entry} →
         FileHolds (seen disk) [] → IsPartOf statements made →

@@ -54,8 +54,8 @@ abbrev pub kept_status : (stored : ℕ) → Listed code.Entry → ℕ
 kept_status stored history = if nat_eq stored (length history.items) then DONE else DISK_FAULT
 
 module _ {D : Type 0} (seen : D → Seen) (faults : D → ℕ) where
-  -- how it ends that the calls of scripts are made after the history p and kept, and the lines of
-  -- the stored ones written, numbered on; by the change of the sink
+  -- how it ends to make the calls of scripts after the history p, to keep them, and to write the
+  -- lines of the stored ones, with numbers that go on from p; by the change of the sink
   pub data KeepsScripts (rules : Rules) (names : Table) (p : List Entry) (scripts : List (List Command))
       (disk disk' : D) (sink : Change) : (status : ℕ) → List Entry → (stored : ℕ) → Type 0 where
     -- all calls were made

@@ -45,7 +45,7 @@ pub data IsRecoveredAs (names : Table) (statements : List Statement) (disk disk'
       HeldTexts disk disk' faults faults' texts →
       IsRefusedText (book_from statements) (reports_of statements) names texts number →
       IsRecoveredAs names statements disk disk' faults faults' (length texts) DAMAGED [] (damaged_line number)
-  -- a record is not whole, or has no byte behind it
+  -- a record is not whole, or has no byte after it
   Damaged :
       (number : ℕ) → FoundDamage disk disk' faults faults' number →
       IsRecoveredAs names statements disk disk' faults faults' 0 DAMAGED [] (damaged_line number)
@@ -93,7 +93,7 @@ pub record HasRecovered (left left' held held' : Option (List ℕ)) (disk : Seen
   pub names : Table
   pub statements : List Statement
   pub session : IsSession text F.Book names statements
-  -- the disk's file holds texts, where it is told
+  -- the disk's file holds texts, where the disk tells its bytes
   pub texts : Texts
   pub on_disk : FileHolds disk texts
   pub stored_all : stored ≡ length texts

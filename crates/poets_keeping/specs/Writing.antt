@@ -1,4 +1,4 @@
--- How it ends that a text is written whose run has a status of its own.
+-- How it ends to write a text of a run that has a status of its own.
 use Rattle.std.specs.Prelude.{◌≡◌, ℕ, List}
 use Rattle.poets_lex.specs.Table.{Table}
 use Rattle.poets_command.specs.Plain.{Entry}
@@ -21,6 +21,6 @@ pub data EndsWriting (status : ℕ) (text : List ℕ) (sink sink' : Stream) : (e
       AppendsPart sink.bytes sink'.bytes text → sink'.faults ≡ sink.faults →
       EndsWriting status text sink sink' NO_MEMORY
 
--- the text was written, as the status tells
+-- the text was written, or as much of it as the status says
 abbrev pub WritesAs : (answer : ℕ) → (text : List ℕ) → (sink : Change) → (status : ℕ) → Type 0
 WritesAs answer text sink status = EndsWriting answer text sink.before sink.after status

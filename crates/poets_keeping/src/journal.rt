@@ -1,4 +1,4 @@
-//! The lines that tell why a journal is not taken.
+//! The lines that say why a journal is refused.
 ghost use Rattle.std.specs.Prelude.{◌≡◌, IfOk, string_bytes};
 ghost use Rattle.poets_keeping.specs.Journals as lines;
 

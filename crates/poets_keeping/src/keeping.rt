@@ -115,14 +115,13 @@ fn keep_first<K: Sink, G: Gate + Sync, D: Disk + Drop + Send, R: Threads + Wait 
         scripts,
         journal: _,
     } = session;
-    // The book is checked and guarded, and the marks are right.
-    let _book = rules.studied.book();
+    rules.studied.recall();
     let engine = Engine::new(alloc, rules);
     keep_scripts(rt, alloc, sink, &names, engine, &scripts, gate, journal)
 }
 
-/// Makes the calls of scripts on an engine, after those that it took, keeps them in the journal, behind the texts that
-/// it holds, and writes the lines of those that are stored, numbered on.
+/// Makes the calls of scripts on an engine, after those that it took, keeps them in the journal, after the texts that
+/// it holds, and writes the lines of those that are stored, with numbers that go on from there.
 ///
 /// Each script has a thread of its own, and the disk comes back once all of them ended.
 pub fn keep_scripts<K: Sink, G: Gate + Sync, D: Disk + Drop + Send, R: Threads + Wait + Sync>(
@@ -159,7 +158,7 @@ pub fn keep_scripts<K: Sink, G: Gate + Sync, D: Disk + Drop + Send, R: Threads +
     }
 }
 
-// Writes the lines of the calls that are stored, numbered on from earlier ones.
+// Writes the lines of the calls that are stored, with numbers that go on from earlier ones.
 fn write_kept<K: Sink, D>(
     alloc: Global,
     sink: &mut K,

@@ -1,4 +1,4 @@
-//! What a run with a disk answers.
+//! How a run with a disk ends: its status, its history, and what is stored.
 ghost use Rattle.std.specs.Prelude.{◌≡◌, []};
 
 use poets_command::Entry;
@@ -20,7 +20,7 @@ pub const DAMAGED: u8 = 9;
 /// With `keep` the stored calls are those of this run whose append succeeded; they are the first ones of the history.
 /// The history is that of the whole session where calls were made and memory was enough, and empty where they were not
 /// made. With `recover` their number is that of the texts, where the journal was started. In every other case it is 0.
-#[derive(Drop)]
+#[derive(Debug, PartialEq, Eq, Drop)]
 pub struct KeptOutcome<D> {
     pub status: u8,
     pub history: List<Entry>,

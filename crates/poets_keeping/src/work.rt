@@ -61,8 +61,7 @@ pub(crate) fn keep_calls<D: Disk + Drop + Send, G: Gate + Sync, R: Threads + Wai
     ensures later { D.faults journal.disk ≤ D.faults result.disk }
     ensures time { GoesOn (D.seen journal.disk) (D.seen result.disk) }
 {
-    // The book is checked and guarded, and the marks are right.
-    let _book = engine.studied().book();
+    engine.studied().recall();
     let onward = Onward::new(engine, earlier);
     let machine = Journaled::new(onward, journal, CommandPut::new(names));
     let MadeOf { machine, replies } = attempt_kept(rt, alloc, machine, scripts, gate);

@@ -12,7 +12,7 @@ use poets_value::Memory;
 use poets_writing::{NO_MEMORY, WRITE_FAULT, WriteFault, write_line, write_lines};
 use std::alloc::Global;
 
-/// Writes the lines of entries that stand behind so many earlier ones, and answers the status, or that of what stopped
+/// Writes the lines of entries that come after so many earlier ones, and returns the status, or that of what stopped
 /// it.
 pub fn write_entries<K: Sink>(
     alloc: Global,
@@ -34,7 +34,7 @@ pub fn write_entries<K: Sink>(
     }
 }
 
-/// Writes a line, where memory was enough for it, and ends with the status.
+/// Writes a line, if memory was enough for it, and ends with the status.
 pub fn tell<K: Sink, D>(
     alloc: Global,
     sink: &mut K,

@@ -23,7 +23,7 @@ use Rattle.poets_keeping.specs.declared.outcome.KeptOutcome.{KeptOutcome}
 use Rattle.poets_keeping.specs.declared.outcome.TheConstants.{DAMAGED, HOLDS_CALLS}
 use Rattle.poets_kept.specs.Words.{AskForJournal}
 
--- the status and the history
+-- the status and the history of a run with a disk, as an outcome
 abbrev pub outcome_of : {D : Type 0} → KeptOutcome D → Outcome
 outcome_of result = record { status = result.status; history = result.history }
 

@@ -14,7 +14,8 @@ AskToKeep words = map string_bytes words ≡ codes "keep" ∷ []
 abbrev pub AskToRecover : List (String Global) → Type 0
 AskToRecover words = map string_bytes words ≡ codes "recover" ∷ []
 
--- the one word `resume`: go on with the disk's journal by the calls of a session of clerks
+-- the one word `resume`: make the calls of a session of clerks after those of the disk's journal,
+-- and keep them there
 abbrev pub AskToResume : List (String Global) → Type 0
 AskToResume words = map string_bytes words ≡ codes "resume" ∷ []
 

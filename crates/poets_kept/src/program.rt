@@ -33,13 +33,13 @@ use std::thread::Threads;
 
 /// Does all that `run` does, and with the words `keep`, `recover` and `resume` what needs a disk. `keep` runs a session
 /// of clerks and puts each call into the journal on the disk. Over a disk that held no call, an image at any moment of
-/// the run holds the first calls of a right history; at its end it holds the stored ones, whose lines alone are
-/// written, and at most one more. `recover` makes the calls of such a journal under a book, and writes their history.
-/// `resume` goes on after them with a session of clerks, as `keep` would after none; its history, its lines and its
-/// stored calls are those of the session alone.
+/// the run holds the first calls of a right history; at its end it holds the stored ones, and at most one more; only
+/// the lines of the stored ones are written. `recover` makes the calls of such a journal under a book, and writes their
+/// history. `resume` goes on after them with a session of clerks, as `keep` would after none; its history, its lines
+/// and its stored calls are those of the session alone.
 ///
 /// Other words do not touch the disk. The words and the statuses are those of `docs/LANGUAGE.md`, "Words and statuses";
-/// what is asked of a disk is that of `docs/DEFINITIONS.md`, "Disks and journals". Of a disk that does not tell its
+/// `docs/DEFINITIONS.md`, "Disks and journals", says what is required of a disk. Of a disk that does not tell its
 /// bytes, as a file of the operating system does not, the clauses say nothing but what its count of faults tells, and,
 /// with the statuses 8 and 9 and with `recover` and `resume`, that there are some texts for which the run is right.
 pub fn run_kept<

@@ -1,4 +1,4 @@
--- Kinds of bytes, and the longest front of one kind.
+-- Kinds of bytes, and how a text begins.
 use Rattle.std.specs.Prelude.{◌≡◌, ℕ, ◌+◌, ◌-◌, ◌*◌, Bool, false, not, ◌||◌, ◌==◌, List, [], ◌∷◌}
 use Rattle.std.specs.Prelude.{◌++◌, fold}
 use Rattle.std.specs.Char.{is_ascii_alphabetic, is_ascii_alphanumeric}
@@ -23,11 +23,11 @@ is_in_name byte = is_ascii_alphanumeric byte || byte == 95
 abbrev pub decimal : List ℕ → ℕ
 decimal digits = fold (λ number digit. 10 * number + (digit - 48)) 0 digits
 
--- the text does not begin with a byte that passes
+-- the text does not begin with a byte that passes the test
 abbrev pub BeginsWithout : (ℕ → Bool) → List ℕ → Type 0
 BeginsWithout passes [] = Unit {0}
 BeginsWithout passes (byte ∷ _) = passes byte ≡ false
 
--- the text begins with this front
+-- `front` is a prefix of the text
 abbrev pub Begins : List ℕ → List ℕ → Type 0
 Begins front text = (rest : List ℕ) × (text ≡ front ++ rest)

@@ -31,7 +31,7 @@ EveryTextIsCut =
     → ((tokens : List Token) (after : Table) → ¬ (Lexes before text 0 tokens after))
     → ¬ ((fault : LexFault) → ¬ (FirstFault before text fault))
 
--- the tokens stand in the text one after the other, from the place on, each where its bytes are
+-- the tokens follow one another in the text, from the place on, each at the place of its bytes
 abbrev pub Stand : Table → List ℕ → ℕ → List Token → Type 0
 Stand table text place [] = Unit {0}
 Stand table text place (token ∷ tokens) =
@@ -39,7 +39,7 @@ Stand table text place (token ∷ tokens) =
     × IsTextOf table token.what (slice_range text token.from token.to)
     × Stand table text token.to tokens
 
--- the tokens of a text stand in it one after the other, each where its bytes are
+-- the tokens of a text follow one another in it, each at the place of its bytes
 abbrev pub TokensStand : Type 0
 TokensStand =
     (before : Table) (text : List ℕ) (tokens : List Token) (after : Table)

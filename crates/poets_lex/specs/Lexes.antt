@@ -79,7 +79,7 @@ pub data Reads : Table → List ℕ → ℕ → List Token → Table → List �
 abbrev pub Lexes : Table → List ℕ → ℕ → List Token → Table → Type 0
 Lexes before text place tokens after = Reads before text place tokens after []
 
--- the first byte begins no blank, comment, name, number, day or sign, be it too long or not
+-- the first byte begins no blank, comment, name, number, day or sign, not even one that is too long
 pub record IsBadByte (text : List ℕ) : Type 0 where
   pub byte : ℕ
   pub bytes : List ℕ
@@ -116,7 +116,7 @@ IsFaultAt place text (F.LongNumber at) = (at ≡ place) × IsLongNumber text
 IsFaultAt place text (F.LongName at) = (at ≡ place) × IsLongName text
 IsFaultAt place text F.Memory = ⊥
 
--- the fault is want of memory, or this holds of it
+-- the fault is `Memory`, or this holds of it
 abbrev pub UnlessMemory : (LexFault → Type 0) → LexFault → Type 0
 UnlessMemory P fault = fault ≢ F.Memory → P fault
 

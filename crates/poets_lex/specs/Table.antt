@@ -24,15 +24,15 @@ pub record IsName (bytes : List ℕ) : Type 0 where
 abbrev pub Table : Type 0
 Table = List (List ℕ)
 
--- where a text stands first
+-- the first place of a text
 abbrev pub place_of : List ℕ → Table → Option ℕ
 place_of text table = position (bytes_eq text) table
 
--- the table with a text, which goes last if it is new
+-- the table with a text in it, at the end if it is new
 abbrev pub with_text : List ℕ → Table → Table
 with_text text table = if list_any (bytes_eq text) table then table else table ++ text ∷ []
 
--- each text is a name, and stands once
+-- each text is a name, and occurs once
 abbrev pub IsTable : Table → Type 0
 IsTable table =
     (text : List ℕ) (place : ℕ) → slice_get table place ≡ Some text → IsName text × (place_of text table ≡ Some place)

@@ -5,6 +5,7 @@ use Rattle.poets_lex.specs.declared.token.Word.TheVariants as W
 use Rattle.poets_lex.specs.declared.token.Sign.{Sign}
 use Rattle.poets_lex.specs.declared.token.Sign.TheVariants as S
 
+-- the bytes of a reserved word
 abbrev pub word_text : Word → List ℕ
 word_text W.Agents = codes "agents"
 word_text W.Kinds = codes "kinds"

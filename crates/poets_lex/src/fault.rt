@@ -2,7 +2,7 @@
 
 use poets_value::Memory;
 
-/// Why a text has no tokens, with the place of the byte where the first fault begins; or want of memory.
+/// Why a text has no tokens, with the place of the byte where the first fault begins; or that memory ran out.
 #[derive(Debug, Clone, Copy, PartialEq, Eq)]
 pub enum LexFault {
     /// The byte begins no token.
@@ -11,7 +11,7 @@ pub enum LexFault {
     LongNumber { at: u32 },
     /// The name has more than 64 bytes.
     LongName { at: u32 },
-    /// Want of memory.
+    /// Out of memory.
     Memory,
 }
 

@@ -1,4 +1,4 @@
-//! The longest front of a text whose bytes are of one kind.
+//! The longest prefix of a text whose bytes are of one kind.
 ghost use Rattle.std.specs.Prelude.{◌≡◌, ◌≤◌, ◌<◌, ◌^◌, ◌↔◌, length, pos, IfSome, IfNone, IsTrue};
 ghost use Rattle.std.specs.List.{prefix_len, list_all};
 ghost use Rattle.std.specs.Char.{is_ascii_digit};

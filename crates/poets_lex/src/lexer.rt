@@ -8,9 +8,9 @@ use crate::{LexFault, Names, Token};
 use poets_value::List;
 use std::alloc::Global;
 
-/// The tokens of the text, whose names are numbered on from those of the table.
+/// The tokens of the text. Its new names are added to the table, numbered after those that it has.
 ///
-/// After a fault the names that were read before it may stand in the table, after those that were there.
+/// After a fault, names that were read before it may have been added to the table.
 pub fn tokens(alloc: Global, text: &[u8], names: &mut Names) -> Result<List<Token>, LexFault>
     requires { length text.now + length names.old < 2 ^ 32 }
     ensures ok { IfOk result (λ tokens. Lexes names.old text.now 0 tokens.items names.new) }

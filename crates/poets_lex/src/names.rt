@@ -7,8 +7,8 @@ use poets_value::{Memory, Name};
 use std::alloc::Global;
 use std::marker::Model;
 
-/// The names of a session, numbered from 0 in the order in which they first stand in its text.
-#[derive(Drop)]
+/// The names of a session, numbered from 0 in the order in which they first occur in its text.
+#[derive(Debug, Drop)]
 pub struct Names {
     texts: IndexSet<String>,
 }
@@ -62,7 +62,7 @@ impl Names {
         Some(Name { id: place as u32 })
     }
 
-    // The name with that text, which stands last if it is new.
+    // The name with that text, which is added at the end if it is new.
     pub(crate) fn enter(&mut self, text: &str) -> Result<Name, Memory>
         requires name { IsName text.now }
         requires room { length self.old + 1 < 2 ^ 32 }

@@ -1,4 +1,4 @@
-//! Signs at the front of a text.
+//! Signs at the start of a text.
 ghost use Rattle.std.specs.Prelude.{◌≡◌, ◌≢◌, ℕ, ◌≤◌, List, length, IfSome, IfNone, IsNone, ◌↔◌};
 ghost use Rattle.poets_lex.specs.Texts.{sign_text};
 ghost use Rattle.poets_lex.specs.Bytes.{Begins};

@@ -14,8 +14,7 @@ use Rattle.poets_print.specs.Texts.{name_text, value_text}
 abbrev pub IsNumber : ℤ → Type 0
 IsNumber z = (neg_ℤ (pos (2 ^ 63)) ≤ℤ z) × (z <ℤ pos (2 ^ 63))
 
--- the name is the place where its text stands first, as is each name of a table in which no text
--- stands twice
+-- the name is the first place of its text, as is each name of a table in which no text occurs twice
 abbrev pub IsPlaced : Table → Name → Type 0
 IsPlaced names x = place_of (name_text names x) names ≡ Some x.id
 
@@ -23,7 +22,8 @@ IsPlaced names x = place_of (name_text names x) names ≡ Some x.id
 abbrev pub IsDeclaredAs : Table → Declared → Ty → Name → Type 0
 IsDeclaredAs names declared ty x = IsPlaced names x × (declared x ≡ Some ty)
 
--- an agent and a kind are declared as such, and so is the kind of a resource
+-- the value is as declared: a number or an amount has 64 bits, a day is one of the language, an
+-- agent or a kind is declared as such, and so is the kind of a resource
 abbrev pub IsAsDeclared : Table → Declared → Value → Type 0
 IsAsDeclared names declared (V.Int n) = IsNumber n
 IsAsDeclared names declared (V.Bool b) = Unit {0}

@@ -7,7 +7,7 @@ use Rattle.poets_lex.specs.Table.{Table, IsTable}
 use Rattle.poets_print.specs.Laws.{IsListed}
 use Rattle.poets_literals.specs.Declared.{IsPlaced, HasValueText}
 
--- each name of a table of names is where its text stands first
+-- each name of a table of names is the first place of its text
 abbrev pub ListedArePlaced : Type 0
 ListedArePlaced = (names : Table) (x : Name) → IsTable names → IsListed names x → IsPlaced names x
 

@@ -1,7 +1,7 @@
 //! Laws of values and their texts, each stated by a function that does nothing.
 ghost use Rattle.poets_literals.specs.Laws.{ListedArePlaced, OneValue};
 
-/// Each name of a table of names is the place where its text stands first.
+/// Each name of a table of names is the first place of its text.
 pub fn listed_are_placed()
     ensures { ListedArePlaced }
 {}

@@ -87,21 +87,19 @@ module _ (carried : List Event → Option Value) where
               let short = h.2 in
               hold-more events e (marks ++ v ∷ []) (let len = length_push marks v in omega (arith, count, far, short, len)) (hold-push events marks v whole h.0)
 
-passed_by : (by : Option Expression) (declared : Declared) (q : Report) (args : List (Option Value)) (events : List Event) (e : Event)
-    (answer : Answer) (marks : Marks) (since : ℕ) (marks' : Marks) (since' : ℕ) →
-    AreMarks_by by declared q args events marks since → IsAnswer_by by declared q args events answer → IsPassed answer marks since marks' since' →
-    AreMarks_by by declared q args (events ++ e ∷ []) marks' since'
-passed_by None declared q args events e (Rows rows) marks since marks' since' h a p = elim a [ ]
-passed_by None declared q args events e (Single v) marks since marks' since' h a p = along-passed (folded declared q args) events e marks since v marks' since' a h p
-passed_by (Some key) declared q args events e (Single v) marks since marks' since' h a p = elim a [ ]
-passed_by (Some key) declared q args events e (Rows rows) marks since marks' since' h a p = p.0 ∙ h
-
 -- marks on the way over events, and past one more
-pub marks-passed : (declared : Declared) (q : Report) (args : List (Option Value)) (events : List Event) (e : Event)
-    (answer : Answer) (marks : Marks) (since : ℕ) (marks' : Marks) (since' : ℕ) →
-    AreMarks declared q args events marks since → IsAnswer declared q args events answer → IsPassed answer marks since marks' since' →
-    AreMarks declared q args (events ++ e ∷ []) marks' since'
-marks-passed declared q args events e answer marks since marks' since' h a p = passed_by q.key declared q args events e answer marks since marks' since' h a p
+module _ (declared : Declared) (q : Report) (args : List (Option Value)) (events : List Event) (e : Event) where
+  passed_by : (by : Option Expression) (answer : Answer) (marks : Marks) (since : ℕ) (marks' : Marks) (since' : ℕ) →
+      AreMarks_by by declared q args events marks since → IsAnswer_by by declared q args events answer → IsPassed answer marks since marks' since' →
+      AreMarks_by by declared q args (events ++ e ∷ []) marks' since'
+  passed_by None (Rows rows) marks since marks' since' h a p = elim a [ ]
+  passed_by None (Single v) marks since marks' since' h a p = along-passed (folded declared q args) events e marks since v marks' since' a h p
+  passed_by (Some key) (Single v) marks since marks' since' h a p = elim a [ ]
+  passed_by (Some key) (Rows rows) marks since marks' since' h a p = p.0 ∙ h
+
+  pub marks-passed : (answer : Answer) (marks : Marks) (since : ℕ) (marks' : Marks) (since' : ℕ) → AreMarks declared q args events marks since →
+      IsAnswer declared q args events answer → IsPassed answer marks since marks' since' → AreMarks declared q args (events ++ e ∷ []) marks' since'
+  marks-passed = passed_by q.key
 
 -- no marks at the start
 pub marks-none : (declared : Declared) (q : Report) (args : List (Option Value)) → AreMarks declared q args [] [] 0
@@ -184,32 +182,39 @@ carries-mark (Rows rows) new c marks m some e row h = absurd cc
 
 -- ---- a course up to a mark
 
-pub course_up_to : (declared : Declared) (q : Report) (args : List (Option Value)) (events : List Event) (place : ℕ) (marks : Marks) (since : ℕ) (first fold : FoldView) (front : Marks) (left k room : ℕ) →
-    k ≡ marks_until (length marks) place → front ≡ take k marks → left ≡ place - k * apart → fold.env ≡ first.env → fold.start ≡ first.start → fold.answer ≡ carried_on first.answer front →
-    StandsFor declared q args [] first → AreMarks declared q args events marks since → place < length events →
-    IsCourseUpTo declared q args events place (record { fold = fold; marks = front; since = 0; room = room }) left
-course_up_to declared q args events place marks since first fold front left k room e f l env begun answer stands h lt =
-    let m = marks_until (length marks) place in
-    let t = taken_by q.key declared q args events place marks since first.answer h stands.answers lt in
-    let whole = div-add-mod' place apart in
-    let there : m * apart ≡ place - left = omega (arith, e, l, whole) in
-    let near : place - m * apart ≡ left = omega (arith, e, l) in
-    let same : take m marks ≡ front = ap (λ n. take n marks) (sym e) ∙ sym f in
-    record {
-      within = omega (arith, l);
-      near = subst (IsNear q.key) near t.0;
-      over = record {
-        stands = record {
-          under = env ∙ stands.under;
-          starts = begun ∙ stands.starts;
-          answers = subst (IsAnswer declared q args (take (place - left) events)) (sym answer)
-              (subst (λ ms. IsAnswer declared q args (take (place - left) events) (carried_on first.answer ms)) same
-              (subst (λ n. IsAnswer declared q args (take n events) (carried_on first.answer (take m marks))) there t.2));
+-- a fold with what the last of these marks holds put in place
+pub record IsCarriedOn (first : FoldView) (marks : Marks) (fold : FoldView) : Type 0 where
+  pub env : fold.env ≡ first.env
+  pub start : fold.start ≡ first.start
+  pub answer : fold.answer ≡ carried_on first.answer marks
+
+module _ (declared : Declared) (q : Report) (args : List (Option Value)) (events : List Event) (place : ℕ) (within : place < length events) (marks : Marks)
+    (since : ℕ) (along : AreMarks declared q args events marks since) (first : FoldView) (stands : StandsFor declared q args [] first) where
+  pub course_up_to : (fold : FoldView) (front : Marks) (left k room : ℕ) → k ≡ marks_until (length marks) place → front ≡ take k marks →
+      left ≡ place - k * apart → IsCarriedOn first front fold →
+      IsCourseUpTo declared q args events place (record { fold = fold; marks = front; since = 0; room = room }) left
+  course_up_to fold front left k room e f l carried =
+      let m = marks_until (length marks) place in
+      let t = taken_by q.key declared q args events place marks since first.answer along stands.answers within in
+      let whole = div-add-mod' place apart in
+      let there : m * apart ≡ place - left = omega (arith, e, l, whole) in
+      let near : place - m * apart ≡ left = omega (arith, e, l) in
+      let same : take m marks ≡ front = ap (λ n. take n marks) (sym e) ∙ sym f in
+      record {
+        within = omega (arith, l);
+        near = subst (IsNear q.key) near t.0;
+        over = record {
+          stands = record {
+            under = carried.env ∙ stands.under;
+            starts = carried.start ∙ stands.starts;
+            answers = subst (IsAnswer declared q args (take (place - left) events)) (sym carried.answer)
+                (subst (λ ms. IsAnswer declared q args (take (place - left) events) (carried_on first.answer ms)) same
+                (subst (λ n. IsAnswer declared q args (take n events) (carried_on first.answer (take m marks))) there t.2));
+          };
+          marks = subst (λ ms. AreMarks declared q args (take (place - left) events) ms 0) same
+              (subst (λ n. AreMarks declared q args (take n events) (take m marks) 0) there t.1);
         };
-        marks = subst (λ ms. AreMarks declared q args (take (place - left) events) ms 0) same
-            (subst (λ n. AreMarks declared q args (take n events) (take m marks) 0) there t.1);
-      };
-    }
+      }
 
 -- ---- a log without one of its pairs
 
@@ -234,12 +239,12 @@ pub length-events_of : (log : List (ℕ × Event)) → length (events_of log) �
 length-events_of log = length-map log (λ p. p.1)
 
 -- the course up to a mark, taken on over the events up to the place and those behind it
-pub course_without : (declared : Declared) (q : Report) (args : List (Option Value)) (log : List (ℕ × Event)) (place left : ℕ) (first second third : CourseView) → place < length log →
-    IsCourseUpTo declared q args (events_of log) place first left →
-    CourseGoesOn declared q (events_of (take (place - (place - left)) (drop (place - left) log))) first second →
-    CourseGoesOn declared q (events_of (take (length log - (place + 1)) (drop (place + 1) log))) second third →
-    IsCourse declared q args (events_of (remove log place)) third
-course_without declared q args log place left first second third lt up on more =
-    let front = take (place - left) (events_of log) in
-    let middle = events_of (take (place - (place - left)) (drop (place - left) log)) in
-    subst (λ es. IsCourse declared q args es third) (remains log place left up.within lt) (more args (front ++ middle) (on args front up.over))
+module _ (declared : Declared) (q : Report) (args : List (Option Value)) (log : List (ℕ × Event)) (place : ℕ) (within : place < length log) where
+  pub course_without : (left : ℕ) (first second third : CourseView) → IsCourseUpTo declared q args (events_of log) place first left →
+      CourseGoesOn declared q (events_of (take (place - (place - left)) (drop (place - left) log))) first second →
+      CourseGoesOn declared q (events_of (take (length log - (place + 1)) (drop (place + 1) log))) second third →
+      IsCourse declared q args (events_of (remove log place)) third
+  course_without left first second third up on more =
+      let front = take (place - left) (events_of log) in
+      let middle = events_of (take (place - (place - left)) (drop (place - left) log)) in
+      subst (λ es. IsCourse declared q args es third) (remains log place left up.within within) (more args (front ++ middle) (on args front up.over))

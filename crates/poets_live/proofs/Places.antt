@@ -117,12 +117,12 @@ module _ {X Z : Type 0} (P : X → X → Z → Type 0) where
   length-up_to (suc i) (x ∷ xs) (y ∷ ys) [] h = elim h [ ]
 
   -- one item more, by its place
-  pub place_more : (i : ℕ) (xs ys : List X) (zs zs' : List Z) (x y : X) (z : Z) → UpTo P i xs ys zs → i < length ys → x ≡ slice_index_or ys i x → P x y z →
-      zs' ≡ zs ++ z ∷ [] → UpTo P (i + 1) xs (slice_set ys i y) zs'
-  place_more i xs ys zs zs' x y z h lt at p e =
-      let next : suc i ≡ i + 1 = omega arith in
-      let more : UpTo P (suc i) xs (slice_set ys i y) (zs ++ z ∷ []) = one_place_more i xs ys zs x y z h (at_place i ys x lt at) p in
-      subst (λ n. UpTo P n xs (slice_set ys i y) zs') next (subst (λ l. UpTo P (suc i) xs (slice_set ys i y) l) (sym e) more)
+  module _ (i : ℕ) (xs ys : List X) (zs : List Z) (h : UpTo P i xs ys zs) (lt : i < length ys) where
+    pub place_more : (zs' : List Z) (x y : X) (z : Z) → x ≡ slice_index_or ys i x → P x y z → zs' ≡ zs ++ z ∷ [] → UpTo P (i + 1) xs (slice_set ys i y) zs'
+    place_more zs' x y z at p e =
+        let next : suc i ≡ i + 1 = omega arith in
+        let more : UpTo P (suc i) xs (slice_set ys i y) (zs ++ z ∷ []) = one_place_more i xs ys zs x y z h (at_place i ys x lt at) p in
+        subst (λ n. UpTo P n xs (slice_set ys i y) zs') next (subst (λ l. UpTo P (suc i) xs (slice_set ys i y) l) (sym e) more)
 
   -- there is an item at the place
   pub below : {A B : Type 0} (Q : A → B → Z → Type 0) (f : X → A) (g : X → B) (i : ℕ) (xs ys : List X) (zs taken : List Z) → UpTo P i xs ys taken →

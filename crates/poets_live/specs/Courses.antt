@@ -10,24 +10,24 @@ use Rattle.poets_report.specs.Reports.{folded}
 use Rattle.poets_report.specs.Folds.{FoldView}
 use Rattle.poets_live.specs.declared.course.TheConstants.{APART}
 
--- how many events apart marks stand
+-- how many events there are from one mark to the next
 abbrev pub apart : ℕ
 apart = APART
 
--- a fold, its marks, and how many events stand behind the last one; there is room for so many marks
--- more
+-- a fold, its marks, how many events came after the last one, and for how many more marks there is
+-- room
 pub record CourseView : Type 0 where
   pub fold : FoldView
   pub marks : List (Option Value)
   pub since : ℕ
   pub room : ℕ
 
--- the mark with the number n, from 0, holds what is carried behind the first (n + 1) * 256 events
+-- the mark with the number n, from 0, holds what is carried after the first (n + 1) * 256 events
 abbrev pub HoldMarks : (List Event → Option Value) → List Event → (marks : List (Option Value)) → Type 0
 HoldMarks carried events marks =
     (n : ℕ) (v : Option Value) → slice_get marks n ≡ Some v → v ≡ carried (take ((n + 1) * apart) events)
 
--- without a key the marks stand all along the events, and with a key there is none
+-- without a key there are marks all along the events, and with a key there is none
 abbrev pub AreMarks_by : Option Expression → Declared → Report → (args : List (Option Value)) → List Event →
     (marks : List (Option Value)) → (since : ℕ) → Type 0
 AreMarks_by None declared q args events marks since =
@@ -41,7 +41,7 @@ abbrev pub AreMarks : Declared → Report → (args : List (Option Value)) → L
     (marks : List (Option Value)) → (since : ℕ) → Type 0
 AreMarks declared q args events marks since = AreMarks_by q.key declared q args events marks since
 
--- past an event: a mark is left where the last one is far behind
+-- the marks past an event: a new one is left where the last one is far back
 abbrev pub IsPassed : Answer → List (Option Value) → ℕ → List (Option Value) → ℕ → Type 0
 IsPassed (Rows rows) marks since marks' since' = (marks' ≡ marks) × (since' ≡ since)
 IsPassed (Single v) marks since marks' since' =

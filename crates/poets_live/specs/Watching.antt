@@ -27,7 +27,7 @@ pub record WatchView : Type 0 where
   pub start : Option Value
   -- the answer over the events so far
   pub answer : Answer
-  -- the marks on the way over them, and how many events stand behind the last one
+  -- the marks on the way over them, and how many events came after the last one
   pub marks : List (Option Value)
   pub since : ℕ
 
@@ -92,67 +92,68 @@ pub record TookChange (old : WatchView) (c : Change) (new : WatchView) : Type 0 
   pub answer : Changes c old.answer new.answer
   pub passed : IsPassed old.answer old.marks old.since new.marks new.since
 
--- the watch with what becomes of it in place
+-- the watch after this move
 abbrev pub Moved : WatchView → Move → WatchView → Type 0
 Moved old (M.More c) new = TookChange old c new
 Moved old (M.Other course) new = new ≡ watch_on old.report old.args course
 
--- each watch moved
+-- each watch after its move
 abbrev pub AllMoved : List WatchView → List Move → List WatchView → Type 0
 AllMoved old moves new = AllOfThree Moved old moves new
 
--- what becomes of the watch leads it to these events: put in place, it makes the watch follow them
+-- the move leads the watch to these events: after it, the watch follows them
 abbrev pub Leads : Declared → List Event → WatchView → Move → Type 0
 Leads declared events w step = (new : WatchView) → Moved w step new → Follows declared events new
 
--- each watch is led to these events
+-- each move leads its watch to these events
 abbrev pub AllLead : Declared → List Event → List WatchView → List Move → Type 0
 AllLead declared events watches moves = AllZip (Leads declared events) watches moves
 
--- each watch is led to the events of the log, under the declared names
+-- each move leads its watch to the events of the log, under the declared names
 abbrev pub AllLeadToLog : Decls → List (ℕ × Event) → List WatchView → List Move → Type 0
 AllLeadToLog decls log watches moves = AllLead (declared_of decls.names) (events_of log) watches moves
 
--- this is what an event brings to a watch: whatever events it follows, it is led to these and this
--- one
+-- the move is what an event brings to a watch: whatever events the watch follows, it leads it to
+-- these and this one
 abbrev pub Brought : Declared → Event → WatchView → Move → Type 0
 Brought declared e w step =
     (events : List Event) → Follows declared events w → Leads declared (events ++ e ∷ []) w step
 
--- each is what the event brings to its watch
+-- each move is what the event brings to its watch
 abbrev pub AllBrought : Declared → Event → List WatchView → List Move → Type 0
 AllBrought declared e watches moves = AllZip (Brought declared e) watches moves
 
--- each is what the event brings to its watch under the declared names
+-- each move is what the event brings to its watch, under the declared names
 abbrev pub AllBroughtUnder : Decls → Event → List WatchView → List Move → Type 0
 AllBroughtUnder decls e watches moves = AllBrought (declared_of decls.names) e watches moves
 
--- a change has room, and another course is of the watch's report and arguments
+-- there is room for the move: for a change, or for another course, which is of the watch's report
+-- and arguments
 abbrev pub HasRoomIn : WatchView → Room → Move → Type 0
 HasRoomIn w room (M.More c) = HasRoomFor c w.answer room.keys × (0 < room.marks)
 HasRoomIn w room (M.Other course) = course.fold.env ≡ given (report_of w.report) w.args
 
--- what becomes of each watch can be put in place
+-- there is room for the move of each watch
 abbrev pub HaveRoom : WatchesView → List Move → Type 0
 HaveRoom w moves = AllOfThree HasRoomIn w.watches w.rooms moves
 
--- the watch was asked what an event brings: it answers as before, and has room for it
+-- the watch has seen what an event brings: its answer is as before, and it has room for the change
 pub record IsSeen (declared : Declared) (e : Event) (old new : WatchState) (step : Move) : Type 0 where
   pub same : new.watch ≡ old.watch
   pub brought : Brought declared e old.watch step
   pub room : HasRoomIn new.watch new.room step
 
--- how many expressions a report asks at most to leave out the event at a place of so many: without
--- a key one for each event from 255 ahead of it on, and with a key two for each event
+-- the most evaluations that a report takes to leave out the event at a place of so many: without a
+-- key one for each event from 255 before it on, and with a key two for each event
 abbrev pub asked_by_key : {A : Type 0} → (key : Option A) → (count place : ℕ) → ℕ
 asked_by_key None count place = count - (place - 255)
 asked_by_key (Some key) count place = 2 * count
 
--- how many expressions a watch asks at most to leave out the event at a place of a log of so many
+-- the most evaluations that a watch takes to leave out the event at a place of a log of so many
 abbrev pub asked_without : (count place : ℕ) → WatchView → ℕ
 asked_without count place w = asked_by_key w.report.key count place
 
--- one watch more, which begins with the fold of the log
+-- one more watch, which begins with the fold of the log
 pub record Begins
     (declared : Declared) (report : Report) (args : List (Option Value)) (log : List (ℕ × Event))
     (old new : List WatchView) : Type 0 where
@@ -162,8 +163,8 @@ pub record Begins
   pub of_args : last.args ≡ args
   pub follows : Follows declared (events_of log) last
 
--- one watch more of the report under the declared names, which begins with the fold of the log; the
--- others stay
+-- one more watch, of the report under the declared names, which begins with the fold of the log;
+-- the others stay
 abbrev pub BeginsUnder :
     Decls → Report → Listed (Option Value) → Listed (ℕ × Event) → (old new : WatchesView) → Type 0
 BeginsUnder decls report args log old new =

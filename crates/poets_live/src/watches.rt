@@ -37,7 +37,7 @@ impl Model for Watches {
     } };
 }
 
-/// What becomes of each watch by one event more, or by one less. Contracts see it in the order of the watches.
+/// What becomes of each watch when there is one more event, or one less. Contracts see it in the order of the watches.
 #[derive(Drop)]
 pub struct Seen {
     moves: List<Move>,
@@ -78,7 +78,7 @@ impl Watches {
         self.watches[(number - 1) as usize].read()
     }
 
-    /// Begins a watch with the fold of the log, and answers its number.
+    /// Begins a watch with the fold of the log, and returns its number.
     pub fn watch(
         &mut self,
         decls: &Decls,

@@ -16,7 +16,7 @@ module _ {M C F K E : Type 0} (history : M → List (ℕ × C)) (frame : M → F
       (λ _. history new ≡ history old)
 
 module _ {C F K : Type 0} (owes : F → List (ℕ × C) → ℕ → C → K → Type 0) where
-  -- wherever this is kept of a call, so many calls stand before it
+  -- wherever this is kept of a call, there are so many calls before it
   abbrev pub IsPlaceOf : K → ℕ → Type 0
   IsPlaceOf kept place =
       (f : F) (before : List (ℕ × C)) (clerk : ℕ) (call : C) → owes f before clerk call kept → place ≡ length before

@@ -9,8 +9,8 @@ use std::alloc::Global;
 use std::sync::Arc;
 use std::thread::Threads;
 
-/// What takes calls one at a time. A reply is worked out in two parts: `turn` while the machine is held, and `finish`
-/// once others may have it.
+/// Something that takes calls one at a time. A reply is worked out in two parts: `turn` while the machine is held, and
+/// `finish` once others may have it.
 ///
 /// To contracts a machine has a history, which is the list of the calls that it took, each with the number of its
 /// clerk, and a frame, which no turn changes.
@@ -22,7 +22,7 @@ pub trait Machine: Drop {
     /// What a turn leaves to be finished.
     type Kept: Drop;
 
-    /// What no turn changes. No value of it is made.
+    /// The type of what no turn changes. No value of it is made.
     type Frame;
 
     /// The calls that the machine took, each with its clerk's number.
@@ -40,8 +40,8 @@ pub trait Machine: Drop {
     /// After these calls, this is kept of the clerk's call.
     ghost owes: { Self.Frame → List (ℕ × Self.Call) → ℕ → Self.Call → Self.Kept → Type 0 };
 
-    /// Takes a call of the clerk: the history has it at the end, and what is kept is owed after the calls before it. After
-    /// want of memory the history is as before.
+    /// Takes a call of the clerk: the history has it at the end, and what is kept is owed after the calls before it. If
+    /// it is out of memory, the history is as before.
     fn turn<R: Threads + Sync>(
         &mut self,
         rt: &R,
@@ -54,7 +54,7 @@ pub trait Machine: Drop {
         ensures frame { frame self.new ≡ frame self.old }
         ensures turn { HadTurn history frame owes clerk call.now result self.old self.new };
 
-    /// How many calls stood before this one.
+    /// How many calls came before this one.
     fn place(kept: &Self::Kept) -> u64
         ensures { IsPlaceOf owes kept.now result };
 

@@ -22,10 +22,10 @@ use Rattle.poets_command.specs.Typing.{IsTypedCommand}
 use Rattle.poets_command.specs.Plain as plain
 use Rattle.poets_rules.specs.Rules.{book_of_rules, reports_of_rules}
 use Rattle.poets_rules.specs.declared.rules.Rules.{Rules}
+use Rattle.poets_history.specs.Frame.{frame_of}
 use Rattle.poets_history.specs.Histories.{AnswersIn, IsLegal, IsRightHistory}
 use Rattle.poets_history.specs.Replies.{Legal}
 use Rattle.poets_history.proofs.Histories.{calls_last, legal_prefix, one_history}
-use Rattle.poets_history.proofs.OneFrames.{one_frame}
 use Rattle.poets_clerks.specs.Histories.{AreReplies, HasScripts}
 use Rattle.poets_clerks.specs.Scripts.{calls_of as calls_of_script}
 use Rattle.poets_clerks.proofs.Scripted.{scripts_hold, scripts_mapped}
@@ -97,9 +97,9 @@ module _ (book : Book) (reports : List Report) where
       let cut : h ≡ take n h ++ drop n h = sym (take-append-drop n h) in
       let front : calls_of (take n h) ≡ calls_of p = sym (take-map call n h) ∙ ap (take n) same ∙ take_at (calls_of p) more n (sym long) in
       let rest : calls_of (drop n h) ≡ more = sym (drop-map call n h) ∙ ap (drop n) same ∙ drop_at (calls_of p) more n (sym long) in
-      let begun : Legal whole.frame (take n h) = legal_prefix whole.frame (take n h) (drop n h) (subst (Legal whole.frame) cut whole.holds) in
-      let mine : Legal whole.frame p = one_frame legal.frame whole.frame p (legal.book ∙ sym whole.book) (legal.reports ∙ sym whole.reports) legal.holds in
-      let one : take n h ≡ p = one_history whole.frame (take n h) p begun mine front in
+      let f = frame_of book reports in
+      let begun : IsLegal book reports (take n h) = legal_prefix f (take n h) (drop n h) (subst (IsLegal book reports) cut whole) in
+      let one : take n h ≡ p = one_history f (take n h) p begun legal front in
       (drop n h, cut ∙ ap (λ l. l ++ drop n h) one, rest)
 
 -- the scripts of the code, as plain data

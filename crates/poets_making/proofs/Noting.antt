@@ -9,11 +9,11 @@ use Rattle.poets_command.specs.declared.call.Entry.{Entry}
 use Rattle.poets_command.specs.Calls.{calls_of, entry_of, history_of, command_of, reply_of}
 use Rattle.poets_command.specs.Plain as plain
 use Rattle.poets_rules.specs.Rules.{book_of_rules, reports_of_rules}
+use Rattle.poets_history.specs.Frame.{frame_of}
 use Rattle.poets_history.specs.Histories.{IsLegal, AnswersIn}
 use Rattle.poets_history.specs.Ledger.{ledger_of}
 use Rattle.poets_history.specs.Replies.{Legal, Replies}
 use Rattle.poets_history.proofs.Histories.{calls_last, one_history}
-use Rattle.poets_history.proofs.OneFrames.{one_frame}
 use Rattle.poets_engine.specs.declared.kept.Kept.{Kept}
 use Rattle.poets_engine.specs.State.{State, plain_calls, OwesNext, Fulfils}
 use Rattle.poets_making.specs.Noted.{AreNoted}
@@ -22,16 +22,9 @@ use Rattle.poets_making.specs.Noted.{AreNoted}
 pub IsLegal-more : (book : Book) (reports : List Report) (h : List plain.Entry) (entry : plain.Entry) → IsLegal book reports h →
     AnswersIn book reports (calls_of h) entry.command entry.reply → IsLegal book reports (h ++ entry ∷ [])
 IsLegal-more book reports h entry legal answers =
-    let f = answers.frame in
-    let a = answers.holds in
-    let here : Legal f h = one_frame legal.frame f h (legal.book ∙ sym answers.book) (legal.reports ∙ sym answers.reports) legal.holds in
-    let same : a.history ≡ h = one_history f a.history h a.legal here a.same in
-    record {
-      frame = f;
-      book = answers.book;
-      reports = answers.reports;
-      holds = Legal.More entry here (subst (λ g. Replies f (ledger_of g) entry.command entry.reply) same a.reply);
-    }
+    let f = frame_of book reports in
+    let same : answers.history ≡ h = one_history f answers.history h answers.legal legal answers.same in
+    Legal.More entry legal (subst (λ g. Replies f (ledger_of g) entry.command entry.reply) same answers.reply)
 
 -- an engine without calls
 pub AreNoted-none : (e : State) → IsLegal (book_of_rules e.rules) (reports_of_rules e.rules) [] → e.calls ≡ [] → AreNoted e []

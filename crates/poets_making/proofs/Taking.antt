@@ -15,7 +15,9 @@ use Rattle.poets_command.specs.Said.{Statement, Clerk, Command, Numbered, Templa
 use Rattle.poets_command.specs.Declarations.{book_from, reports_of}
 use Rattle.poets_command.specs.Taken.{IsTaken}
 use Rattle.poets_command.specs.Plain.{TypeFault}
-use Rattle.poets_command.specs.TypedStatements.{check_command, check_statement, first_of, twice_from, mistyped_from, first_fault}
+use Rattle.poets_command.specs.TypedStatements.{check_command, check_statement, first_of, twice_from, mistyped_from}
+use Rattle.poets_command.specs.StatementDemands.{AreTypedStatements}
+use Rattle.poets_command.proofs.Demanded.{statements_by_demands}
 use Rattle.poets_command.specs.Typing.{IsTypedCommand}
 use Rattle.poets_command.proofs.TypingRules.{command_typed}
 use Rattle.poets_command.specs.Plain as plain
@@ -70,18 +72,18 @@ module _ (book : Book) (reports : List Report) where
 abbrev Takes : List Statement → plain.Command → Type 0
 Takes statements r = IsTaken (book_from statements) (reports_of statements) r
 
-mistyped_none : (statements : List Statement) → first_fault statements ≡ None → mistyped_from 1 (book_from statements) (reports_of statements) statements ≡ None
-mistyped_none statements typed = no_later_fault (twice_from 1 [] statements) (mistyped_from 1 (book_from statements) (reports_of statements) statements) typed
+mistyped_none : (statements : List Statement) → AreTypedStatements statements → mistyped_from 1 (book_from statements) (reports_of statements) statements ≡ None
+mistyped_none statements typed = no_later_fault (twice_from 1 [] statements) (mistyped_from 1 (book_from statements) (reports_of statements) statements) ((statements_by_demands statements).1 typed)
 
 -- the commands of scripts
-pub scripts_taken : (names : Table) (statements : List Statement) → first_fault statements ≡ None → All (All (IsWrittenCommand names)) (scripts_of statements) →
+pub scripts_taken : (names : Table) (statements : List Statement) → AreTypedStatements statements → All (All (IsWrittenCommand names)) (scripts_of statements) →
     All (All (Takes statements)) (scripts_of statements)
 scripts_taken names statements typed written =
     let passed = typed_scripts (book_from statements) (reports_of statements) 1 statements (mistyped_none statements typed) in
     λ k d lt i e under. record { typed = passed k d lt i e under; whole = (written k d lt i e under).1 }
 
 -- the calls of a journal
-pub journal_taken : (names : Table) (statements : List Statement) → first_fault statements ≡ None → All (λ call. IsWrittenCommand names call.1) (journal_of statements) →
+pub journal_taken : (names : Table) (statements : List Statement) → AreTypedStatements statements → All (λ call. IsWrittenCommand names call.1) (journal_of statements) →
     All (λ call. Takes statements call.1) (journal_of statements)
 journal_taken names statements typed written =
     let passed = typed_journal (book_from statements) (reports_of statements) 1 statements (mistyped_none statements typed) in

@@ -48,7 +48,7 @@ AreEntriesOf calls replies entries = history_of entries.items ≡ entries_of (co
 abbrev pub AreRight : Rules → Listed code.Entry → Type 0
 AreRight rules entries = IsRightHistory (book_of_rules rules) (reports_of_rules rules) (history_of entries.items)
 
--- in the entries stand the calls of each script, in its order, and no others
+-- the entries have the calls of each script, in its order, and no others
 abbrev pub HaveScripts : List (Listed (Arc Command Global)) → Listed code.Entry → Type 0
 HaveScripts scripts entries = HasScripts (commands_in scripts) (calls_of (history_of entries.items))
 
@@ -56,7 +56,7 @@ HaveScripts scripts entries = HasScripts (commands_in scripts) (calls_of (histor
 abbrev pub HaveCalls : List Call → Listed code.Entry → Type 0
 HaveCalls calls entries = calls_of (history_of entries.items) ≡ calls
 
--- the entries have one call more, which is the clerk's, with the command
+-- the entries have one more call, which is the clerk's, with the command
 abbrev pub NotesCall : (clerk : ℕ) → Arc Command Global → (old new : Listed code.Entry) → Type 0
 NotesCall clerk command old new =
     calls_of (history_of new.items) ≡ calls_of (history_of old.items) ++ (clerk, command_of (arc_value command)) ∷ []

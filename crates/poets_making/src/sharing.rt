@@ -28,8 +28,7 @@ pub fn make_scripts<G: Gate + Sync, R: Threads + Wait + Sync>(
     ensures right { IfOk result (AreRight rules) }
     ensures scripts { IfOk result (HaveScripts scripts.now.items) }
 {
-    // The book is checked and guarded, and the marks are right.
-    let _book = rules.studied.book();
+    rules.studied.recall();
     let engine = Engine::new(alloc, rules);
     if scripts.is_empty() {
         return Ok(List::new(alloc));

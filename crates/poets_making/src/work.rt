@@ -57,8 +57,7 @@ pub fn make_calls<R: Threads + Sync>(
     ensures right { IfOk result (λ made. AreRight rules made.1) }
     ensures calls { IfOk result (λ made. HaveCalls (calls_in calls.now) made.1) }
 {
-    // The book is checked and guarded, and the marks are right.
-    let _book = rules.studied.book();
+    rules.studied.recall();
     let mut engine = Engine::new(alloc, rules);
     let mut entries = List::new(alloc);
     for numbered in calls {

@@ -10,10 +10,10 @@ use Rattle.poets_lex.specs.declared.token.Tok.{Tok}
 use Rattle.poets_lex.specs.declared.token.Tok.TheVariants as K
 use Rattle.poets_lex.specs.declared.token.Token.{Token}
 use Rattle.poets_grammar.specs.Tokens.{IsNatural, AreNatural}
-use Rattle.poets_session.specs.Pieces.{is_end}
+use Rattle.poets_session.specs.Pieces.{is_end, ahead_of_end, after_end}
 use Rattle.poets_mark.specs.Naming.{is_name, LacksName}
 use Rattle.poets_mark.specs.code.Named.{IsNameAt}
-use Rattle.poets_mark.specs.Places.{ahead_of_end, after_end, statement_tokens, first_place}
+use Rattle.poets_mark.specs.Places.{statement_tokens, first_place}
 
 -- a token ahead of the end is a token
 pub at_token : (l : List Token) (k : ℕ) (t : Token) → slice_get (ahead_of_end l) k ≡ Some t → first_place (drop k l) ≡ Some t.from

@@ -1,7 +1,6 @@
 -- Where statements begin.
-use Rattle.std.proofs.Common.{◌≡◌, ℕ, zero, suc, ◌+◌, ◌-◌, ◌<◌, ◌≤◌, Bool, true, false, List, [], ◌∷◌, ◌++◌, Option, None, Some, IfSome, inl, inr, length, take, drop, get_or, refl, sym, ap, subst, ◌∙◌, arith}
+use Rattle.std.proofs.Common.{◌≡◌, ℕ, zero, suc, ◌+◌, ◌-◌, ◌<◌, ◌≤◌, Bool, true, false, List, [], ◌∷◌, Option, None, Some, IfSome, inl, inr, length, drop, refl, sym, ap, ◌∙◌, arith}
 use Rattle.std.specs.Prelude.{unwrap_or, if◌then◌else◌}
-use Rattle.std.proofs.lemmas.List.{append-nil, take-append-drop, take_all, take_more, drop_more}
 use Rattle.poets_value.specs.declared.value.Name.{Name}
 use Rattle.poets_lex.specs.declared.token.Token.{Token}
 use Rattle.poets_lex.specs.declared.fault.LexFault.{LexFault}
@@ -17,56 +16,14 @@ use Rattle.poets_command.specs.Said.{Statement}
 use Rattle.poets_session.specs.declared.form.Form.{Form}
 use Rattle.poets_session.specs.declared.fault.SessionCause.{SessionCause}
 use Rattle.poets_session.specs.declared.fault.SessionCause.TheVariants as C
-use Rattle.poets_session.specs.Pieces.{Piece, is_end}
+use Rattle.poets_session.specs.Pieces.{Piece, is_end, after_end}
 use Rattle.poets_session.specs.Sessions.{Text}
 use Rattle.poets_session.specs.Refusals.{Refusal, BadByte, LongNumber, LongName, refusal_at_byte, IsUnread, IsUnreadable, AreRefused, IsRefused}
 use Rattle.poets_session.specs.Causes.{IsCauseOf}
-use Rattle.poets_mark.specs.Places.{ahead_of_end, after_end, statement_tokens, first_place, byte_of, IsBeginOf, IsWithin, IsNamePlace, IsTypePlace, IsPlaceOf}
+use Rattle.poets_mark.specs.Places.{statement_tokens, first_place, byte_of, IsBeginOf, IsWithin, IsNamePlace, IsTypePlace, IsPlaceOf}
 use Rattle.poets_mark.proofs.Named.{at_token}
 
--- ---- the end of a statement
-
--- no token ends a statement
-abbrev pub NoEnd : List Token → Type 0
-NoEnd [] = Unit {0}
-NoEnd (t ∷ ts) = (is_end t.what ≡ false) × NoEnd ts
-
-no_end_more : (ts : List Token) (t : Token) → NoEnd ts → is_end t.what ≡ false → NoEnd (ts ++ t ∷ [])
-no_end_more [] t h e = (e, tt)
-no_end_more (u ∷ ts) t h e = (h.0, no_end_more ts t h.1 e)
-
--- one token on that ends none
-pub no_end_next : (l : List Token) (i : ℕ) (t : Token) → i < length l → t ≡ get_or l i t → NoEnd (take i l) → is_end t.what ≡ false → NoEnd (take (i + 1) l)
-no_end_next l i t h at none e = subst NoEnd (sym (take_more l i t h ∙ ap (λ x. take i l ++ x ∷ []) (sym at))) (no_end_more (take i l) t none e)
-
-ahead_of_none : (ts us : List Token) → NoEnd ts → ahead_of_end (ts ++ us) ≡ ts ++ ahead_of_end us
-ahead_of_none [] us h = refl
-ahead_of_none (t ∷ ts) us h = rw h.0 (ap (λ x. t ∷ x) (ahead_of_none ts us h.1))
-
-after_none : (ts us : List Token) → NoEnd ts → after_end (ts ++ us) ≡ after_end us
-after_none [] us h = refl
-after_none (t ∷ ts) us h = rw h.0 (after_none ts us h.1)
-
--- the tokens up to one that ends a statement, that one, and those after it
-cut : (l : List Token) (i : ℕ) (t : Token) → i < length l → t ≡ get_or l i t → l ≡ take i l ++ t ∷ drop (i + 1) l
-cut l i t h at = sym (take-append-drop i l) ∙ ap (λ x. take i l ++ x) (drop_more l i t h ∙ ap (λ x. x ∷ drop (i + 1) l) (sym at))
-
-pub ahead_at : (l : List Token) (i : ℕ) (t : Token) → i < length l → t ≡ get_or l i t → NoEnd (take i l) → is_end t.what ≡ true → ahead_of_end l ≡ take i l
-ahead_at l i t h at none e =
-    let here : ahead_of_end (t ∷ drop (i + 1) l) ≡ [] = rw e refl in
-    ap ahead_of_end (cut l i t h at) ∙ ahead_of_none (take i l) (t ∷ drop (i + 1) l) none ∙ ap (λ x. take i l ++ x) here ∙ append-nil (take i l)
-
-pub after_at : (l : List Token) (i : ℕ) (t : Token) → i < length l → t ≡ get_or l i t → NoEnd (take i l) → is_end t.what ≡ true → after_end l ≡ drop (i + 1) l
-after_at l i t h at none e =
-    let here : after_end (t ∷ drop (i + 1) l) ≡ drop (i + 1) l = rw e refl in
-    ap after_end (cut l i t h at) ∙ after_none (take i l) (t ∷ drop (i + 1) l) none ∙ here
-
--- no token of all ends a statement
-pub never_ahead : (l : List Token) (i : ℕ) → length l ≤ i → NoEnd (take i l) → (ahead_of_end l ≡ l) × (after_end l ≡ [])
-never_ahead l i h none =
-    let all = subst NoEnd (take_all i l h) none in
-    let whole : l ++ [] ≡ l = append-nil l in
-    (ap ahead_of_end (sym whole) ∙ ahead_of_none l [] all ∙ whole, ap after_end (sym whole) ∙ after_none l [] all)
+-- ---- statements after the end of one
 
 -- one statement less stands ahead of the tokens after its end
 pub one_on : (n k : ℕ) (ts : List Token) → k < n → statement_tokens (n - (k + 1)) (after_end ts) ≡ statement_tokens (n - k) ts

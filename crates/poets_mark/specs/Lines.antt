@@ -5,16 +5,16 @@ use Rattle.std.specs.Prelude.{take, drop, replicate, codes}
 use Rattle.std.specs.Fmt.{decimal}
 use Rattle.poets_mark.specs.declared.spots.Spot.{Spot}
 
--- a byte is shown: a sign of ASCII that prints (32 to 126) as itself, a tab (9) and CR (13) as a
--- space (32), and any other as `?` (63)
+-- how a byte is shown: a sign of ASCII that prints (32 to 126) as itself, a tab (9) and CR (13) as
+-- a space (32), and any other as `?` (63)
 abbrev pub shown : ℕ → ℕ
 shown byte = if nat_le 32 byte && nat_le byte 126 then byte else if byte == 9 || byte == 13 then 32 else 63
 
--- of the line is shown what stands from 20 bytes ahead of the place on ..
+-- the part of the line that is shown begins 20 bytes before the place, or where the line begins
 abbrev pub shown_from : Spot → ℕ
 shown_from spot = max spot.begin (spot.place - 20)
 
--- .. and up to 80 bytes from the place on
+-- the part of the line that is shown ends 80 bytes after the place, or where the line ends
 abbrev pub shown_to : Spot → ℕ
 shown_to spot = min spot.end (spot.place + 80)
 
@@ -26,7 +26,7 @@ place_line spot = codes "line " ++ decimal spot.line ++ codes ", column " ++ dec
 abbrev pub text_line : List ℕ → Spot → List ℕ
 text_line text spot = map shown (take (shown_to spot - shown_from spot) (drop (shown_from spot) text)) ++ 10 ∷ []
 
--- a space for each byte that is shown ahead of the place, `^` below the place, and LF
+-- a space for each byte that is shown before the place, `^` below the place, and LF
 abbrev pub mark_line : Spot → List ℕ
 mark_line spot = replicate (spot.place - shown_from spot) 32 ++ codes "^" ++ 10 ∷ []
 

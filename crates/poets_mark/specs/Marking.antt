@@ -1,4 +1,4 @@
--- Where the first fault of a text stands.
+-- Where the first fault of a text is.
 use Rattle.std.specs.Prelude.{◌≡◌, ℕ, ◌≤◌, List, ◌++◌, length, Option, String, string_bytes}
 use Rattle.std.specs.declared.alloc.Global.{Global}
 use Rattle.poets_value.specs.Limits.{longest_text}
@@ -23,18 +23,18 @@ IsSomeSession text form = (names : Table) × (statements : List Statement) × Is
 abbrev pub NeedsNoMark : Text → Form → Type 0
 NeedsNoMark text form = length text ≤ longest_text → IsSomeSession text form
 
--- the spot where the first fault of the text stands
+-- this is the spot of the first fault of the text
 abbrev pub IsFaultSpot : Text → Form → Spot → Type 0
 IsFaultSpot text form spot =
     (fault : SessionFault) × IsFirstFault text form fault × IsPlaceOf text fault.what spot.place × IsSpot text spot
 
--- the lines that show where the first fault of the text stands, and after them one that tells a
--- mistake, or none
+-- these are the lines that show where the first fault of the text is, and after them one that names
+-- a mistake, or none
 abbrev pub IsMarkOf : Text → Form → List ℕ → Type 0
 IsMarkOf text form lines =
     (spot : Spot) × (mistake : Option Mistake) × IsFaultSpot text form spot
     × (lines ≡ mark_text text spot ++ why_line mistake)
 
--- the string is the lines that show where the first fault of the text stands
+-- the string is the lines that show where the first fault of the text is
 abbrev pub ShowsMark : Text → Form → String Global → Type 0
 ShowsMark text form lines = IsMarkOf text form (string_bytes lines)

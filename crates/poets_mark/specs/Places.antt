@@ -1,7 +1,7 @@
--- Where a fault stands in its text.
+-- Where a fault is in its text.
 use Rattle.std.specs.Prelude.{◌≡◌, ℕ, zero, suc, ◌-◌, List, [], ◌∷◌, length, Option, None, Some}
 use Rattle.std.specs.Prelude.{unwrap_or, drop, ◌≤◌}
-use Rattle.std.specs.Prelude.{◌⊎◌, slice_get, if◌then◌else◌}
+use Rattle.std.specs.Prelude.{◌⊎◌, slice_get}
 use Rattle.poets_value.specs.declared.value.Name.{Name}
 use Rattle.poets_lex.specs.declared.token.Tok.TheVariants as K
 use Rattle.poets_lex.specs.declared.token.Token.{Token}
@@ -12,58 +12,48 @@ use Rattle.poets_lex.specs.Lexes.{Lexes}
 use Rattle.poets_parse.specs.declared.fault.SyntaxFault.TheVariants as F
 use Rattle.poets_types.specs.declared.cause.TypeCause.{TypeCause}
 use Rattle.poets_types.specs.declared.cause.TypeCause.TheVariants as T
-use Rattle.poets_session.specs.Pieces.{is_end}
+use Rattle.poets_session.specs.Pieces.{ahead_of_end, after_end}
 use Rattle.poets_session.specs.Sessions.{Text}
 use Rattle.poets_session.specs.declared.fault.SessionCause.{SessionCause}
 use Rattle.poets_session.specs.declared.fault.SessionCause.TheVariants as C
 use Rattle.poets_mark.specs.Naming.{LacksName}
-
--- the tokens ahead of the first `;;`
-abbrev pub ahead_of_end : List Token → List Token
-ahead_of_end [] = []
-ahead_of_end (t ∷ ts) = if is_end t.what then [] else t ∷ ahead_of_end ts
-
--- the tokens after the first `;;`
-abbrev pub after_end : List Token → List Token
-after_end [] = []
-after_end (t ∷ ts) = if is_end t.what then ts else after_end ts
 
 -- the tokens after so many statements
 abbrev pub statement_tokens : ℕ → List Token → List Token
 statement_tokens zero ts = ts
 statement_tokens (suc n) ts = statement_tokens n (after_end ts)
 
--- where the first token stands
+-- the place of the first token
 abbrev pub first_place : List Token → Option ℕ
 first_place [] = None
 first_place (t ∷ ts) = Some t.from
 
--- the statement with the number, counted from 1, begins here: where its first token stands (its
--- `;;`, if it has no other), or at the end of the text, if there is no such statement
+-- the statement with the number, counted from 1, begins here: at its first token (its `;;`, if it
+-- has no other), or at the end of the text, if there is no such statement
 pub record IsBeginOf (text : Text) (number place : ℕ) : Type 0 where
   pub tokens : List Token
   pub names : Table
   pub lexed : Lexes [] text 0 tokens names
   pub here : place ≡ unwrap_or (first_place (statement_tokens (number - 1) tokens)) (length text)
 
--- the statement with the number is left here: at one of its tokens, or at what stands after them,
--- its `;;` or the end of the text
+-- the place is within the statement with the number: at one of its tokens, or at what comes after
+-- them, its `;;` or the end of the text
 pub record IsWithin (text : Text) (number place : ℕ) : Type 0 where
   pub tokens : List Token
   pub names : Table
   pub lexed : Lexes [] text 0 tokens names
-  -- so many of its tokens stand ahead of the place
+  -- so many of its tokens are before the place
   pub count : ℕ
   pub inside : count ≤ length (ahead_of_end (statement_tokens (number - 1) tokens))
   pub here : place ≡ unwrap_or (first_place (drop count (statement_tokens (number - 1) tokens))) (length text)
 
--- a token of the statement with the number that is the name stands here
+-- a token of the statement with the number is here, and it is the name
 pub record IsNameOf (text : Text) (number : ℕ) (x : Name) (place : ℕ) : Type 0 where
   pub tokens : List Token
   pub names : Table
   pub lexed : Lexes [] text 0 tokens names
   pub token : Token
-  -- so many of the statement's tokens stand ahead of it
+  -- so many of the statement's tokens are before it
   pub count : ℕ
   pub inside : slice_get (ahead_of_end (statement_tokens (number - 1) tokens)) count ≡ Some token
   pub name : token.what ≡ K.Name x
@@ -77,13 +67,12 @@ pub record IsBeginWithout (text : Text) (number : ℕ) (x : Name) (place : ℕ) 
   pub none : LacksName (ahead_of_end (statement_tokens (number - 1) tokens)) x
   pub here : place ≡ unwrap_or (first_place (statement_tokens (number - 1) tokens)) (length text)
 
--- the name stands here in the statement with the number, which begins here if it does not have the
--- name
+-- the name is here in the statement with the number, which begins here if it does not have the name
 abbrev pub IsNamePlace : Text → (number : ℕ) → Name → ℕ → Type 0
 IsNamePlace text number x place = IsNameOf text number x place ⊎ IsBeginWithout text number x place
 
--- a fault of names stands at the name, one of types within the statement; want of memory has no
--- place
+-- the place of a fault of names is at the name, and that of a fault of types within the statement;
+-- "out of memory" has no place
 abbrev pub IsTypePlace : Text → (number : ℕ) → TypeCause → ℕ → Type 0
 IsTypePlace text number (T.Twice x) place = IsNamePlace text number x place
 IsTypePlace text number (T.Unknown x) place = IsNamePlace text number x place
@@ -91,15 +80,15 @@ IsTypePlace text number (T.WrongCount x wanted found) place = IsNamePlace text n
 IsTypePlace text number (T.WrongType wanted found) place = IsWithin text number place
 IsTypePlace text number T.Memory place = ⊥
 
--- where the bytes cannot be cut into tokens; want of memory has no place
+-- the place where the bytes cannot be cut into tokens; "out of memory" has none
 abbrev pub byte_of : LexFault → Option ℕ
 byte_of (L.BadByte at) = Some at
 byte_of (L.LongNumber at) = Some at
 byte_of (L.LongName at) = Some at
 byte_of L.Memory = None
 
--- the fault stands here: at the byte, or at the name, or where the statement begins, or within a
--- statement that is no sentence or not typed
+-- the place of the fault is here: at the byte, or at the name, or where the statement begins, or
+-- within a statement that is no sentence or not typed
 abbrev pub IsPlaceOf : Text → SessionCause → ℕ → Type 0
 IsPlaceOf text (C.Lex fault) place = byte_of fault ≡ Some place
 IsPlaceOf text (C.Syntax number F.NoSentence) place = IsWithin text number place

@@ -3,12 +3,12 @@ use Rattle.std.specs.Prelude.{◌≡◌, ℕ, ◌+◌, ◌-◌, ◌≤◌, ◌�
 use Rattle.memchr.specs.Find.{Passes, Nowhere, is_byte}
 use Rattle.poets_mark.specs.declared.spots.Spot.{Spot}
 
--- a line ends at the place: LF (10) stands there
+-- a line ends at the place: LF (10) is there
 abbrev pub IsBreak : List ℕ → ℕ → Type 0
 IsBreak text place = Passes (is_byte 10) text place
 
--- the line of the place begins here: at the begin of the text or after an LF, and no line ends from
--- here up to the place
+-- the line of the place begins here: at the beginning of the text or after an LF, and no line ends
+-- from here up to the place
 pub record IsLineBegin (text : List ℕ) (place begin : ℕ) : Type 0 where
   pub before : begin ≤ place
   pub first : (begin ≡ 0) ⊎ IsBreak text (begin - 1)

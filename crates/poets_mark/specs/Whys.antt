@@ -3,7 +3,7 @@ use Rattle.std.specs.Prelude.{ℕ, List, [], ◌∷◌, ◌++◌, Option, None, 
 use Rattle.poets_mark.specs.declared.why.Mistake.{Mistake}
 use Rattle.poets_mark.specs.declared.why.Mistake.TheVariants as M
 
--- what is told of a mistake
+-- the words that name a mistake
 abbrev pub mistake_text : Mistake → List ℕ
 mistake_text M.NoDay = codes "a day is written @YYYY-MM-DD, and has to be one of the calendar"
 mistake_text M.NoAscii = codes "a text is ASCII, except in comments"
@@ -28,7 +28,7 @@ mistake_text M.WantsAmount = codes "a number is wanted here: amount(r) is the nu
 mistake_text M.WantsKind = codes "a resource has a number and a kind, as in [5 USD]"
 mistake_text M.Endless = codes "a template may come back to itself only after a transmit"
 
--- a line that tells a mistake, and LF (10), if there is one to tell
+-- the line that names a mistake, and LF (10), if there is one to name
 abbrev pub why_line : Option Mistake → List ℕ
 why_line None = []
 why_line (Some mistake) = mistake_text mistake ++ 10 ∷ []

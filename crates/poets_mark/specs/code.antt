@@ -1,4 +1,3 @@
 -- What ties the code to the definitions: what private functions promise.
 pub mod InLines
-pub mod Ends
 pub mod Named

@@ -13,7 +13,7 @@ use std::marker::Model;
 #[derive(Drop)]
 pub struct KeptSource<S: Source> {
     source: S,
-    // None once memory wanted.
+    // `None` once memory ran out.
     given: Option<Vec<u8>>,
 }
 
@@ -53,7 +53,7 @@ impl<S: Source> KeptSource<S> {
         }
     }
 
-    // Keeps what was read. Once memory wants, nothing is kept.
+    // Keeps what was read. Once memory runs out, nothing is kept.
     fn keep(&mut self, bytes: &[u8])
         ensures left { self.new.left ≡ self.old.left }
         ensures faults { self.new.faults ≡ self.old.faults }

@@ -6,10 +6,10 @@ ghost use Rattle.poets_mark.specs.Naming as naming;
 ghost use Rattle.poets_mark.specs.code.Named.{IsNameAt};
 ghost use Rattle.poets_mark.specs.code.Named as named;
 
-use crate::pieces::{after_end, ahead_of_end};
 use poets_command::Statement;
 use poets_lex::{Tok, Token};
 use poets_parse::{SyntaxFault, statement};
+use poets_session::{after_end, ahead_of_end};
 use poets_types::{TypeCause, TypeFault, check_book};
 use poets_value::{List, Memory, Name, push};
 use std::alloc::Global;

@@ -4,11 +4,11 @@ ghost use Rattle.poets_value.specs.Limits.{longest_text};
 ghost use Rattle.poets_mark.specs.Places.{first_place, IsBeginOf, IsWithin, IsNamePlace, IsTypePlace, IsPlaceOf};
 
 use crate::naming::{all_said, faulty_token};
-use crate::pieces::{ahead_of_end, from_statement};
+use crate::pieces::from_statement;
 use crate::typing::mistyped;
 use poets_lex::{LexFault, Names, Token, tokens};
 use poets_parse::{SyntaxFault, begun};
-use poets_session::SessionCause;
+use poets_session::{SessionCause, ahead_of_end};
 use poets_types::{TypeCause, TypeFault};
 use poets_value::{Memory, Name};
 use std::alloc::Global;
@@ -104,7 +104,7 @@ fn type_place(alloc: Global, text: &[u8], fault: &TypeFault) -> Result<usize, Me
 
 /// Where a fault of the text stands: at the byte or the name that it tells, or where its statement begins, or in a
 /// statement that is no sentence at the first token with which it begins none (`docs/LANGUAGE.md`, "Refused texts").
-/// Bytes count from 0. `Err` is want of memory, also where the fault is that.
+/// Bytes are counted from 0. `Err` is "out of memory", also where the fault is that.
 pub(crate) fn place_of(alloc: Global, text: &[u8], cause: &SessionCause) -> Result<usize, Memory>
     requires { length text.now ≤ longest_text }
     ensures { IfOk result (IsPlaceOf text.now cause.now) }

@@ -3,10 +3,10 @@ ghost use Rattle.std.specs.Prelude.{◌≡◌, ◌≤◌, length};
 ghost use Rattle.poets_value.specs.Limits.{longest_text};
 ghost use Rattle.poets_mark.specs.Whys.{mistake_text};
 
-use crate::pieces::{ahead_of_end, from_statement};
+use crate::pieces::from_statement;
 use poets_lex::{LexFault, Names, Sign, Tok, Token, Word, tokens};
 use poets_parse::{SyntaxFault, begun};
-use poets_session::{Form, SessionCause};
+use poets_session::{Form, SessionCause, ahead_of_end};
 use poets_types::TypeCause;
 use poets_value::{List, MOST_CLERKS, Memory, Name, Ty, push};
 use std::alloc::Global;

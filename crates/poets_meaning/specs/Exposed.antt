@@ -5,7 +5,7 @@ use Rattle.poets_expr.specs.Expression.{Expression}
 use Rattle.poets_syntax.specs.Contract.{Contract, Success, Failure, Transmit, Plus, Par, Seq, App}
 use Rattle.poets_meaning.specs.Marks.{Marks, nullable}
 
--- each exposed application is as said
+-- this holds of each exposed application
 abbrev pub EachExposed : (Name → List Expression → Type 0) → Marks → Contract → Type 0
 EachExposed Is marks Success = Unit {0}
 EachExposed Is marks Failure = Unit {0}

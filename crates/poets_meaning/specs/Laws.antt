@@ -13,17 +13,17 @@ use Rattle.poets_meaning.specs.May.{May}
 use Rattle.poets_meaning.specs.Shape.{SameShape}
 use Rattle.poets_meaning.specs.Marks.{Marks, AreRight, Nullable, Hopeful, nullable}
 
--- with no granted step, to be performed perhaps is to be performed
+-- `May` with no granted step is `Perf`
 abbrev pub NothingGranted : Type 0
 NothingGranted = (book : Book) (env : Env) (c : Contract) (s : List Event) → May book env c s 0 ↔ Perf book env c s
 
--- of a trace that performs a contract the last events may be granted steps
+-- where a trace performs a contract, as many granted steps may stand in for its last events
 abbrev pub RestGranted : Type 0
 RestGranted = (book : Book) (env : Env) (c : Contract) (s rest : List Event) →
     Perf book env c (s ++ rest) → May book env c s (length rest)
 
--- what a trace and then granted steps may perform, as many granted steps as both together may
--- perform
+-- where a trace and then granted steps may perform a contract, so may granted steps alone, as many
+-- as both together
 abbrev pub AllGranted : Type 0
 AllGranted = (book : Book) (env : Env) (c : Contract) (s : List Event) (n : ℕ) →
     May book env c s n → May book env c [] (length s + n)
@@ -50,15 +50,15 @@ abbrev pub NullableByMarks : Type 0
 NullableByMarks = (book : Book) (marks : Marks) (c : Contract) →
     AreRight book marks → ApplicationsFit book c → (nullable marks c ≡ true) ↔ Nullable book c
 
--- a contract with its names replaced may be performed as the contract may be where the names have
--- the values that they are replaced by
+-- the traces and granted steps that may perform a contract with its names replaced are those that
+-- may perform it where the names have the values that they are replaced by
 abbrev pub ReplacedAlike : Type 0
 ReplacedAlike = (book : Book) (given : Givens) (env : Env) (c : Contract) (s : List Event) (n : ℕ) →
     AreDeclared book.declared given → KeepsDeclared book.declared env → BindersAreUndeclared book.declared c →
     May book env (replace given c) s n ↔ May book (env_of given ++ env) c s n
 
--- a contract with its names replaced is performed as the contract is where the names have the
--- values that they are replaced by
+-- the traces that perform a contract with its names replaced are those that perform it where the
+-- names have the values that they are replaced by
 abbrev pub ReplacedPerformed : Type 0
 ReplacedPerformed = (book : Book) (given : Givens) (env : Env) (c : Contract) (s : List Event) →
     AreDeclared book.declared given → KeepsDeclared book.declared env → BindersAreUndeclared book.declared c →

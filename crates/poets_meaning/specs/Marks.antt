@@ -12,15 +12,15 @@ pub record Marks : Type 0 where
   pub nullable : Name → Bool
   pub hopeful : Name → Bool
 
--- the empty trace performs it
+-- the empty trace performs the contract
 abbrev pub Nullable : Book → Contract → Type 0
 Nullable book c = Perf book [] c []
 
--- some number of granted steps performs it
+-- some number of granted steps performs the contract
 abbrev pub Hopeful : Book → Contract → Type 0
 Hopeful book c = (n : ℕ) × May book [] c [] n
 
--- there is a template of that name, and its body is so
+-- there is a template of that name, and this holds of its body
 abbrev pub BodySatisfies : Book → (Contract → Type 0) → Name → Type 0
 BodySatisfies book Is f = (t : Template) × (template_in book.templates f ≡ Some t) × Is t.body
 

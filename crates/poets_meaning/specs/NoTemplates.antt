@@ -8,6 +8,6 @@ use Rattle.poets_meaning.specs.Marks.{Marks}
 abbrev pub without_templates : Declared → Book
 without_templates declared = record { declared = declared; templates = [] }
 
--- the marks of no template
+-- marks that call no template nullable and none hopeful
 abbrev pub no_marks : Marks
 no_marks = record { nullable = λ _. false; hopeful = λ _. false }

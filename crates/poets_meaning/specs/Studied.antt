@@ -34,8 +34,8 @@ marks_in templates marks = record {
 abbrev pub marks_of : StudiedBook → Marks
 marks_of s = marks_in (book_of s.book).templates s.marks
 
--- what a mark says of a template's body is so; its width is cut at one more than
--- the greatest spread that is kept
+-- what the mark says of the template's body is true; its width is cut at one more than the greatest
+-- spread that is kept
 pub record IsRightMark (book : plain.Book) (marks : Marks) (t : Template) (m : Mark) : Type 0 where
   pub nullable : IsTrue m.nullable ↔ Nullable book t.body
   pub hopeful : IsTrue m.hopeful ↔ Hopeful book t.body

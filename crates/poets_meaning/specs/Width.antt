@@ -40,7 +40,7 @@ abbrev pub wide_at : ℕ → Book → Marks → Contract → ℕ
 wide_at zero book marks c = wide_by (λ _. 0) marks c
 wide_at (suc d) book marks c = wide_by (λ f. body_in (template_in book.templates f) (wide_at d book marks)) marks c
 
--- the width: in a guarded book no more unfoldings than templates stand in a row
+-- the width: in a guarded book there are no more unfoldings in a row than templates
 abbrev pub width : Book → Marks → Contract → ℕ
 width book marks c = wide_at (length book.templates) book marks c
 
@@ -48,6 +48,6 @@ width book marks c = wide_at (length book.templates) book marks c
 abbrev pub widest : ℕ
 widest = WIDEST
 
--- a measured width is cut at one more
+-- a width as it is measured: cut at one more than the greatest spread
 abbrev pub cut : ℕ → ℕ
 cut n = min n (1 + widest)

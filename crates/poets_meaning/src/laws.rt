@@ -10,12 +10,12 @@ pub fn nothing_granted()
     ensures { NothingGranted }
 {}
 
-/// The rest of a performing trace may be granted.
+/// Where a trace performs a contract, as many granted steps may stand in for its last events.
 pub fn rest_granted()
     ensures { RestGranted }
 {}
 
-/// The whole of a trace may be granted.
+/// Granted steps may stand in for all events of a trace.
 pub fn all_granted()
     ensures { AllGranted }
 {}
@@ -30,7 +30,7 @@ pub fn granted_by_shape()
     ensures { GrantedByShape }
 {}
 
-/// Nullability and hope depend on the shape of a contract alone.
+/// Whether a contract is nullable or hopeful depends on its shape alone.
 pub fn nullable_and_hopeful_by_shape()
     ensures nullable { NullableByShape }
     ensures hopeful { HopefulByShape }
@@ -41,12 +41,12 @@ pub fn nullable_by_marks()
     ensures { NullableByMarks }
 {}
 
-/// A contract with its names replaced says what it says where they have these values.
+/// A contract with its names replaced may be performed just as it may where the names have these values.
 pub fn replaced_alike()
     ensures { ReplacedAlike }
 {}
 
-/// The same of the traces that perform it.
+/// A contract with its names replaced is performed by the traces that perform it where the names have these values.
 pub fn replaced_performed()
     ensures { ReplacedPerformed }
 {}

@@ -17,6 +17,7 @@ use Rattle.poets_command.specs.Declarations.{agents_and_kinds, template_in_state
 use Rattle.poets_command.specs.Plain.{TypeFault}
 use Rattle.poets_command.specs.Plain as plain
 use Rattle.poets_command.specs.Said.{Statement, Agents, Kinds, Template, Report}
+use Rattle.poets_command.proofs.Demanded.{statements_by_demands}
 use Rattle.poets_command.specs.TypedStatements.{report_names, check_statement, check_report, first_of, twice_from, mistyped_from}
 use Rattle.poets_command.specs.Typing.{IsTypedReport}
 use Rattle.poets_command.proofs.TypingRules.{report_typed}
@@ -112,7 +113,7 @@ no_later_fault (Some f) later h = absurd cc
 pub books_of_sessions_can_be_written : BooksOfSessionsCanBeWritten
 books_of_sessions_can_be_written text form names statements session =
     let written = read_written text names statements session.read in
-    let passed = no_later_fault (twice_from 1 [] statements) (mistyped_from 1 (book_from statements) (reports_of statements) statements) session.valid.typed in
+    let passed = no_later_fault (twice_from 1 [] statements) (mistyped_from 1 (book_from statements) (reports_of statements) statements) ((statements_by_demands statements).1 session.valid.typed) in
     let can : CanWriteBook names (book_from statements) = record {
       declared = λ x t e. in_scope names (flat_map agents_and_kinds statements) x t (declared_listed names statements written) e;
       templates = can_templates names statements written;

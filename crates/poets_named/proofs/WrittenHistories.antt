@@ -21,7 +21,6 @@ use Rattle.poets_syntax.specs.Contract.{Contract}
 use Rattle.poets_syntax.specs.Plain.{Book}
 use Rattle.poets_syntax.specs.WellFormed.{IsDeclaredEvent}
 use Rattle.poets_syntax.specs.Whole.{IsWholeContract}
-use Rattle.poets_calculus.specs.Residual.{residual_after}
 use Rattle.poets_residue.proofs.WholeResiduals.{trace_whole}
 use Rattle.poets_report.specs.Answers.{IsAnswer}
 use Rattle.poets_report.specs.Plain.{Report, Answer, Single, Rows}
@@ -32,8 +31,9 @@ use Rattle.poets_command.specs.Taken.{IsTaken}
 use Rattle.poets_command.specs.TypedStatements.{report_names}
 use Rattle.poets_command.specs.Typing.{IsTypedCall, IsTypedCommand, IsTypedReport, Tallies, Lists, Watches}
 use Rattle.poets_command.proofs.TypedCommands.{typed_event}
-use Rattle.poets_history.specs.Frame.{Frame}
+use Rattle.poets_history.specs.Frame.{Frame, frame_of}
 use Rattle.poets_history.specs.Ledger.{Ledger, ledger_of, empty_ledger, with_entry, contract_named, number_of, trace, events, last_day, late_day}
+use Rattle.poets_history.specs.Owed.{Owed}
 use Rattle.poets_history.specs.Replies.{Replies, Legal, ReportAnswers, AreFolioRows}
 use Rattle.poets_print.specs.Laws.{IsListed, CanWriteContract, CanWriteCommand}
 use Rattle.poets_literals.specs.Declared.{IsNumber, IsDeclaredAs, IsAsDeclared}
@@ -239,14 +239,15 @@ module _ (names : Table) (f : Frame) (table : IsTable names) (can : CanWriteBook
       day_number last
       (late_is (λ d. IsTrue (is_day d)) day last (last_day (trace l i)) (All-last (λ d. IsTrue (is_day d)) (trace l i) days) late)
 
-  residual_written : (l : Ledger) (x : Name) (i : ℕ) (o : Contract) → IsSound l → contract_named l x ≡ Some (i, o) →
-      CanWriteContract names (residual_after f.book f.marks o (trace l i)) × IsWholeContract (residual_after f.book f.marks o (trace l i))
-  residual_written l x i o s named =
+  residual_written : (l : Ledger) (x : Name) (i : ℕ) (o r : Contract) → IsSound l → contract_named l x ≡ Some (i, o) →
+      Owed f.book o (trace l i) r → CanWriteContract names r × IsWholeContract r
+  residual_written l x i o r s named owed =
       let original = All-named (IsGoodContract names f.book f.reports) 1 x l.contracts i o s.contracts named in
-      let all = sound_trace l i s in (
-        residuals_can_be_written names f.book f.marks o (trace l i) can original.0
+      let all = sound_trace l i s in
+      subst (λ c. CanWriteContract names c × IsWholeContract c) owed.holds (
+        residuals_can_be_written names f.book owed.marks o (trace l i) can original.0
             (All-weaker (IsGoodEvent names f.book f.reports) (IsListedEvent names) (λ e k. k.0) (trace l i) all),
-        trace_whole f.book f.marks typed.templates o original.1 (trace l i)
+        trace_whole f.book owed.marks typed.templates o original.1 (trace l i)
             (All-weaker (IsGoodEvent names f.book f.reports) IsWholeEvent (λ e k. k.2) (trace l i) all),
       )
 
@@ -262,7 +263,7 @@ module _ (names : Table) (f : Frame) (table : IsTable names) (can : CanWriteBook
   reply_written l s _ _ g (Replies.Unmatched live stuck) = tt
   reply_written l s _ _ g (Replies.TransmitTooLarge live goes large) = tt
   reply_written l s _ _ g (Replies.Recorded live goes small tells) = tt
-  reply_written l s _ _ g (Replies.VoidOfNone absent) = g.1
+  reply_written l s _ _ g (Replies.VoidOfNone absent) = g.1.0
   reply_written l s _ _ g (Replies.VoidOfEnded named ended) = tt
   reply_written l s _ _ g (Replies.NoEvent live none) = tt
   reply_written l s _ _ g (Replies.VoidTooLarge live large) = tt
@@ -273,7 +274,7 @@ module _ (names : Table) (f : Frame) (table : IsTable names) (can : CanWriteBook
   reply_written l s _ _ g (Replies.NotPerformed live fails) = tt
   reply_written l s _ _ g (Replies.EndedNow live performed) = tt
   reply_written l s _ _ g (Replies.ShowOfNone absent) = g.1
-  reply_written l s _ _ g (Replies.Shown {x = x} {i = i} {o = o} named tells) = residual_written l x i o s named
+  reply_written l s _ _ g (Replies.Shown {x = x} {i = i} {o = o} {r = r} named owed tells) = residual_written l x i o r s named owed
   reply_written l s _ _ g (Replies.Tallied {x = x} {args = args} {a = a} answers) =
       tally_written x args (events l) a (tallied names f.book f.reports x args g.0.typed, g.0.whole) (sound_events l s) answers
   reply_written l s _ _ g (Replies.PortfolioOfNone {absent = absent} {over = over} none) = All-absent (IsListed names) l over absent g.1.2 none
@@ -292,16 +293,6 @@ module _ (names : Table) (f : Frame) (table : IsTable names) (can : CanWriteBook
       All-push (λ x. CanWriteReply names f.book.declared x.reply) h e (history_written legal parts.0)
       (reply_written (ledger_of h) (good_ledger names f.book f.reports h parts.0) e.command e.reply parts.1 reply)
 
--- the law for one book and list of reports
-abbrev Holds : Table → List Entry → Book → List Report → Type 0
-Holds names h book reports =
-    CanWriteBook names book → AreTypedRules book reports → All (λ e. IsGood names book reports e.command) h →
-    All (λ e. CanWriteReply names book.declared e.reply) h
-
 pub replies_can_be_written : RepliesCanBeWritten
 replies_can_be_written names book reports h table can typed legal good =
-    let f = legal.frame in
-    let here : Holds names h f.book f.reports = λ c t g. history_written names f table c t legal.holds g in
-    let there : Holds names h book reports =
-    subst (Holds names h book) legal.reports (subst (λ b. Holds names h b f.reports) legal.book here) in
-    there can typed good
+    history_written names (frame_of book reports) table can typed legal good

@@ -18,13 +18,14 @@ use Rattle.poets_print.specs.Laws.{IsListed, CanWriteContract}
 use Rattle.poets_books.specs.Laws.{CanWriteTemplate, IsWholeKey}
 use Rattle.poets_literals.specs.Declared.{IsAsDeclared}
 
--- the agents and the kind of the event stand in the table
+-- the agents and the kind of the event are in the table
 pub record IsListedEvent (names : Table) (e : Event) : Type 0 where
   pub sender : IsListed names e.sender
   pub receiver : IsListed names e.receiver
   pub kind : IsListed names e.what.kind
 
--- the agents and kinds of the book stand in the table, and its templates can be written with it
+-- the agents and kinds of the book are in the table, and its templates can be written with its
+-- names
 pub record CanWriteBook (names : Table) (book : Book) : Type 0 where
   pub declared : (x : Name) (t : Ty) → book.declared x ≡ Some t → IsListed names x
   pub templates : All (CanWriteTemplate names) book.templates
@@ -50,7 +51,7 @@ EachValue P (Rows rows) = All (λ r. IfSome r.0 P × IfSome r.1 P) rows
 abbrev pub EachTotal : (Value → Type 0) → Option (Option Value) → Type 0
 EachTotal P total = IfSome total (λ v. IfSome v P)
 
--- the reply can be written: its names stand in the table, its values are as declared, and the
+-- the reply can be written: its names are in the table, its values are as declared, and the
 -- residual that it shows is whole
 abbrev pub CanWriteReply : Table → Declared → Reply → Type 0
 CanWriteReply names declared (Reply.NoContract x) = IsListed names x

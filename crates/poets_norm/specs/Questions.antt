@@ -1,4 +1,4 @@
--- What a contract may still ask the evaluator.
+-- How much there is to evaluate in a contract.
 use Rattle.std.specs.Prelude.{ℕ, ◌+◌, sum_by}
 use Rattle.poets_expr.specs.Expression.{Expression, Literal, Undefined, Named}
 use Rattle.poets_syntax.specs.Contract.{Contract, Success, Failure, Transmit, Plus, Par, Seq, App}
@@ -10,7 +10,8 @@ operated (Undefined t) = 0
 operated (Named x) = 0
 operated _ = 1
 
--- each predicate counts 1, and each argument that is neither a literal, a name nor `undefined`
+-- how much there is to evaluate: each predicate counts 1, and so does each argument that is neither
+-- a literal, a name nor `undefined`
 abbrev pub questions : Contract → ℕ
 questions Success = 0
 questions Failure = 0

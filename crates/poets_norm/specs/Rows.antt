@@ -1,4 +1,4 @@
--- What calls answer as rows, and the contracts of two rows joined.
+-- What calls return as rows, and the contracts of two rows joined.
 use Rattle.std.specs.Prelude.{◌≡◌, ℕ, List, Result, IfOk}
 use Rattle.poets_syntax.specs.Contract.{Contract}
 use Rattle.poets_cons.specs.declared.node.Node.{Node}

@@ -142,8 +142,8 @@ fn add(arena: &mut Arena, choice: usize, last: usize, is_known: bool) -> Result<
     arena.add(Node::Plus(choice, last))
 }
 
-/// The choice of two choices of distinct alternatives: the first as it stands, and after it
-/// those alternatives of the second that are alike to none of its own.
+/// The choice of two choices of distinct alternatives: the first as it is, and after it those alternatives of the
+/// second that are alike to none of its own.
 pub fn merge(arena: &mut Arena, a: usize, b: usize) -> Result<usize, Memory>
     requires within_first { a < length arena.old }
     requires within_second { b < length arena.old }

@@ -1,5 +1,5 @@
-//! Normal forms and their builders over contracts as trees. Each enters its contracts in a table of
-//! rows, calls the builder of rows, and gives the tree of the row back.
+//! Normal forms and their builders over contracts as trees. Each enters its contracts in a table of rows, calls the
+//! builder of rows, and returns the tree of the row.
 ghost use Rattle.std.specs.Prelude.{◌+◌, ◌≤◌, ◌<◌, IfOk, length, map};
 ghost use Rattle.poets_expr.specs.Expression.{expression_of};
 ghost use Rattle.poets_syntax.specs.Contract.{contract_of};
@@ -134,7 +134,7 @@ pub fn app<L>(
     tree_at(alloc, arena, place)
 }
 
-/// The normal form of a contract. What it asks is answered in it and is not asked again.
+/// The normal form of a contract. What is evaluated for it is a literal in it, and need not be evaluated again.
 pub fn normal<L>(
     alloc: Global,
     studied: &Studied,

@@ -86,6 +86,6 @@ pub fn wide(studied: &Studied, term: &Term) -> u64
     requires { CountsFitIn studied.now (contract_of term.now) }
     ensures { result ≡ wide_in studied.now (contract_of term.now) }
 {
-    let _book = studied.book();
+    studied.recall();
     measure(studied, term).wide
 }

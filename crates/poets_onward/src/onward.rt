@@ -24,7 +24,7 @@ impl<F, C> Model for OnwardFrame<F, C> {
     ghost view = { λ f. record { inner = f.inner; earlier = f.earlier.items } };
 }
 
-/// A machine that took calls before and goes on: its history begins after them, and its replies do not.
+/// A machine that took calls before and goes on: its history begins after them, and its replies take them into account.
 #[derive(Drop)]
 pub struct Onward<M: Machine> {
     machine: M,
@@ -51,7 +51,7 @@ impl<M: Machine> Onward<M> {
         Onward { machine, earlier }
     }
 
-    /// Gives back the machine, which took the calls of before and then those of this one. It takes no memory.
+    /// Gives back the machine, which took the earlier calls and then those of this one. It takes no memory.
     pub fn end(self) -> M
         ensures machine { result ≡ self.machine }
         ensures history { M.history result

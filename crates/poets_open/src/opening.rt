@@ -18,7 +18,7 @@ use poets_value::{List, Memory, push};
 use std::alloc::Global;
 
 /// An open transmission: the names of the parts of the event that it takes, and its predicate.
-#[derive(Drop)]
+#[derive(Debug, PartialEq, Eq, Drop)]
 pub struct Step {
     pub binders: Binders,
     pub when: Expr,
@@ -97,8 +97,7 @@ pub fn next(alloc: Global, studied: &Studied, term: &Term) -> Result<List<Step>,
     requires { CountsFitIn studied.now (contract_of term.now) }
     ensures { IfOk result (λ r. map step_of r.items ≡ next_in studied.now (contract_of term.now)) }
 {
-    // The book is checked and guarded, and the marks are right.
-    let _book = studied.book();
+    studied.recall();
     let mut asks = Asks::new(());
     let mut steps = List::new(alloc);
     add_open(alloc, studied, term, &mut steps, &mut asks)?;

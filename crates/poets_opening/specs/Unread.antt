@@ -25,7 +25,7 @@ pub record GaveSession (source source' : Stream) (form : Form) (names : Table) (
   pub gave : Gave source source' text
   pub session : IsSession text form names statements
 
--- what is answered where the source gave no session of the form: the status, and the line
+-- the answer where the source gave no session of the form: the status, and the line
 pub data RefusesSource (form : Form) (source source' : Stream) :
     (status : ℕ) → List Entry → (line : List ℕ) → Type 0 where
   -- the line of the text's first fault

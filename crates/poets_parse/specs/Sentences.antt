@@ -5,7 +5,7 @@ use Rattle.poets_command.specs.Said.{Statement}
 use Rattle.poets_grammar.specs.Statements.{IsStatement}
 use Rattle.poets_grammar.specs.TooDeep.{IsDeeper, IsTooDeep, most_open, most_open_stored}
 
--- the tokens are no statement, and not because more brackets than the most are open
+-- the tokens are no statement, and not because more than `most` brackets are open
 abbrev pub AreNoSentenceFor : ℕ → List Tok → Type 0
 AreNoSentenceFor most tokens = ¬ (IsDeeper most tokens) × ((s : Statement) → ¬ (IsStatement tokens s))
 
@@ -13,7 +13,7 @@ AreNoSentenceFor most tokens = ¬ (IsDeeper most tokens) × ((s : Statement) →
 abbrev pub AreNoSentence : List Tok → Type 0
 AreNoSentence tokens = AreNoSentenceFor most_open tokens
 
--- the tokens are no statement, and not because they are too deep for one that was printed and kept
+-- the tokens are no statement, and not because they are too deep for a stored one
 abbrev pub AreNoSentenceStored : List Tok → Type 0
 AreNoSentenceStored tokens = AreNoSentenceFor most_open_stored tokens
 

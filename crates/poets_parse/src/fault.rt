@@ -17,7 +17,7 @@ pub enum SyntaxFault {
     #[error("the statement is no sentence")]
     NoSentence,
 
-    /// Want of memory.
+    /// Out of memory.
     #[error("no memory is left")]
     Memory,
 }
@@ -25,10 +25,10 @@ pub enum SyntaxFault {
 /// Why a reader gave up.
 #[derive(Debug, Clone, Copy, PartialEq, Eq)]
 pub(crate) enum ReadFault {
-    /// The first token that is not yet read, with which so many are left, is not what has to stand there.
+    /// The first token that is not yet read, with which so many are left, is not what has to be there.
     Unfit { left: usize },
 
-    /// Want of memory.
+    /// Out of memory.
     Memory,
 }
 

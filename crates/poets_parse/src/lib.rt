@@ -1,6 +1,6 @@
 //! Statements read from their tokens, by the grammar of `poets_grammar`.
 //!
-//! Each reader takes the tokens from its place on, and answers what it read and the tokens after that.
+//! Each reader takes the tokens from its place on, and returns what it read and the tokens after that.
 #![tactic(auto)]
 
 mod build;

@@ -72,11 +72,11 @@ fn statement_within(alloc: Global, most: usize, tokens: &[Token]) -> Result<Stat
     Ok(read_statement(alloc, tokens)?)
 }
 
-/// The statement that the tokens are, which stand before a `;;`.
+/// The statement that the tokens are, which come before a `;;`.
 ///
 /// The time is linear in the tokens. How deep the readers call themselves is bounded by the limits of the language,
-/// since a statement that is nested too deep is refused before it is read: they do so only after brackets, `not`, `-`,
-/// `if` and the dot of a transmit.
+/// because a statement that is nested too deep is refused before it is read: they do so only after brackets, `not`,
+/// `-`, `if` and the dot of a transmit.
 pub fn statement(alloc: Global, tokens: &[Token]) -> Result<Statement, SyntaxFault>
     requires natural { AreNatural tokens.now }
     ensures found { IfOk result (λ s. IsStatement (toks tokens.now) (statement_of s)) }
@@ -87,7 +87,7 @@ pub fn statement(alloc: Global, tokens: &[Token]) -> Result<Statement, SyntaxFau
     statement_within(alloc, MOST_OPEN, tokens)
 }
 
-/// The statement that the tokens of a printed statement are: `statement` with one bracket more that may be open at one
+/// The statement that the tokens of a printed statement are: as `statement`, but one more bracket may be open at one
 /// place.
 ///
 /// Printing a tree opens one bracket more than its source at one place alone: `- -5` is printed as `-(-5)`.
@@ -101,8 +101,8 @@ pub fn statement_stored(alloc: Global, tokens: &[Token]) -> Result<Statement, Sy
     statement_within(alloc, MOST_OPEN_STORED, tokens)
 }
 
-/// How many of the tokens, which stand before a `;;`, begin a sentence: all, or those ahead of the first one that
-/// cannot stand where it does. Of tokens that are nested too deep it is none.
+/// How many of the tokens, which come before a `;;`, begin a sentence: all, or those before the first one that cannot
+/// be there. Of tokens that are nested too deep it is none.
 ///
 /// The readers look at one token, take it or give up, and never go back.
 pub fn begun(alloc: Global, tokens: &[Token]) -> Result<usize, Memory>

@@ -19,7 +19,7 @@ use Rattle.poets_print.specs.Texts.{call_text, listed, name_text}
 use Rattle.poets_print.specs.Lines.{command_text}
 use Rattle.poets_command.specs.Taken.{IsWholeCommand}
 use Rattle.poets_command.specs.Plain as plain
-use Rattle.poets_print.specs.Laws.{CanWriteCommand, ContractReadsBack, CommandReadsBack}
+use Rattle.poets_print.specs.Laws.{CanWriteCommand, CanWriteNumberOf, ContractReadsBack, CommandReadsBack}
 use Rattle.poets_print.proofs.Writing.{IsTextOf}
 use Rattle.poets_print.proofs.WritingContracts.{writes_call, writes_names, writes_contract}
 
@@ -34,6 +34,12 @@ transmission_shape t p q x s r n k d rest = simp append_assoc
 
 portfolio_shape : (a b rest : List ℕ) → (codes "portfolio " ++ a ++ codes " over " ++ b) ++ rest ≡ codes "portfolio " ++ (a ++ (codes " over " ++ (b ++ rest)))
 portfolio_shape a b rest = simp append_assoc
+
+-- where a command can be written, its number can
+pub number_written : (names : Table) (command : Command) → CanWriteCommand names command → CanWriteNumberOf command
+number_written names (plain.Void x k) can = can.1
+number_written names (plain.Read n) can = can
+number_written names _ can = tt
 
 module _ (table : Table) (all : IsTable table) where
   writes_transmission : (x s r k : Name) (z d : ℤ) →
@@ -56,7 +62,7 @@ module _ (table : Table) (all : IsTable table) where
   writes_command (plain.Transmit x e) whole can =
       writes_transmission x e.sender e.receiver e.what.kind e.what.amount e.day whole can
   writes_command (plain.Void x k) whole can =
-      simp append_assoc (record { tokens = _; cut = cut_word W.Void (cut_space (cut_name x all can (cut_space (cut_number k whole cut_end tt)) refl)) refl; reads = IsCommand.Void })
+      simp append_assoc (record { tokens = _; cut = cut_word W.Void (cut_space (cut_name x all can.0 (cut_space (cut_number k can.1 cut_end tt)) refl)) refl; reads = IsCommand.Void })
   writes_command (plain.End x) whole can = record { tokens = _; cut = cut_word W.End (cut_space (cut_name x all can cut_end tt)) refl; reads = IsCommand.End }
   writes_command (plain.Show x) whole can = record { tokens = _; cut = cut_word W.Show (cut_space (cut_name x all can cut_end tt)) refl; reads = IsCommand.Show }
   writes_command (plain.Tally q args) whole can =
@@ -71,7 +77,7 @@ module _ (table : Table) (all : IsTable table) where
   writes_command (plain.Watch q args) whole can =
       let p = writes_call table all q args can.0 whole can.1 [] [] cut_end tt in
       record { tokens = _; cut = cut_word W.Watch (cut_space p.cut) refl; reads = rw p.reads.1 (IsCommand.Watch p.reads.2) }
-  writes_command (plain.Read n) whole can = record { tokens = _; cut = cut_word W.Read (cut_space (cut_number n whole cut_end tt)) refl; reads = IsCommand.Read }
+  writes_command (plain.Read n) whole can = record { tokens = _; cut = cut_word W.Read (cut_space (cut_number n can cut_end tt)) refl; reads = IsCommand.Read }
 
 pub contract_reads_back : ContractReadsBack
 contract_reads_back names c all whole can =

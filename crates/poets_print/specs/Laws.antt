@@ -1,5 +1,5 @@
 -- The laws of printed texts, as statements: they read back.
-use Rattle.std.specs.Prelude.{◌≢◌, ◌<◌, List, [], ◌∷◌, length, All, pos, ◌≤ℤ◌}
+use Rattle.std.specs.Prelude.{◌≢◌, ℕ, ◌^◌, ◌<◌, List, [], ◌∷◌, length, All, pos, ◌≤ℤ◌}
 use Rattle.poets_value.specs.declared.value.Name.{Name}
 use Rattle.poets_value.specs.declared.value.Value.{Value}
 use Rattle.poets_value.specs.declared.value.Value.TheVariants as V
@@ -23,7 +23,8 @@ use Rattle.poets_print.specs.Lines.{command_text}
 abbrev pub IsListed : Table → Name → Type 0
 IsListed names x = x.id < length names
 
--- a literal can be written for the value: an agent or a kind has none, for its name stands for it
+-- a literal can be written for the value; an agent or a kind has no literal, because its name
+-- stands for it
 abbrev pub HasLiteral : Table → Value → Type 0
 HasLiteral names (V.Agent x) = ⊥
 HasLiteral names (V.Kind x) = ⊥
@@ -40,7 +41,7 @@ CanWrite names (Make a b) = CanWrite names a × CanWrite names b
 CanWrite names (Binary o a b) = CanWrite names a × CanWrite names b
 CanWrite names (If a b c) = CanWrite names a × CanWrite names b × CanWrite names c
 
--- so can the contract
+-- the contract can be written with the names of the table
 abbrev pub CanWriteContract : Table → Contract → Type 0
 CanWriteContract names Success = Unit {0}
 CanWriteContract names Failure = Unit {0}
@@ -51,20 +52,32 @@ CanWriteContract names (Par a b) = CanWriteContract names a × CanWriteContract 
 CanWriteContract names (Seq a b) = CanWriteContract names a × CanWriteContract names b
 CanWriteContract names (App f args) = IsListed names f × All (CanWrite names) args
 
--- so can the command: no amount is negative, and a portfolio is over one name or more
+-- the place of an event, or the number of a watch or a clerk, can be written: it is one of the
+-- language
+abbrev pub CanWriteNumber : ℕ → Type 0
+CanWriteNumber n = n < 2 ^ 63
+
+-- the place or the number in the command, if it has one, can be written
+abbrev pub CanWriteNumberOf : plain.Command → Type 0
+CanWriteNumberOf (plain.Command.Void x k) = CanWriteNumber k
+CanWriteNumberOf (plain.Command.Read n) = CanWriteNumber n
+CanWriteNumberOf _ = Unit {0}
+
+-- the command can be written with the names of the table: no amount is negative, and a portfolio is
+-- over one name or more
 abbrev pub CanWriteCommand : Table → plain.Command → Type 0
 CanWriteCommand names (plain.Command.Register x c) = IsListed names x × CanWriteContract names c
 CanWriteCommand names (plain.Command.Transmit x e) =
     IsListed names x × IsListed names e.sender × IsListed names e.receiver × (pos 0 ≤ℤ e.what.amount)
     × IsListed names e.what.kind
-CanWriteCommand names (plain.Command.Void x k) = IsListed names x
+CanWriteCommand names (plain.Command.Void x k) = IsListed names x × CanWriteNumber k
 CanWriteCommand names (plain.Command.End x) = IsListed names x
 CanWriteCommand names (plain.Command.Show x) = IsListed names x
 CanWriteCommand names (plain.Command.Tally q args) = IsListed names q × All (CanWrite names) args
 CanWriteCommand names (plain.Command.Portfolio q args over) =
     IsListed names q × All (CanWrite names) args × All (IsListed names) over × (over ≢ [])
 CanWriteCommand names (plain.Command.Watch q args) = IsListed names q × All (CanWrite names) args
-CanWriteCommand names (plain.Command.Read n) = Unit {0}
+CanWriteCommand names (plain.Command.Read n) = CanWriteNumber n
 
 -- the text of a contract is cut into tokens, without a new name, and the tokens are the contract
 abbrev pub ContractReadsBack : Type 0

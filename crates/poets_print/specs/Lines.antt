@@ -71,7 +71,7 @@ part_text names part = name_text names part.0 ++ codes " " ++ answer_text names 
 abbrev pub parts_text : Table → List (Name × Answer) → List ℕ
 parts_text names parts = listed (part_text names) parts
 
--- the total stands last, where there is one
+-- the total at the end, where there is one
 abbrev pub total_text : Table → Option (Option Value) → List ℕ
 total_text names None = []
 total_text names (Some v) = codes ", total " ++ optional_text names v

@@ -46,7 +46,7 @@ abbrev pub listed : {A : Type 0} → (A → List ℕ) → List A → List ℕ
 listed text_of [] = []
 listed text_of (x ∷ xs) = text_of x ++ behind_commas text_of xs
 
--- the word of a type
+-- the word for a type
 abbrev pub type_text : Ty → List ℕ
 type_text T.Int = codes "Int"
 type_text T.Bool = codes "Bool"
@@ -86,7 +86,7 @@ op_text O.Ge = codes ">="
 op_text O.And = codes "and"
 op_text O.Or = codes "or"
 
--- operators stand between single spaces
+-- the text of an expression, with single spaces around operators
 abbrev pub expression_text : Table → Expression → List ℕ
 expression_text names (Literal v) = value_text names v
 expression_text names (Undefined t) = codes "undefined " ++ type_text t
@@ -119,8 +119,8 @@ abbrev pub step_text : Table → Binders → Expression → List ℕ
 step_text names b p =
     codes "transmit(" ++ binders_text names b ++ codes " | " ++ expression_text names p ++ codes ")"
 
--- a left part stands in brackets where its level is below its parent's, a right part where it is
--- not above it, and the continuation of a transmit where it is below 4
+-- the text of a contract: a left part is in brackets where its level is below its parent's, a right
+-- part where it is not above it, and the continuation of a transmit where it is below 4
 abbrev pub contract_text : Table → Contract → List ℕ
 contract_text names Success = codes "Success"
 contract_text names Failure = codes "Failure"

@@ -1,6 +1,6 @@
 //! Laws of printed texts, each stated by a function that does nothing: what is printed reads back.
 //!
-//! A text has one list of tokens (`poets_lex`, `one_reading`), and no tokens have two trees (`poets_grammar`,
+//! A text has one list of tokens (`poets_lex`, `one_reading`), and tokens have one tree at most (`poets_grammar`,
 //! `one_contract` and `one_statement`). So no other tree has that text, and what reads the text finds the tree that was
 //! printed.
 ghost use Rattle.poets_print.specs.Laws.{ContractReadsBack, CommandReadsBack};

@@ -1,6 +1,6 @@
 //! The printed texts of contracts, commands, replies and lines, by `docs/LANGUAGE.md`, "What is printed".
 //!
-//! A text is written from front to back at the end of one string, so the time is linear in its length.
+//! A text is written from its beginning to its end into one string, so the time is linear in its length.
 #![tactic(auto)]
 
 mod commands;

@@ -16,7 +16,7 @@ pub fn name_text(names: &Names, name: Name) -> &str
     }
 }
 
-/// The type's word.
+/// The word for a type.
 pub fn type_text(ty: Ty) -> &'static str
     ensures { result.now ≡ texts.type_text ty }
 {

@@ -79,10 +79,10 @@ length_clerk : (n : ℕ) → n < 2 ^ 32 → length (decimal n) ≤ 10
 length_clerk n h = length-decimal-le 10 n (omega arith) (omega arith) (omega arith)
 
 pub numbered_are_short : NumberedAreShort
-numbered_are_short names clerk read command all low whole r =
+numbered_are_short names clerk read command all low whole small r =
     omega (
       arith,
       length_clerk clerk low,
       length_three (decimal clerk) (codes ": ") (command_text names command),
-      short_command names all r whole,
+      short_command names all r whole small,
     )

@@ -62,8 +62,8 @@ module _ (table : Table) (all : IsTable table) where
   cut_command (plain.Transmit x e) whole can =
       cut_transmission x e.sender e.receiver e.what.kind e.what.amount e.day whole can
   cut_command (plain.Void x k) whole can =
-      let place = cut_space (cut_number k whole cut_end tt) in
-      simp append_assoc (cut_word W.Void (cut_space (cut_name x all can place refl)) refl)
+      let place = cut_space (cut_number k can.1 cut_end tt) in
+      simp append_assoc (cut_word W.Void (cut_space (cut_name x all can.0 place refl)) refl)
   cut_command (plain.End x) whole can = cut_word W.End (cut_space (cut_name x all can cut_end tt)) refl
   cut_command (plain.Show x) whole can = cut_word W.Show (cut_space (cut_name x all can cut_end tt)) refl
   cut_command (plain.Tally q args) whole can =
@@ -76,4 +76,4 @@ module _ (table : Table) (all : IsTable table) where
       (cut_word W.Portfolio (cut_space p) refl)
   cut_command (plain.Watch q args) whole can =
       cut_word W.Watch (cut_space (cut_call table all q args can.0 whole can.1 [] [] cut_end tt)) refl
-  cut_command (plain.Read n) whole can = cut_word W.Read (cut_space (cut_number n whole cut_end tt)) refl
+  cut_command (plain.Read n) whole can = cut_word W.Read (cut_space (cut_number n can cut_end tt)) refl

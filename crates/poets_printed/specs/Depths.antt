@@ -12,8 +12,7 @@ use Rattle.poets_grammar.specs.Statements.{IsCommand}
 use Rattle.poets_print.specs.Lines.{command_text}
 use Rattle.poets_print.specs.Laws.{CanWriteCommand}
 
--- what is printed of a command that was not too deep is not too deep for one that was printed and
--- kept
+-- what is printed of a command that was not too deep is not too deep for a stored one
 abbrev pub NeverTooDeepStored : Type 0
 NeverTooDeepStored =
     (names : Table) (command : plain.Command) (read : List Tok) →

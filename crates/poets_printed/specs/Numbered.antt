@@ -1,4 +1,4 @@
--- The text of a command with its clerk's number, as it stands in a journal, and its laws.
+-- The text of a command with its clerk's number, as in a journal, and its laws.
 use Rattle.std.specs.Prelude.{ℕ, ◌+◌, ◌*◌, ◌^◌, ◌<◌, ◌≤◌, List, ◌++◌, length, codes}
 use Rattle.std.specs.Fmt.{decimal}
 use Rattle.poets_command.specs.Plain.{Command}
@@ -12,15 +12,14 @@ use Rattle.poets_grammar.specs.Tokens.{toks}
 use Rattle.poets_grammar.specs.TooDeep.{IsTooDeep, IsTooDeepStored}
 use Rattle.poets_grammar.specs.Statements.{IsCommand, IsStatement}
 use Rattle.poets_print.specs.Lines.{command_text}
-use Rattle.poets_print.specs.Laws.{CanWriteCommand}
+use Rattle.poets_print.specs.Laws.{CanWriteCommand, CanWriteNumberOf}
 
 -- `1: show deal`
 abbrev pub numbered_text : Table → ℕ → Command → List ℕ
 numbered_text names clerk command = decimal clerk ++ codes ": " ++ command_text names command
 
 -- a command that was not too deep prints with its clerk's number as a text that is cut into tokens,
--- without a new name; the tokens are that statement, and not too deep for one that was printed and
--- kept
+-- without a new name; the tokens are that statement, and not too deep for a stored one
 abbrev pub NumberedReadsBack : Type 0
 NumberedReadsBack =
     (names : Table) (clerk : ℕ) (command : Command) (read : List Tok) →
@@ -34,5 +33,5 @@ NumberedReadsBack =
 abbrev pub NumberedAreShort : Type 0
 NumberedAreShort =
     (names : Table) (clerk : ℕ) (read : List Tok) (command : Command) →
-    IsTable names → clerk < 2 ^ 32 → IsWholeCommand command → IsCommand read command →
+    IsTable names → clerk < 2 ^ 32 → IsWholeCommand command → CanWriteNumberOf command → IsCommand read command →
     length (numbered_text names clerk command) ≤ 80 * length read + 12

@@ -11,13 +11,13 @@ pub fn commands_are_short()
     ensures { CommandsAreShort }
 {}
 
-/// What is printed of a command that was not too deep is not too deep for one that was printed and kept.
+/// What is printed of a command that was not too deep is not too deep for a stored one.
 pub fn never_too_deep()
     ensures { NeverTooDeepStored }
 {}
 
 /// A command that was not too deep prints with its clerk's number as a text that reads back as that statement, and is
-/// not too deep for one that was printed and kept.
+/// not too deep for a stored one.
 pub fn numbered_commands_read_back()
     ensures { NumberedReadsBack }
 {}

@@ -1,4 +1,4 @@
-//! What is printed of a command, against the text that it was read from: how long it is, and how deep.
+//! How long, and how deep, a printed command is, compared with the text that it was read from.
 #![tactic(auto)]
 
 pub mod laws;

@@ -12,13 +12,14 @@ use Rattle.poets_lex.specs.Table.{Table, Extends}
 use Rattle.poets_lex.proofs.Readings.{Extends-then}
 use Rattle.poets_syntax.specs.Plain.{Book, TypeCause}
 use Rattle.poets_report.specs.Plain.{Report}
-use Rattle.poets_syntax.specs.TypeOf.{Fails}
+use Rattle.poets_syntax.specs.Demands.{FirstFault}
+use Rattle.poets_syntax.proofs.Demanded.{no_fault}
 use Rattle.poets_command.specs.Calls.{Call, command_of}
 use Rattle.poets_command.specs.Plain.{Command}
 use Rattle.poets_command.specs.Said.{Numbered}
 use Rattle.poets_command.specs.Taken.{IsTaken, IsWholeCommand}
-use Rattle.poets_command.specs.TypedStatements.{check_command}
-use Rattle.poets_command.proofs.TypingRules.{command_passes}
+use Rattle.poets_command.specs.StatementDemands.{command_demands}
+use Rattle.poets_command.proofs.Demanded.{commands_by_demands}
 use Rattle.poets_rules.specs.declared.rules.Rules.{Rules}
 use Rattle.poets_rules.specs.Rules.{book_of_rules, reports_of_rules}
 use Rattle.poets_types.specs.declared.cause.TypeCause.{TypeCause as CodeCause}
@@ -72,52 +73,61 @@ bytes-at texts i text within at =
     let here : get_or (bytes_in texts) i text.items ≡ text.items = get_or-map items texts i text text.items within ∙ ap items (sym at) in
     take_more (bytes_in texts) i text.items inside ∙ ap (λ (t : List ℕ). take i (bytes_in texts) ++ t ∷ []) here
 
--- one more text is read
-pub more-said : (before : Table) (texts : List (Listed ℕ)) (i : ℕ) (text : Listed ℕ) (room rest : ℕ) (calls : List CodeCall) (call : CodeCall) (more : List CodeCall) (between names : Table) →
-    i < length texts → text ≡ get_or texts i text → HaveSaid before (bytes_in texts) i room (calls_in calls) between → rest + length text.items ≡ room →
-    SaysCallOf between text.items names call → Extends between names → length names ≤ length between + length text.items → more ≡ calls ++ call ∷ [] →
-    HaveSaid before (bytes_in texts) (i + 1) rest (calls_in more) names
-more-said before texts i text room rest calls call more between names within at said left says extends few pushed =
-    let longer = bytes-at texts i text within at in
-    let front = take i (bytes_in texts) in
-    let sum : length_of_all (take (i + 1) (bytes_in texts)) ≡ length_of_all front + length text.items = ap length_of_all longer ∙ sum_by_push length front text.items in
-    let plain : calls_in more ≡ calls_in calls ++ (call.0, command_of (arc_value call.1)) ∷ [] =
-    ap calls_in pushed ∙ map-append (λ (p : CodeCall). (p.0, command_of (arc_value p.1))) calls (call ∷ []) in
-    let pushed_calls = AreCalls-push SaysCall before between names front text.items (calls_in calls) call.0 (command_of (arc_value call.1)) said.say says in
-    let was : room + length_of_all front ≡ most_stored = said.left in
-    let had : length between ≤ length before + length_of_all front = said.few in
-    record {
-      say =
-          subst (λ (cs : List Call). AreCalls SaysCall before (take (i + 1) (bytes_in texts)) cs names) (sym plain)
-          (subst (λ (ts : List (List ℕ)). AreCalls SaysCall before ts (calls_in calls ++ (call.0, command_of (arc_value call.1)) ∷ []) names) (sym longer) pushed_calls);
-      left = summed (length_of_all front) (length text.items) _ room rest most_stored sum was left;
-      few = counted (length_of_all front) (length text.items) _ (length before) (length between) (length names) sum had few;
-      extends = Extends-then before between names said.extends extends;
-    }
-  where
-    summed : (a b c room rest most : ℕ) → c ≡ a + b → room + a ≡ most → rest + b ≡ room → rest + c ≡ most
-    summed a b c room rest most e f g = omega arith
+-- what is read of the next text
+module _
+    (before : Table) (texts : List (Listed ℕ)) (i : ℕ) (text : Listed ℕ) (within : i < length texts)
+    (at : text ≡ get_or texts i text) (room : ℕ) (calls : List CodeCall) (between : Table)
+    (said : HaveSaid before (bytes_in texts) i room (calls_in calls) between) where
+  -- it is one call more
+  pub more-said :
+      (rest : ℕ) (call : CodeCall) (more : List CodeCall) (names : Table) → rest + length text.items ≡ room →
+      SaysCallOf between text.items names call → Extends between names →
+      length names ≤ length between + length text.items → more ≡ calls ++ call ∷ [] →
+      HaveSaid before (bytes_in texts) (i + 1) rest (calls_in more) names
+  more-said rest call more names left says extends few pushed =
+      let longer = bytes-at texts i text within at in
+      let front = take i (bytes_in texts) in
+      let sum : length_of_all (take (i + 1) (bytes_in texts)) ≡ length_of_all front + length text.items =
+      ap length_of_all longer ∙ sum_by_push length front text.items in
+      let plain : calls_in more ≡ calls_in calls ++ (call.0, command_of (arc_value call.1)) ∷ [] =
+      ap calls_in pushed ∙ map-append (λ (p : CodeCall). (p.0, command_of (arc_value p.1))) calls (call ∷ []) in
+      let pushed_calls = AreCalls-push SaysCall before between names front text.items (calls_in calls) call.0
+      (command_of (arc_value call.1)) said.say says in
+      let was : room + length_of_all front ≡ most_stored = said.left in
+      let had : length between ≤ length before + length_of_all front = said.few in
+      record {
+        say =
+            subst (λ (cs : List Call). AreCalls SaysCall before (take (i + 1) (bytes_in texts)) cs names) (sym plain)
+            (subst (λ (ts : List (List ℕ)). AreCalls SaysCall before ts (calls_in calls ++ (call.0, command_of (arc_value call.1)) ∷ []) names) (sym longer) pushed_calls);
+        left = summed (length_of_all front) (length text.items) _ room rest most_stored sum was left;
+        few = counted (length_of_all front) (length text.items) _ (length before) (length between) (length names) sum had few;
+        extends = Extends-then before between names said.extends extends;
+      }
+    where
+      summed : (a b c room rest most : ℕ) → c ≡ a + b → room + a ≡ most → rest + b ≡ room → rest + c ≡ most
+      summed a b c room rest most e f g = omega arith
 
-    counted : (a b c before between names : ℕ) → c ≡ a + b → between ≤ before + a → names ≤ between + b → names ≤ before + c
-    counted a b c before between names e f g = omega arith
+      counted : (a b c before between names : ℕ) → c ≡ a + b → between ≤ before + a → names ≤ between + b → names ≤ before + c
+      counted a b c before between names e f g = omega arith
 
--- reading stops at a text that has no room, or that says no call
-pub said-stopped : (before : Table) (texts : List (Listed ℕ)) (i : ℕ) (text : Listed ℕ) (room : ℕ) (calls : List CodeCall) (between names : Table) →
-    i < length texts → text ≡ get_or texts i text → HaveSaid before (bytes_in texts) i room (calls_in calls) between → (room < length text.items) ⊎ SaysNone between text.items →
-    AreReadAs before (bytes_in texts) (calls_in calls) names
-said-stopped before texts i text room calls between names within at said stops =
-    let taken = length_of_all (take i (bytes_in texts)) in
-    read-stopped texts i text before between names (calls_in calls) within at said.say (few room taken said.left) (by_stop room taken said.left stops)
-  where
-    few : (room taken : ℕ) → room + taken ≡ most_stored → taken ≤ most_stored
-    few room taken e = omega arith
+  -- reading stops at it, since it has no room, or says no call
+  pub said-stopped :
+      (names : Table) → (room < length text.items) ⊎ SaysNone between text.items →
+      AreReadAs before (bytes_in texts) (calls_in calls) names
+  said-stopped names stops =
+      let taken = length_of_all (take i (bytes_in texts)) in
+      read-stopped texts i text before between names (calls_in calls) within at said.say (few room taken said.left)
+      (by_stop room taken said.left stops)
+    where
+      few : (room taken : ℕ) → room + taken ≡ most_stored → taken ≤ most_stored
+      few room taken e = omega arith
 
-    over : (room taken n : ℕ) → room + taken ≡ most_stored → room < n → most_stored < taken + n
-    over room taken n e h = omega arith
+      over : (room taken n : ℕ) → room + taken ≡ most_stored → room < n → most_stored < taken + n
+      over room taken n e h = omega arith
 
-    by_stop : (room taken : ℕ) → room + taken ≡ most_stored → (room < length text.items) ⊎ SaysNone between text.items → (most_stored < taken + length text.items) ⊎ SaysNone between text.items
-    by_stop room taken e (inl h) = inl (over room taken (length text.items) e h)
-    by_stop room taken e (inr h) = inr h
+      by_stop : (room taken : ℕ) → room + taken ≡ most_stored → (room < length text.items) ⊎ SaysNone between text.items → (most_stored < taken + length text.items) ⊎ SaysNone between text.items
+      by_stop room taken e (inl h) = inl (over room taken (length text.items) e h)
+      by_stop room taken e (inr h) = inr h
 
 -- all texts are read
 pub said-all : (before : Table) (texts : List (Listed ℕ)) (i : ℕ) (room : ℕ) (calls : List CodeCall) (names : Table) → length texts ≤ i →
@@ -158,27 +168,33 @@ Stored rules before texts calls names =
     AreStoredCalls (book_of_rules rules) (reports_of_rules rules) before texts (calls_in calls) names × (length_of_all texts ≤ most_stored)
 
 -- no text is behind those that were read
-stored_at_end : (rules : Rules) (before : Table) (texts : List (List ℕ)) (calls : List CodeCall) (names : Table) (front rest : List (List ℕ)) (between : Table) → texts ≡ front ++ rest →
-    AreCalls SaysCall before front (calls_in calls) between → length_of_all front ≤ most_stored → StopsAt (length_of_all front) between rest names → AreTyped rules calls → length texts ≤ length calls →
+stored_at_end :
+    (rules : Rules) (before : Table) (texts : List (List ℕ)) (calls : List CodeCall) (names : Table) →
+    AreReadAs before texts (calls_in calls) names → AreTyped rules calls → length texts ≤ length calls →
     Stored rules before texts calls names
-stored_at_end rules before texts calls names front [] between cut say within stops typed many =
-    let book = book_of_rules rules in let reports = reports_of_rules rules in let plain = calls_in calls in
-    let same : front ≡ texts = sym (cut ∙ append-nil front) in
-    let stored = stored_typed book reports say (typed_calls rules calls typed) in
-    let ended = subst (λ end. AreStoredCalls book reports before front plain end) stops stored in
-    (subst (λ ts. AreStoredCalls book reports before ts plain names) same ended, subst (λ ts. length_of_all ts ≤ most_stored) same within)
-stored_at_end rules before texts calls names front (t ∷ rest) between cut say within stops typed many =
-    let lengths : length texts ≡ length front + suc (length rest) = ap length cut ∙ length-append front (t ∷ rest) in
-    let read : length (calls_in calls) ≡ length front = AreCalls-length say in
-    let same : length (calls_in calls) ≡ length calls = length-map calls (λ (p : CodeCall). (p.0, command_of (arc_value p.1))) in
-    absurd (omega (arith, lengths, read, same, many))
+stored_at_end rules before texts calls names read typed many = by_rest read.rest read.cut read.stops
+  where
+    by_rest :
+        (rest : List (List ℕ)) → texts ≡ read.front ++ rest →
+        StopsAt (length_of_all read.front) read.between rest names → Stored rules before texts calls names
+    by_rest [] cut stops =
+        let book = book_of_rules rules in let reports = reports_of_rules rules in let plain = calls_in calls in
+        let same : read.front ≡ texts = sym (cut ∙ append-nil read.front) in
+        let stored = stored_typed book reports read.say (typed_calls rules calls typed) in
+        let ended = subst (λ end. AreStoredCalls book reports before read.front plain end) stops stored in
+        (subst (λ ts. AreStoredCalls book reports before ts plain names) same ended, subst (λ ts. length_of_all ts ≤ most_stored) same read.within)
+    by_rest (t ∷ rest) cut stops =
+        let lengths : length texts ≡ length read.front + suc (length rest) = ap length cut ∙ length-append read.front (t ∷ rest) in
+        let counted : length (calls_in calls) ≡ length read.front = AreCalls-length read.say in
+        let same : length (calls_in calls) ≡ length calls = length-map calls (λ (p : CodeCall). (p.0, command_of (arc_value p.1))) in
+        absurd (omega (arith, lengths, counted, same, many))
 
 -- every text is a call
 pub all_stored : (rules : Rules) (before : Table) (texts : List (Listed ℕ)) (calls : List CodeCall) (names : Table) → AreReadAs before (bytes_in texts) (calls_in calls) names → AreTyped rules calls →
     length texts ≤ length calls → Stored rules before (bytes_in texts) calls names
 all_stored rules before texts calls names read typed many =
     let many_bytes = subst (λ n. n ≤ length calls) (sym (length-map texts (λ (t : Listed ℕ). t.items))) many in
-    stored_at_end rules before (bytes_in texts) calls names read.front read.rest read.between read.cut read.say read.within read.stops typed many_bytes
+    stored_at_end rules before (bytes_in texts) calls names read typed many_bytes
 
 -- ---- refusals
 
@@ -187,29 +203,33 @@ refused_next rules bytes between text (inl more) = IsRefused.TooMuch more
 refused_next rules bytes between text (inr none) =
     IsRefused.NoCall (λ clerk command after h. none clerk command after (says_stored h))
 
-refused_behind : (rules : Rules) (before : Table) (texts : List (List ℕ)) (calls : List CodeCall) (names : Table) (front rest : List (List ℕ)) (between : Table) → texts ≡ front ++ rest →
-    AreCalls SaysCall before front (calls_in calls) between → length_of_all front ≤ most_stored → StopsAt (length_of_all front) between rest names → AreTyped rules calls → length calls < length texts →
+refused_behind :
+    (rules : Rules) (before : Table) (texts : List (List ℕ)) (calls : List CodeCall) (names : Table) →
+    AreReadAs before texts (calls_in calls) names → AreTyped rules calls → length calls < length texts →
     IsRefusedText (book_of_rules rules) (reports_of_rules rules) before texts (length calls + 1)
-refused_behind rules before texts calls names front rest between cut say within stops typed few = by_rest rest cut stops
+refused_behind rules before texts calls names read typed few = by_rest read.rest read.cut read.stops
   where
-    read : length calls ≡ length front
-    read = sym (length-map calls (λ (p : CodeCall). (p.0, command_of (arc_value p.1)))) ∙ AreCalls-length say
+    counted : length calls ≡ length read.front
+    counted = sym (length-map calls (λ (p : CodeCall). (p.0, command_of (arc_value p.1)))) ∙ AreCalls-length read.say
 
-    by_rest : (rest : List (List ℕ)) → texts ≡ front ++ rest → StopsAt (length_of_all front) between rest names → IsRefusedText (book_of_rules rules) (reports_of_rules rules) before texts (length calls + 1)
+    by_rest :
+        (rest : List (List ℕ)) → texts ≡ read.front ++ rest →
+        StopsAt (length_of_all read.front) read.between rest names →
+        IsRefusedText (book_of_rules rules) (reports_of_rules rules) before texts (length calls + 1)
     by_rest [] cut stops =
-        let lengths : length texts ≡ length front + 0 = ap length cut ∙ length-append front [] in
-        absurd (omega (arith, lengths, read, few))
+        let lengths : length texts ≡ length read.front + 0 = ap length cut ∙ length-append read.front [] in
+        absurd (omega (arith, lengths, counted, few))
     by_rest (t ∷ rest) cut stops = record {
-      before = front;
+      before = read.front;
       text = t;
       after = rest;
       cut = cut;
-      counted = ap (λ n. n + 1) read;
+      counted = ap (λ n. n + 1) counted;
       calls = calls_in calls;
-      between = between;
-      stored = stored_typed (book_of_rules rules) (reports_of_rules rules) say (typed_calls rules calls typed);
-      within = within;
-      refused = refused_next rules (length_of_all front) between t stops;
+      between = read.between;
+      stored = stored_typed (book_of_rules rules) (reports_of_rules rules) read.say (typed_calls rules calls typed);
+      within = read.within;
+      refused = refused_next rules (length_of_all read.front) read.between t stops;
     }
 
 -- the calls that are read are typed, and a text behind them was not read
@@ -217,7 +237,7 @@ pub next_refused : (rules : Rules) (before : Table) (texts : List (Listed ℕ)) 
     length calls < length texts → IsRefusedText (book_of_rules rules) (reports_of_rules rules) before (bytes_in texts) (length calls + 1)
 next_refused rules before texts calls names read typed few =
     let few_bytes = subst (λ n. length calls < n) (sym (length-map texts (λ (t : Listed ℕ). t.items))) few in
-    refused_behind rules before (bytes_in texts) calls names read.front read.rest read.between read.cut read.say read.within read.stops typed few_bytes
+    refused_behind rules before (bytes_in texts) calls names read typed few_bytes
 
 -- a call that is read is not typed
 pub mistyped_refused : (rules : Rules) (before : Table) (texts : List (List ℕ)) (calls : List CodeCall) (names : Table) (place : ℕ) → AreReadAs before texts (calls_in calls) names → IsMistyped rules calls place →
@@ -265,15 +285,18 @@ fault_refused rules before texts calls names F.Memory read told = tt
 
 -- ---- what the check of the calls tells
 
-untyped : (rules : Rules) (command : Command) (fault : TypeCause) → check_command (book_of_rules rules) (reports_of_rules rules) command ≡ Fails fault → IsTypedBy rules command → ⊥
-untyped rules command fault fails typed = let passes = command_passes (book_of_rules rules) (reports_of_rules rules) command typed in absurd cc
+untyped : (rules : Rules) (command : Command) (fault : TypeCause) →
+    FirstFault (book_of_rules rules).declared (command_demands (book_of_rules rules) (reports_of_rules rules) command) fault → IsTypedBy rules command → ⊥
+untyped rules command fault first typed =
+    no_fault (book_of_rules rules).declared (command_demands (book_of_rules rules) (reports_of_rules rules) command) fault
+    ((commands_by_demands (book_of_rules rules) (reports_of_rules rules) command).0 typed) first
 
 mistyped_by : (rules : Rules) (calls : List CodeCall) (place : ℕ) (fault : TypeCause) → IsFirstMistyped rules.studied.book rules.reports.items calls place fault → IsMistyped rules calls place
 mistyped_by rules calls place fault h = record {
   call = h.call;
   here = h.here;
   ahead = h.ahead;
-  untyped = untyped rules (command_of (arc_value h.call.1)) fault h.fails;
+  untyped = untyped rules (command_of (arc_value h.call.1)) fault h.first;
 }
 
 -- the first call that is not typed

@@ -13,6 +13,6 @@ CallsAreNotRefused =
     (number : ℕ) → AreStoredCalls book reports names texts calls after → length_of_all texts ≤ most_stored →
     ¬ (IsRefusedText book reports names texts number)
 
--- how many bytes the texts of a journal have together at most
+-- the most bytes that the texts of a journal have together
 abbrev pub MostStoredIs : Type 0
 MostStoredIs = most_stored ≡ 4_000_000_000

@@ -21,7 +21,7 @@ use Rattle.poets_recover.specs.declared.limits.TheConstants.{MOST_STORED}
 -- ---- calls
 
 -- the text is this call: a clerk's number from 1 to 64, a colon, and a command that is typed in the
--- book and its reports; its names are numbered on from a table
+-- book and its reports; its new names get the next numbers of a table
 pub record IsStoredCall
     (book : Book) (reports : List Report) (before : Table) (text : List ℕ) (clerk : ℕ) (command : Command)
     (after : Table) : Type 0 where
@@ -33,8 +33,8 @@ pub record IsStoredCall
   pub to : clerk ≤ most_clerks
   pub typed : IsTypedCommand book reports command
 
--- the texts are these calls, one after the other, where each text is its call as told; each numbers
--- its names on from the table after the one ahead of it
+-- the texts are these calls, one after the other, where `Is` says which call a text is; each begins
+-- with the table that the one before it left
 pub data AreCalls (Is : Table → List ℕ → ℕ → Command → Table → Type 0)
     : Table → List (List ℕ) → List Call → Table → Type 0 where
   NoTexts : {names : Table} → AreCalls Is names [] [] names
@@ -64,15 +64,15 @@ most_stored = MOST_STORED
 
 -- ---- refusals
 
--- after texts with so many bytes and a table of names, the text brings the bytes past the most, or
--- it is no call
+-- after texts with so many bytes, and with this table of names, the text brings the bytes past the
+-- most, or it is no call
 pub data IsRefused (book : Book) (reports : List Report) (bytes : ℕ) (names : Table) (text : List ℕ) : Type 0 where
   TooMuch : most_stored < bytes + length text → IsRefused book reports bytes names text
   NoCall :
       ((clerk : ℕ) (command : Command) (after : Table) → ¬ (IsStoredCall book reports names text clerk command after)) →
       IsRefused book reports bytes names text
 
--- the text with the number, from 1, is refused, and those ahead of it are calls
+-- the text with the number, from 1, is refused, and those before it are calls
 pub record IsRefusedText
     (book : Book) (reports : List Report) (names : Table) (texts : List (List ℕ)) (number : ℕ) : Type 0 where
   pub before : List (List ℕ)
@@ -86,7 +86,7 @@ pub record IsRefusedText
   pub within : length_of_all before ≤ most_stored
   pub refused : IsRefused book reports (length_of_all before) between text
 
--- the fault tells the first text that is refused, or want of memory
+-- the fault is the number of the first text that is refused, or memory ran out
 abbrev pub TellsRefused : Book → List Report → Table → List (List ℕ) → RecoverFault → Type 0
 TellsRefused book reports names texts (F.Text number) = IsRefusedText book reports names texts number
 TellsRefused book reports names texts F.Memory = Unit {0}

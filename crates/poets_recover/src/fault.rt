@@ -11,7 +11,7 @@ pub enum RecoverFault {
     /// The text with this number, from 1, is no call of the book, or brings the texts past `MOST_STORED` bytes.
     #[error("text {number} is no call of the book")]
     Text { number: u64 },
-    /// Want of memory.
+    /// Out of memory.
     #[error("no memory is left")]
     Memory,
 }
@@ -21,7 +21,7 @@ pub enum RecoverFault {
 pub(crate) enum TextFault {
     /// It says no call.
     NoCall,
-    /// Want of memory.
+    /// Out of memory.
     Memory,
 }
 

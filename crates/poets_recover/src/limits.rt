@@ -1,4 +1,4 @@
 //! How much a journal may hold.
 
-/// The texts of a journal have no more bytes together.
+/// The most bytes that the texts of a journal have together.
 pub const MOST_STORED: usize = 4_000_000_000;

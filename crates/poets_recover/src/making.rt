@@ -26,8 +26,8 @@ pub struct Recovered {
     pub history: List<Entry>,
 }
 
-/// Makes the calls that the texts of a journal are, in their order, on a new engine with the rules. Their new names get
-/// the next numbers of the table.
+/// Reads the texts of a journal as calls, and makes these, in their order, on a new engine with the rules. Their new
+/// names get the next numbers of the table.
 ///
 /// The time to read the texts is linear in their bytes.
 pub fn recover<R: Threads + Sync>(

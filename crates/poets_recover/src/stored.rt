@@ -37,10 +37,9 @@ fn check(alloc: Global, rules: &Rules, calls: &[(u32, Arc<Command>)]) -> Result<
     })
 }
 
-/// The calls that the texts of a journal are, whose names are numbered on from those of the table.
+/// The calls that the texts of a journal are. Their new names get the next numbers of the table.
 ///
-/// The time is linear in the bytes of the texts. After a fault names of the texts may stand in the table, after those
-/// that were there.
+/// The time is linear in the bytes of the texts. After a fault, names of the texts may have been added to the table.
 pub fn stored_calls(
     alloc: Global,
     names: &mut Names,

@@ -39,7 +39,7 @@ pub record AreRows
   pub each : (k : Key) (v : Option Value) →
       Contains rows (k, v) ↔ IsFoldOfKey declared q args (key_on declared q args key) events k v
 
--- by the report's key, if it has one
+-- the answer of a report with this key, or with none
 abbrev pub IsAnswer_by : Option Expression → Declared → Report → List (Option Value) → List Event → plain.Answer →
     Type 0
 IsAnswer_by None declared q args events (Single v) = v ≡ folded declared q args events

@@ -43,7 +43,7 @@ pub record StandsFor
   pub starts : fold.start ≡ start declared q args
   pub answers : IsAnswer declared q args events fold.answer
 
--- how many expressions an event asks at most: the step, and the key where there is one
+-- the most evaluations that an event takes: of the step, and of the key where there is one
 abbrev pub asked_by_event : Answer → ℕ
 asked_by_event (Single v) = 1
 asked_by_event (Rows rows) = 2
@@ -57,7 +57,7 @@ carried_in (Rows rows) = None
 abbrev pub events_of : List (ℕ × Event) → List Event
 events_of log = map (λ p. p.1) log
 
--- a fold that stood for any events stands for these and then `more`
+-- whatever events the old fold stood for, the new one stands for these and then `more`
 abbrev pub GoesOn : Declared → Report → List Event → FoldView → FoldView → Type 0
 GoesOn declared q more old new = (args : List (Option Value)) (events : List Event) →
     StandsFor declared q args events old → StandsFor declared q args (events ++ more) new

@@ -17,7 +17,7 @@ Cell = Option (Option Value)
 abbrev pub row_at : Key → List KeyRow → Cell
 row_at k rows = lookup (same_key k) rows
 
--- the row of a key, if it has one, ahead of other rows
+-- the row of a key, if it has one, before other rows
 abbrev pub row_before : Key → Cell → List KeyRow → List KeyRow
 row_before k None rows = rows
 row_before k (Some v) rows = (k, v) ∷ rows
@@ -37,7 +37,7 @@ abbrev pub HasRoom : Key → List Value → Type 0
 HasRoom None keys = Unit {0}
 HasRoom (Some v) keys = IsTrue (list_any (is_at (value_cmp v)) keys)
 
--- the rows where one key has another row, or none, and each other key what it had
+-- the new rows are the old ones, except that one key has this row, or none
 pub record Sets (key : Key) (cell : Cell) (old new : List KeyRow) : Type 0 where
   pub rising : Rising new
   pub each : (k : Key) → row_at k new ≡ (if same_key k key then cell else row_at k old)

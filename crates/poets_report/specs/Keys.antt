@@ -6,7 +6,7 @@ use Rattle.poets_value.specs.declared.value.Value.{Value}
 use Rattle.poets_value.specs.Order.{Precedes, value_cmp}
 use Rattle.poets_expr.specs.Val.{same_value}
 
--- a value, or undefined
+-- the key of a row: a value, or undefined
 abbrev pub Key : Type 0
 Key = Option Value
 
@@ -16,13 +16,13 @@ same_key (Some v) (Some w) = same_value v w
 same_key None None = true
 same_key _ _ = false
 
--- the first key stands before the second: keys stand in the order of values, and undefined is last
+-- the first key comes before the second: keys are in the order of values, and undefined is last
 abbrev pub KeyPrecedes : Key → Key → Type 0
 KeyPrecedes (Some v) (Some w) = Precedes v w
 KeyPrecedes (Some v) None = Unit {0}
 KeyPrecedes None k = ⊥
 
--- what a comparison of two keys answers: they stand in the order of values, and undefined is last
+-- the result of comparing two keys: they are in the order of values, and undefined is last
 abbrev pub key_cmp : Key → Key → Ordering
 key_cmp (Some v) (Some w) = value_cmp v w
 key_cmp (Some v) None = Less

@@ -24,7 +24,7 @@ report_of r = record {
   key = option_map expression_of r.key;
 }
 
--- the parameters with the arguments
+-- the environment of a report: its parameters with the values of the arguments
 abbrev pub given : plain.Report → List (Option Value) → Env
 given q args = parameter_env q.params args
 

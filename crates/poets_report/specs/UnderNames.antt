@@ -22,8 +22,8 @@ evaluated_arguments decls args = map (val (declared_of decls.names) []) (map exp
 abbrev pub StandsForUnder : Decls → Report → List (Option Value) → List Event → FoldView → Type 0
 StandsForUnder decls report args events fold = StandsFor (declared_of decls.names) (report_of report) args events fold
 
--- a fold of the report under the declared names that stood for any events stands for these and then
--- `more`
+-- whatever events the old fold of the report stood for under the declared names, the new one stands
+-- for these and then `more`
 abbrev pub GoesOnUnder : Decls → Report → List Event → FoldView → FoldView → Type 0
 GoesOnUnder decls report more old new = GoesOn (declared_of decls.names) (report_of report) more old new
 

@@ -6,7 +6,7 @@ use poets_expr::{Asks, Decls, Env, Expr, eval};
 use poets_value::{List, Memory, Value, push};
 use std::alloc::Global;
 
-/// The values of arguments, each of which is asked once.
+/// The values of the arguments, each of which is evaluated once.
 pub fn argument_values<L>(
     alloc: Global,
     decls: &Decls,

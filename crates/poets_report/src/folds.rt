@@ -33,7 +33,7 @@ pub(crate) enum Running {
     Keyed(KeyedRows),
 }
 
-/// What becomes of an answer: without a key its value, and with a key the row of one key, which may also go.
+/// A change of an answer: of its value, or, in an answer by keys, of the row of one key, which may also be removed.
 #[derive(Debug, Clone, Copy, PartialEq, Eq)]
 pub struct Change {
     pub key: Option<Value>,
@@ -52,7 +52,7 @@ impl Model for Fold {
 }
 
 impl Fold {
-    /// The fold over no event.
+    /// The fold of a report under arguments, before any event.
     pub fn start<L>(
         alloc: Global,
         decls: &Decls,
@@ -75,7 +75,7 @@ impl Fold {
         })
     }
 
-    /// The fold over more events. It was started with this report under these declared names.
+    /// The fold after more events, for a fold that was started with this report under these declared names.
     pub fn more<L>(
         mut self,
         decls: &Decls,
@@ -93,7 +93,7 @@ impl Fold {
         Ok(self)
     }
 
-    /// The fold over the events of a log more. It was started with this report under these declared names.
+    /// The fold after the events of a log, for a fold that was started with this report under these declared names.
     pub fn more_of_log<L>(
         mut self,
         decls: &Decls,
@@ -111,7 +111,7 @@ impl Fold {
         Ok(self)
     }
 
-    /// Adds one event more. After want of memory the fold is as before.
+    /// Adds one event. If it is out of memory, the fold is as before.
     pub fn add_event<L>(
         &mut self,
         decls: &Decls,
@@ -130,7 +130,7 @@ impl Fold {
         self.set(change)
     }
 
-    /// What an event brings to the answer, which stays. At most two expressions are asked.
+    /// How an event would change the answer, which stays as it is. It makes at most two evaluations.
     pub fn change<L>(
         &mut self,
         decls: &Decls,

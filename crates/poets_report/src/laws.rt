@@ -4,7 +4,7 @@ ghost use Rattle.std.specs.declared.cmp.Ordering.TheVariants.{Less, Equal, Great
 ghost use Rattle.poets_report.specs.Keys.{Key, KeyPrecedes, key_cmp, same_key};
 ghost use Rattle.poets_report.specs.Answers.{EveryAnswer, OneAnswer};
 
-/// Two keys are one, or one of them stands before the other.
+/// Two keys are one, or one of them comes before the other.
 pub fn order_of_keys()
     ensures less { (j k : Key) → (key_cmp j k ≡ Less) ↔ KeyPrecedes j k }
     ensures equal { (j k : Key) → (key_cmp j k ≡ Equal) ↔ (j ≡ k) }

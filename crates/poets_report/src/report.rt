@@ -10,7 +10,7 @@ use poets_value::{List, Memory, Name, Ty, Value};
 use std::alloc::Global;
 
 /// A report: a fold of events, in one piece or by a key.
-#[derive(Drop)]
+#[derive(Debug, PartialEq, Eq, Drop)]
 pub struct Report {
     pub name: Name,
     pub params: List<Param>,
@@ -28,7 +28,7 @@ pub struct Report {
 }
 
 /// What a report answers, where `None` is "undefined". A row is a key and a value.
-#[derive(Drop)]
+#[derive(Debug, PartialEq, Eq, Drop)]
 pub enum Answer {
     Single(Option<Value>),
     Rows(List<(Option<Value>, Option<Value>)>),

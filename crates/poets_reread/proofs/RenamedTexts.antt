@@ -144,13 +144,13 @@ contract_whole new (C.App f args) h = args_whole new args h
 pub command_whole : (new : Name → Name) (c : Command) → IsWholeCommand c → IsWholeCommand (renamed_command new c)
 command_whole new (plain.Register x c) h = contract_whole new c h
 command_whole new (plain.Transmit x e) h = h
-command_whole new (plain.Void x k) h = h
+command_whole new (plain.Void x k) h = tt
 command_whole new (plain.End x) h = tt
 command_whole new (plain.Show x) h = tt
 command_whole new (plain.Tally q args) h = args_whole new args h
 command_whole new (plain.Portfolio q args over) h = args_whole new args h
 command_whole new (plain.Watch q args) h = args_whole new args h
-command_whole new (plain.Read n) h = h
+command_whole new (plain.Read n) h = tt
 
 -- ---- names that a table has
 
@@ -188,14 +188,14 @@ module _ (t u : Table) (new : Name → Name) (has : (x : Name) → IsListed t x 
   pub command_written : (c : Command) → CanWriteCommand t c → CanWriteCommand u (renamed_command new c)
   command_written (plain.Register x c) h = (has x h.0, contract_written c h.1)
   command_written (plain.Transmit x e) h = (has x h.0, has e.sender h.1, has e.receiver h.2, h.3, has e.what.kind h.4)
-  command_written (plain.Void x k) h = has x h
+  command_written (plain.Void x k) h = (has x h.0, h.1)
   command_written (plain.End x) h = has x h
   command_written (plain.Show x) h = has x h
   command_written (plain.Tally q args) h = (has q h.0, args_written args h.1)
   command_written (plain.Portfolio q args over) h =
       (has q h.0, args_written args h.1, names_written over h.2, map_some new over h.3)
   command_written (plain.Watch q args) h = (has q h.0, args_written args h.1)
-  command_written (plain.Read n) h = tt
+  command_written (plain.Read n) h = h
 
 -- ---- texts
 
@@ -274,7 +274,7 @@ module _ (t u : Table) (new : Name → Name) (text : (x : Name) → IsListed t x
       ap₂ (λ (n b : List ℕ). codes "register " ++ n ++ codes " = " ++ b) (text x h.0) (contract_kept c h.1)
   command_kept (plain.Transmit x e) h =
       ap₂ (λ (n b : List ℕ). codes "transmit " ++ n ++ codes " " ++ b) (text x h.0) (event_kept e h.1 h.2 h.4)
-  command_kept (plain.Void x k) h = ap (λ (n : List ℕ). codes "void " ++ n ++ codes " " ++ decimal k) (text x h)
+  command_kept (plain.Void x k) h = ap (λ (n : List ℕ). codes "void " ++ n ++ codes " " ++ decimal k) (text x h.0)
   command_kept (plain.End x) h = ap (λ (n : List ℕ). codes "end " ++ n) (text x h)
   command_kept (plain.Show x) h = ap (λ (n : List ℕ). codes "show " ++ n) (text x h)
   command_kept (plain.Tally q args) h = ap (λ (n : List ℕ). codes "tally " ++ n) (call_kept q args h.0 h.1)

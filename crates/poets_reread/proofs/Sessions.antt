@@ -20,7 +20,7 @@ use Rattle.poets_session.specs.Written.{IsWrittenCommand}
 use Rattle.poets_session.proofs.LawsFitting.{read_table, read_written, scripts_written}
 use Rattle.poets_making.proofs.Taking.{scripts_taken}
 use Rattle.poets_stored.proofs.Sources.{IsRead, session_source}
-use Rattle.poets_stored.proofs.Fewness.{scripts_few}
+use Rattle.poets_session.proofs.Scripting.{scripts_few}
 use Rattle.poets_printed.specs.Numbered.{numbered_text}
 use Rattle.poets_reread.specs.Reread.{texts_of_calls, IsReadCall, AreReread, IsCallOf, BeginScripts}
 use Rattle.poets_reread.specs.Laws.{CallsOfSessionsAreReread, FirstCallsAreReread}

@@ -36,12 +36,12 @@ pub record IsReadCall (book : Book) (reports : List Report) (names : Table) (cal
   pub read : IsCommand tokens call.1
   pub shallow : ¬ (IsTooDeep tokens)
 
--- the agents, kinds, templates and reports of the book stand in the table
+-- the agents, kinds, templates and reports of the book are in the table
 abbrev pub AreListedNames : Book → List Report → Table → Type 0
 AreListedNames book reports names = (x : Name) → in_use book (report_names reports) x ≡ true → IsListed names x
 
--- the texts are calls of the book and its reports, whose names are numbered on from a table, and
--- have these texts again
+-- the texts are calls of the book and its reports, whose new names get the next numbers of a table,
+-- and the calls have these texts again
 pub record AreReread (book : Book) (reports : List Report) (before : Table) (texts : List (List ℕ)) : Type 0 where
   pub calls : List Call
   pub after : Table
@@ -56,7 +56,8 @@ pub record IsCallOf (statements : List Statement) (call : Call) : Type 0 where
   pub his : slice_get (scripts_of statements) place ≡ Some script
   pub has : Contains script call.1
 
--- in the history the commands of each clerk begin his script, and no other clerk's stand there
+-- in the history the commands of each clerk are a prefix of his script, and there are no commands
+-- of other clerks
 pub record BeginScripts (statements : List Statement) (h : List Entry) : Type 0 where
   pub own : (place : ℕ) (script : List Command) → slice_get (scripts_of statements) place ≡ Some script →
       IsPrefix (own (suc place) h) script

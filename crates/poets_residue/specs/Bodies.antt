@@ -24,10 +24,11 @@ AreGivens decls params args pairs =
 abbrev pub unfolded : StudiedBook → Template → List Expr → Contract
 unfolded s template args = body_of (book_of s.book) (marks_of s) (Some (template_of template)) (map expression_of args)
 
--- a number, the arguments that have to be asked, and the measure of the template's body
+-- the sum of a number, of the arguments that have to be evaluated, and of the measure of the
+-- template's body
 abbrev pub with_body : (Contract → ℕ) → Template → List Expr → ℕ → ℕ
 with_body measure template args n = n + to_ask args + measure (contract_of template.body)
 
--- what is asked to unfold the template is not asked again
+-- what is evaluated to unfold the template need not be evaluated again in its body
 abbrev pub Unfolds : StudiedBook → Template → List Expr → (old new : ℕ) → Type 0
 Unfolds s template args old new = new + questions (unfolded s template args) ≤ with_body questions template args old

@@ -21,7 +21,7 @@ use Rattle.poets_calculus.specs.Residual.{After, after_at, after, body_of, resid
 use Rattle.poets_residue.specs.Once.{ready_by, ready_at, ready}
 use Rattle.poets_residue.specs.Unfolding.{UnfoldsWithin, IsStudied}
 
--- a book that was studied meets what the laws of residuals ask of a book
+-- a book that was studied meets what the laws of residuals require of a book
 abbrev pub StudiedBooks : Type 0
 StudiedBooks = (book : Book) (marks : List Mark) →
     IsStudiedBook book marks → IsStudied book (marks_in book.templates marks)
@@ -60,8 +60,8 @@ ResidualWellFormed = (book : Book) (marks : Marks) (e : Event) (c r : Contract) 
     AreWellFormed book → IsDeclaredEvent book.declared e → IsWellFormed book.declared c →
     After book marks e c r → IsWellFormed book.declared r
 
--- with any number of unfoldings `after_at` gives of a well-formed contract, by a declared event, a
--- well-formed one
+-- from a well-formed contract, by a declared event, `after_at` gives a well-formed one, with any
+-- number of unfoldings
 abbrev pub ResidualAtWellFormed : Type 0
 ResidualAtWellFormed = (d : ℕ) (book : Book) (marks : Marks) (e : Event) (c : Contract) →
     AreWellFormed book → IsDeclaredEvent book.declared e → IsWellFormed book.declared c →
@@ -72,12 +72,12 @@ abbrev pub ResidualAtCountsFit : Type 0
 ResidualAtCountsFit = (d : ℕ) (book : Book) (marks : Marks) (e : Event) (c : Contract) →
     BodiesCountsFit book → CountsFit book c → CountsFit book (after_at d book marks e c)
 
--- of a normal form `after_at` gives a normal form
+-- from a normal form `after_at` gives a normal form
 abbrev pub ResidualAtNormal : Type 0
 ResidualAtNormal = (d : ℕ) (book : Book) (marks : Marks) (e : Event) (c : Contract) →
     normal book marks c ≡ c → normal book marks (after_at d book marks e c) ≡ after_at d book marks e c
 
--- of a whole contract, by a whole event, `after_at` gives a whole one
+-- from a whole contract, by a whole event, `after_at` gives a whole one
 abbrev pub ResidualAtWhole : Type 0
 ResidualAtWhole = (d : ℕ) (book : Book) (marks : Marks) (e : Event) (c : Contract) →
     IsWholeBook book → IsWholeEvent e → IsWholeContract c → IsWholeContract (after_at d book marks e c)
@@ -131,15 +131,15 @@ EnoughUnfoldings = (d : ℕ) (book : Book) (marks : Marks) (c : Contract) →
     AreRight book marks → IsGuarded book → BodiesCountsFit book → CountsFit book c →
     length book.templates ≤ d → ready_at d book marks c ≡ ready book marks c
 
--- in a guarded book there are ready in a contract the transmits and applications in its unguarded
--- positions, and what is ready in the bodies of these applications
+-- in a guarded book the transmits and applications in the unguarded positions of a contract are
+-- ready in it, and so is whatever is ready in the bodies of these applications
 abbrev pub ReadyUnfolds : Type 0
 ReadyUnfolds = (book : Book) (marks : Marks) (c : Contract) →
     AreRight book marks → IsGuarded book → BodiesCountsFit book → CountsFit book c →
     ready book marks c
     ≡ ready_by (λ f args. ready book marks (body_of book marks (template_in book.templates f) args)) marks c
 
--- what is ready in an application is itself, and what is ready in its body
+-- in an application the application itself is ready, and whatever is ready in its body
 abbrev pub ReadyOfApplication : Type 0
 ReadyOfApplication = (book : Book) (marks : Marks) (f : Name) (args : List Expression) →
     AreRight book marks → IsGuarded book → BodiesCountsFit book → CountsFit book (App f args) →

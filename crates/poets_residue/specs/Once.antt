@@ -1,4 +1,4 @@
--- What a residual asks at most where each different part is derived once.
+-- How many evaluations a residual takes at most where each different part is derived once.
 use Rattle.std.specs.Prelude.{◌≡◌, ℕ, zero, suc, ◌+◌, true, List, [], ◌∷◌, ◌++◌, length, sum_by}
 use Rattle.std.specs.Prelude.{if◌then◌else◌}
 use Rattle.std.specs.Set.{unique_keys}
@@ -28,30 +28,31 @@ ready_by unfolded marks (Seq a b) =
     ready_by unfolded marks a ++ (if nullable marks a then ready_by unfolded marks b else [])
 ready_by unfolded marks (App f args) = App f args ∷ unfolded f args
 
--- with at most so many unfoldings in a row
+-- the transmits and applications in unguarded positions, with at most so many unfoldings in a row
 abbrev pub ready_at : ℕ → Book → Marks → Contract → List Contract
 ready_at zero book marks c = ready_by (λ _ _. []) marks c
 ready_at (suc d) book marks c =
     ready_by (λ f args. ready_at d book marks (body_of book marks (template_in book.templates f) args)) marks c
 
--- in a guarded book no more unfoldings than templates stand in a row
+-- the transmits and applications in unguarded positions, unfolded bodies included: in a guarded
+-- book there are no more unfoldings in a row than templates
 abbrev pub ready : Book → Marks → Contract → List Contract
 ready book marks c = ready_at (length book.templates) book marks c
 
--- what one of them asks at most: a transmit its predicate and the arguments of its continuation, an
--- application its own arguments that are neither literals nor names, and the arguments of its
--- template's body
+-- the most evaluations of one of them: of a transmit its predicate and the arguments of its
+-- continuation, of an application its own arguments that are neither literals nor names, and the
+-- arguments of its template's body
 abbrev pub asked_of : Book → Contract → ℕ
 asked_of book (Transmit b p c) = 1 + arguments c
 asked_of book (App f args) = sum_by operated args + body_in (template_in book.templates f) arguments
 asked_of book _ = 0
 
--- what a residual of the contract asks at most: the sum over the different transmits and
--- applications in its unguarded positions
+-- the most evaluations that a residual of the contract takes: the sum over the different transmits
+-- and applications in its unguarded positions
 abbrev pub once : Book → Marks → Contract → ℕ
 once book marks c = sum_by (asked_of book) (unique_keys same_contract (ready book marks c))
 
--- what a residual of the contract asks at most, in a studied book (`once`)
+-- the most evaluations that a residual of the contract takes in a studied book (`once`)
 abbrev pub once_in : StudiedBook → Contract → ℕ
 once_in s c = once (book_of s.book) (marks_of s) c
 

@@ -53,16 +53,16 @@ NoneOperated = (book : Book) (reports : List Name) (marks : Marks) (c : Contract
     IsAmong (App f args) (ready book marks c) →
     sum_by operated args ≡ 0
 
--- in a typed book an application that is ready in a closed typed contract in normal form asks at
--- most one thing for each argument in its template's body
+-- in a typed book an application that is ready in a closed typed contract in normal form takes at
+-- most one evaluation for each argument in its template's body
 abbrev pub AskedOfBody : Type 0
 AskedOfBody = (book : Book) (reports : List Name) (marks : Marks) (c : Contract) (f : Name) (args : List Expression) →
     IsTypedBook book reports → IsTyped book reports [] c → normal book marks c ≡ c →
     IsAmong (App f args) (ready book marks c) →
     asked_of book (App f args) ≡ body_in (template_in book.templates f) arguments
 
--- in a typed book an application that is ready in the residual after a trace asks at most one thing
--- for each argument in its template's body
+-- in a typed book an application that is ready in the residual after a trace takes at most one
+-- evaluation for each argument in its template's body
 abbrev pub TraceAskedOfBody : Type 0
 TraceAskedOfBody = (book : Book) (reports : List Name) (marks : Marks) (o : Contract) (s : List Event) (f : Name)
     (args : List Expression) →

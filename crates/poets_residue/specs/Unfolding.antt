@@ -1,4 +1,4 @@
--- What the laws of residuals ask of a book.
+-- What the laws of residuals require of a book.
 use Rattle.poets_syntax.specs.Plain.{Book}
 use Rattle.poets_syntax.specs.WellFormed.{AreWellFormed}
 pub use Rattle.poets_syntax.specs.Applied.{BodiesCountsFit}

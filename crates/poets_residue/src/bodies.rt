@@ -48,7 +48,7 @@ fn value_of<L>(decls: &Decls, arg: &Expr, asks: &mut Asks<L>) -> Option<Value>
     }
 }
 
-/// What the parameters stand for, the newest last. The value of an argument that is a literal or a name is not asked for.
+/// What the parameters stand for, the newest last. An argument that is a literal or a name is not evaluated.
 pub fn argument_givens<L>(
     alloc: Global,
     decls: &Decls,
@@ -73,7 +73,7 @@ pub fn argument_givens<L>(
 }
 
 /// The number of the row of the body of a template with its parameters replaced, in normal form, which is entered in
-/// the table. What the arguments and the body ask is not asked again.
+/// the table. What is evaluated of the arguments and the body need not be evaluated again.
 pub fn unfold<L>(
     alloc: Global,
     studied: &Studied,

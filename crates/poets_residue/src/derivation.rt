@@ -229,8 +229,7 @@ pub fn residual_rows<L>(
     ensures asks { asks.new ≤ asks.old + width_in studied.now (contract_of_rows rows.now) }
     ensures once { asks.new ≤ asks.old + once_in studied.now (contract_of_rows rows.now) }
 {
-    // The book is checked and guarded, and the marks are right.
-    let _book = studied.book();
+    studied.recall();
     let arena = rows.table(alloc)?;
     let start = rows.root();
     let memo = Notes::new(alloc);

@@ -15,8 +15,7 @@ pub fn may_end(studied: &Studied, term: &Term) -> bool
     requires { CountsFitIn studied.now (contract_of term.now) }
     ensures { IsTrue result ↔ Perf (book_of studied.now.book) [] (contract_of term.now) [] }
 {
-    // The marks are right.
-    let _book = studied.book();
+    studied.recall();
     nullable(studied, term)
 }
 

@@ -83,7 +83,8 @@ pub fn enough_unfoldings()
 {}
 
 /// In a typed book the arguments of applications that are ready in a closed typed contract in normal form, as residuals
-/// are, are literals or declared names: such an application asks at most what its template's body has arguments.
+/// are, are literals or declared names: such an application takes at most as many evaluations as its template's body
+/// has arguments.
 pub fn arguments_are_values()
     ensures values { ReadyLiterals }
     ensures operated { NoneOperated }

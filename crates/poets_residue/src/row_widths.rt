@@ -135,8 +135,7 @@ pub fn wide_rows(studied: &Studied, rows: &Rows) -> u64
     requires { CountsFitIn studied.now (contract_of_rows rows.now) }
     ensures { result ≡ wide_in studied.now (contract_of_rows rows.now) }
 {
-    // The book is checked and guarded, and the marks are right.
-    let _book = studied.book();
+    studied.recall();
     let root = rows.root();
     let nodes = rows.nodes();
     WIDTH_CUT - measure(studied, nodes, root, WIDTH_CUT).left

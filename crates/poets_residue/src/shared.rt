@@ -15,8 +15,7 @@ pub fn may_end_rows(studied: &Studied, rows: &Rows) -> bool
     requires { CountsFitIn studied.now (contract_of_rows rows.now) }
     ensures { IsTrue result ↔ Perf (book_of studied.now.book) [] (contract_of_rows rows.now) [] }
 {
-    // The marks are right.
-    let _book = studied.book();
+    studied.recall();
     let root = rows.root();
     let nodes = rows.nodes();
     may_end_at(studied, nodes, root)

@@ -1,4 +1,4 @@
--- What a run promises that goes on with a journal.
+-- What a run that resumes a journal promises.
 use Rattle.std.specs.Prelude.{ℕ}
 use Rattle.poets_command.specs.Calls.{history_of}
 use Rattle.poets_disk.specs.Disks.{Seen}

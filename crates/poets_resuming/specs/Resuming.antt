@@ -36,7 +36,7 @@ pub record WasRecovered (names : Table) (statements : List Statement) (disk : Se
   pub history : IsHistoryOfTexts names statements texts after p
 
 -- the history h goes on after p: together they are a right history; in h the commands of each clerk
--- are his script, in order, and no other clerk's stand there
+-- are his script, in order, and there are no others
 pub record IsGoneOn (statements : List Statement) (p h : List Entry) : Type 0 where
   pub right : IsRightHistory (book_from statements) (reports_of statements) (p ++ h)
   pub own : (place : ℕ) (script : List Command) → slice_get (scripts_of statements) place ≡ Some script →
@@ -44,20 +44,20 @@ pub record IsGoneOn (statements : List Statement) (p h : List Entry) : Type 0 wh
   pub clerks : All (λ e. (1 ≤ e.clerk) × (e.clerk ≤ length (scripts_of statements))) h
 
 -- the history h goes on after p with a part of the scripts: in h the commands of each clerk are a
--- prefix of his
+-- prefix of his script
 pub record IsPartGoneOn (statements : List Statement) (p h : List Entry) : Type 0 where
   pub right : IsRightHistory (book_from statements) (reports_of statements) (p ++ h)
   pub own : (place : ℕ) (script : List Command) → slice_get (scripts_of statements) place ≡ Some script →
       IsPrefix (own (suc place) h) script
   pub clerks : All (λ e. (1 ≤ e.clerk) × (e.clerk ≤ length (scripts_of statements))) h
 
--- the lines of the history h, numbered on from the entries of p; names that the texts of p have are
--- in the table too
+-- the lines of the history h, with numbers that go on from the entries of p; the table has the
+-- names in the texts of p too
 abbrev pub lines_behind : Table → (p h : List Entry) → List ℕ
 lines_behind names p h = lines_from names (length p + 1) h
 
--- what comes of a session of clerks by which a journal is gone on with: how many of its calls are
--- acknowledged, the status, the session's own history, and the text that is to be written
+-- what comes of a session of clerks whose calls are made after those of a journal: how many of them
+-- are acknowledged, the status, the session's own history, and the text that is to be written
 pub data IsResumedAs (names : Table) (statements : List Statement) (disk disk' : Seen) (faults faults' : ℕ) :
     (stored status : ℕ) → List Entry → (text : List ℕ) → Type 0 where
   -- all calls are acknowledged
@@ -77,18 +77,18 @@ pub data IsResumedAs (names : Table) (statements : List Statement) (disk disk' :
       (texts : Texts) {number : ℕ} → OnlyStarted disk disk' → HeldTexts disk disk' faults faults' texts →
       IsRefusedText (book_from statements) (reports_of statements) names texts number →
       IsResumedAs names statements disk disk' faults faults' 0 DAMAGED [] (damaged_line number)
-  -- a record is not whole, or has no byte behind it
+  -- a record is not whole, or has no byte after it
   Damaged :
       (number : ℕ) → OnlyStarted disk disk' → FoundDamage disk disk' faults faults' number →
       IsResumedAs names statements disk disk' faults faults' 0 DAMAGED [] (damaged_line number)
-  -- the disk failed ahead of all calls
+  -- the disk failed before any call
   NotStarted :
       OnlyStarted disk disk' → Rose faults faults' →
       IsResumedAs names statements disk disk' faults faults' 0 DISK_FAULT [] []
 
 module _ {D : Type 0} (seen : D → Seen) (faults : D → ℕ) where
-  -- how a run ends that goes on with a journal by the calls of a session, by its sink and its disk
-  -- before and after
+  -- how a run ends that makes the calls of a session after those of a journal, by its sink and its
+  -- disk before and after
   pub data ResumesSession (names : Table) (statements : List Statement) (sink sink' : Stream) (disk disk' : D) :
       (status : ℕ) → List Entry → (stored : ℕ) → Type 0 where
     -- what came of the session was written, or as much of it as the sink or memory allowed
@@ -97,12 +97,12 @@ module _ {D : Type 0} (seen : D → Seen) (faults : D → ℕ) where
         IsResumedAs names statements (seen disk) (seen disk') (faults disk) (faults disk') stored answer h text →
         EndsWriting answer text sink sink' status →
         ResumesSession names statements sink sink' disk disk' status h stored
-    -- out of memory ahead of all new calls, and of all writing
+    -- out of memory before any new call and any writing
     NoneMade :
         OnlyStarted (seen disk) (seen disk') → sink' ≡ sink →
         ResumesSession names statements sink sink' disk disk' NO_MEMORY [] 0
-    -- out of memory once new calls were made, ahead of all writing: they are some of what the
-    -- scripts ask for, or all
+    -- out of memory once new calls were made, before any writing: they are some of what the scripts
+    -- ask for, or all
     PartMade :
         (texts : Texts) {after : Table} {p made : List Entry} {stored : ℕ} →
         WasRecovered names statements (seen disk) texts after p → IsPartGoneOn statements p made →
@@ -124,8 +124,9 @@ module _ {D : Type 0} (seen : D → Seen) (faults : D → ℕ) where
         ResumesSession names statements sink sink' disk disk' status h stored →
         EndsResuming source source' sink sink' disk disk' status h stored
 
--- a journal was gone on with: what the source had left and the sink held before and after, the disk
--- before and after, how many calls of the session are acknowledged, and the session's own history
+-- the calls of a session were made after those of a journal: what the source had left and the sink
+-- held before and after, the disk before and after, how many calls of the session are acknowledged,
+-- and the session's own history
 pub record HasResumed (left left' held held' : Option (List ℕ)) (disk disk' : Seen) (stored : ℕ) (h : List Entry) :
     Type 0 where
   -- the source was read to its end, and its bytes are the text of a session of clerks
@@ -134,18 +135,19 @@ pub record HasResumed (left left' held held' : Option (List ℕ)) (disk disk' : 
   pub names : Table
   pub statements : List Statement
   pub session : IsSession text F.Clerks names statements
-  -- the disk's file holds texts, where it is told, and p is the history of their calls
+  -- the disk's file holds texts, where the disk tells its bytes, and p is the history of their
+  -- calls
   pub texts : Texts
   pub after : Table
   pub p : List Entry
   pub recovered : WasRecovered names statements disk texts after p
-  -- the session's history goes on after it, and all its calls are stored
+  -- the session's history goes on after p, and all its calls are stored
   pub history : IsGoneOn statements p h
   pub stored_all : stored ≡ length h
-  -- the sink got its lines, numbered on
+  -- the sink got its lines, with numbers that go on from p
   pub written : Appends held held' (lines_behind after p h)
-  -- whatever a crash leaves now holds the texts of before, and then those of the session's calls
+  -- whatever a crash leaves now holds the earlier texts, and then those of the session's calls
   pub kept : (image : List ℕ) → MayLeave disk' image → HoldsTexts image (texts ++ texts_of after h)
-  -- and where the disk held the texts before, a crash at any moment of the run left them, and then
-  -- those of the session's first calls, however many
+  -- and if the disk held these texts before the run, a crash at any moment of it left them, and
+  -- then those of the session's first calls, however many
   pub during : AllHold disk texts → During disk disk' (HoldsFront texts (texts_of after h))

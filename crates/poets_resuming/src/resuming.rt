@@ -25,7 +25,7 @@ use std::sync::Wait;
 use std::thread::Threads;
 
 /// Reads a session of clerks, recovers the calls that the disk's journal holds, makes those of the session after them,
-/// keeps these too, and writes their lines, numbered on. A journal without calls is begun.
+/// keeps these too, and writes their lines, with numbers that go on from there. A journal without calls is begun.
 ///
 /// The history of the outcome is that of the session alone, and its stored calls are the session's.
 pub fn resume<S: Source, K: Sink, G: Gate + Sync, D: Disk + Drop + Send, R: Threads + Wait + Sync>(

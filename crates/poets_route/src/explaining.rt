@@ -218,8 +218,8 @@ fn over(
 /// A way in which the events perform the contract, and none exactly where they do not.
 ///
 /// It goes forward by residuals, and then back through them, from a way of the last one to a way of the first. On the
-/// way forward it keeps the residual ahead of each 256 events; on the way back it makes those of one such piece again,
-/// so each event is taken twice.
+/// way forward it keeps one residual for each 256 events; on the way back it makes those of one such piece again, so
+/// each event is taken twice.
 pub fn explain(
     alloc: Global,
     studied: &Studied,
@@ -231,8 +231,7 @@ pub fn explain(
     requires events { AreDeclaredIn studied.now events.now.items }
     ensures { IfOk result (IsExplained studied.now (contract_of term.now) events.now.items) }
 {
-    // The book is checked and guarded, and the marks are right.
-    let _book = studied.book();
+    studied.recall();
     let mut trails = Trails::new(alloc);
     let start = normal_rows_of(alloc, studied, term)?;
     let found = over(alloc, studied, start, events.as_slice(), &mut trails)?;

@@ -1,4 +1,4 @@
-//! What a history is taken for.
+//! What a history is judged by.
 ghost use Rattle.std.specs.Prelude.{◌≡◌};
 ghost use Rattle.poets_command.specs.Reports.{report_in, found_report};
 ghost use Rattle.poets_rules.specs.Rules.{reports_of_rules};
@@ -9,7 +9,7 @@ use poets_report::Report;
 use poets_value::{List, Name};
 
 /// A studied book and its reports: the rules by which commands are answered.
-#[derive(Drop)]
+#[derive(Debug, Drop)]
 pub struct Rules {
     pub studied: Studied,
     pub reports: List<Report>,

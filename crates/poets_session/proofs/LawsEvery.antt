@@ -20,15 +20,17 @@ use Rattle.poets_command.specs.Said.{Statement}
 use Rattle.poets_command.specs.Declarations.{template_in_statement, book_from}
 use Rattle.poets_command.specs.Plain.{TypeFault}
 use Rattle.poets_command.specs.TypedStatements.{first_fault}
+use Rattle.poets_command.proofs.Demanded.{statements_by_demands, statement_faults}
 use Rattle.poets_session.specs.declared.form.Form.{Form}
 use Rattle.poets_session.specs.Pieces.{Piece, pieces_of}
-use Rattle.poets_session.specs.Places.{PlaceFault, place_fault}
+use Rattle.poets_session.specs.Places.{ArePlaced}
 use Rattle.poets_session.specs.Sessions.{Text, IsStatementPiece, AreValid, IsNoSession}
 use Rattle.poets_session.specs.Refusals.{Refusal, BadByte, LongNumber, LongName, TooDeep, NoSentence, Place, Mistyped, Unguarded, refusal_at_byte, IsUnread, IsStopped, IsTemplateAt, IsUnreadable, AreRefused, IsRefused}
 use Rattle.poets_session.specs.code.Checking.{declares}
 use Rattle.poets_session.proofs.Saying.{Standing, standing_first, standing_more, standing_end}
 use Rattle.poets_session.proofs.Cycling.{at_statement, not_declared, first_declared}
 use Rattle.poets_session.proofs.Refusing.{read_as}
+use Rattle.poets_session.proofs.LawsPlaces.{every_placed}
 use Rattle.poets_lex.proofs.EveryText.{every-text}
 
 -- ---- statements
@@ -95,15 +97,16 @@ every_guarded statements unguarded none = unguarded on_cycle
 -- ---- whole sessions
 
 every_checked : {form : Form} {statements : List Statement} → (AreValid form statements → ⊥) → ((r : Refusal) → AreRefused form statements r → ⊥) →
-    (misplaced : Option PlaceFault) → place_fault form statements ≡ misplaced → (mistyped : TypeFault) → first_fault statements ≡ mistyped → ⊥
-every_checked invalid none (Some fault) e mistyped f = none (Place fault) (AreRefused.OutOfPlace e)
-every_checked invalid none None e (Some (number, fault)) f = none (Mistyped number fault) (AreRefused.NotTyped e f)
-every_checked {statements = statements} invalid none None e None f =
-    every_guarded statements (λ guarded. invalid (record { placed = e; typed = f; guarded = guarded }))
-    (λ number cycle found at. none (Unguarded number cycle) (AreRefused.NotGuarded e f found at))
+    ArePlaced form statements → (mistyped : TypeFault) → first_fault statements ≡ mistyped → ⊥
+every_checked {statements = statements} invalid none placed (Some (number, fault)) f = none (Mistyped number fault) (AreRefused.NotTyped placed ((statement_faults statements number fault).0 f))
+every_checked {statements = statements} invalid none placed None f =
+    every_guarded statements (λ guarded. invalid (record { placed = placed; typed = (statements_by_demands statements).0 f; guarded = guarded }))
+    (λ number cycle found at. none (Unguarded number cycle) (AreRefused.NotGuarded placed ((statements_by_demands statements).0 f) found at))
 
 pub every_valid : (form : Form) (statements : List Statement) → (AreValid form statements → ⊥) → ((r : Refusal) → AreRefused form statements r → ⊥) → ⊥
-every_valid form statements invalid none = every_checked invalid none (place_fault form statements) refl (first_fault statements) refl
+every_valid form statements invalid none =
+    every_placed form statements (λ placed. every_checked invalid none placed (first_fault statements) refl)
+    (λ fault out. none (Place fault) (AreRefused.OutOfPlace out))
 
 -- ---- texts
 

@@ -165,14 +165,14 @@ command_fits : (names : Table) {ts : List Tok} {command : plain.Command} → IsC
 command_fits names (IsCommand.Register c) h = let a = contract_fits names c h.1.1.1 in ((h.1.0, a.0.0), a.0.1)
 command_fits names (IsCommand.Transmit {n = n}) h =
     ((h.1.0, h.1.1.0, h.1.1.1.0, search rules, h.1.1.1.1.1.0), (whole n h.1.1.1.1.0, h.1.1.1.1.1.1.0))
-command_fits names IsCommand.Void h = (h.1.0, h.1.1.0)
+command_fits names IsCommand.Void h = ((h.1.0, h.1.1.0), tt)
 command_fits names IsCommand.End h = (h.1.0, tt)
 command_fits names IsCommand.Show h = (h.1.0, tt)
 command_fits names (IsCommand.Tally r) h = let a = arguments_fit names r h.1.1 in ((h.1.0, a.0), a.1)
 command_fits names (IsCommand.Portfolio r over) h =
     let a = arguments_fit names r h.1.1 in ((h.1.0, a.0, (names_fit names over a.2.1).0, list_some over), a.1)
 command_fits names (IsCommand.Watch r) h = let a = arguments_fit names r h.1.1 in ((h.1.0, a.0), a.1)
-command_fits names IsCommand.Read h = (tt, h.1.0)
+command_fits names IsCommand.Read h = (h.1.0, tt)
 
 parameter_fits : (names : Table) (ts rest : List Tok) (p : Param) → ReadsParameter ts p rest → AllFit names ts → IsListed names p.name × AllFit names rest
 parameter_fits names ts rest p (ReadsParameter.Typed e) h = (h.0, h.1.1.1)

@@ -13,6 +13,7 @@ use Rattle.poets_syntax.specs.Contract.{Contract}
 use Rattle.poets_syntax.specs.Plain as plain
 use Rattle.poets_meaning.specs.Guarded.{Exposes, UnguardedEdge, IsPath, IsCycle}
 use Rattle.poets_command.specs.Said.{Statement, Template}
+use Rattle.poets_command.proofs.Demanded.{statement_faults}
 use Rattle.poets_command.specs.Declarations.{book_from}
 use Rattle.poets_print.specs.Laws.{IsListed, CanWriteContract}
 use Rattle.poets_session.specs.declared.form.Form.{Form}
@@ -77,7 +78,8 @@ cycle_listed names statements (f ∷ others) h p =
 
 refusal_listed : (names : Table) (form : Form) (statements : List Statement) {r : Refusal} → All (IsWritten names) statements → AreRefused form statements r → IsListedRefusal names r
 refusal_listed names form statements h (AreRefused.OutOfPlace e) = tt
-refusal_listed names form statements h (AreRefused.NotTyped {number = number} {fault = fault} e f) = subst (IsTold names) f (fault_told names statements h)
+refusal_listed names form statements h (AreRefused.NotTyped {number = number} {fault = fault} e f) =
+    subst (IsTold names) ((statement_faults statements number fault).1 f) (fault_told names statements h)
 refusal_listed names form statements h (AreRefused.NotGuarded {cycle = cycle} e f found at) = cycle_listed names statements cycle h found.is_cycle
 
 -- a refusal at a byte or at a statement that says nothing tells no name

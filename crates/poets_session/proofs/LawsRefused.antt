@@ -9,20 +9,22 @@ use Rattle.poets_lex.proofs.OneWay.{one-reading, no-reading-at-fault, one-first-
 use Rattle.poets_grammar.specs.Tokens.{toks}
 use Rattle.poets_syntax.specs.Plain.{TypeCause}
 use Rattle.poets_command.specs.Said.{Statement}
+use Rattle.poets_command.proofs.Demanded.{statements_by_demands, no_type_fault, one_type_fault}
 use Rattle.poets_session.specs.declared.form.Form.{Form}
 use Rattle.poets_session.specs.Pieces.{pieces_of}
 use Rattle.poets_session.specs.Sessions.{Text, AreValid, IsReadAs, IsSession}
-use Rattle.poets_session.specs.Refusals.{Refusal, BadByte, LongNumber, LongName, Mistyped, Unguarded, refusal_at_byte, IsStopped, IsTemplateAt, IsUnreadable, AreRefused, IsRefused}
+use Rattle.poets_session.specs.Refusals.{Refusal, BadByte, LongNumber, LongName, Place, Mistyped, Unguarded, refusal_at_byte, IsStopped, IsTemplateAt, IsUnreadable, AreRefused, IsRefused}
 use Rattle.poets_session.specs.Texts.{refusal_text}
 use Rattle.poets_session.specs.Laws.{AreAlike}
 use Rattle.poets_session.proofs.LawsSaid.{read_once, stopped_unsaid, stopped_once}
 use Rattle.poets_session.proofs.LawsCycles.{cycle_begins_once, template_at_once}
+use Rattle.poets_session.proofs.LawsPlaces.{place_once, placed_unfaulted}
 
 -- ---- what is valid is not refused
 
 pub valid_unrefused : (form : Form) (statements : List Statement) (r : Refusal) → AreRefused form statements r → AreValid form statements → ⊥
-valid_unrefused form statements r (AreRefused.OutOfPlace e) v = let clash = sym e ∙ v.placed in cc
-valid_unrefused form statements r (AreRefused.NotTyped e f) v = let clash = sym f ∙ v.typed in cc
+valid_unrefused form statements r (AreRefused.OutOfPlace {fault = fault} e) v = placed_unfaulted form statements fault e v.placed
+valid_unrefused form statements r (AreRefused.NotTyped {number = number} {fault = fault} e f) v = no_type_fault statements number fault v.typed f
 valid_unrefused form statements r (AreRefused.NotGuarded {cycle = cycle} e f found stands) v = v.guarded cycle found.is_cycle
 
 unreadable_unread : {text : Text} {names others : Table} {r : Refusal} {statements : List Statement} → IsUnreadable text names r → IsReadAs text others statements → ⊥
@@ -39,9 +41,8 @@ session_unrefused text form names others r statements (IsRefused.Invalid {statem
 
 -- ---- one refusal of statements
 
-mistyped_once : (a b : ℕ × TypeCause) → Some a ≡ Some b → Mistyped a.0 a.1 ≡ Mistyped b.0 b.1
-mistyped_once a b e =
-    let same : a ≡ b = cc in ap (λ (p : ℕ × TypeCause). Mistyped p.0 p.1) same
+mistyped_once : {m n : ℕ} {x y : TypeCause} → (m ≡ n) × (x ≡ y) → Mistyped m x ≡ Mistyped n y
+mistyped_once {n = n} {x = x} e = ap (λ k. Mistyped k x) e.0 ∙ ap (Mistyped n) e.1
 
 alike : {r s : Refusal} → r ≡ s → AreAlike r s
 alike {r = r} e = subst (AreAlike r) e AreAlike.Same
@@ -50,17 +51,17 @@ begin_alike : {m n : ℕ} {f g : Name} {c d fs gs : List Name} → m ≡ n → f
 begin_alike e f p q = rw (p, q, e, f) AreAlike.Cycles
 
 pub statements_refused_once : (form : Form) (statements : List Statement) (r s : Refusal) → AreRefused form statements r → AreRefused form statements s → AreAlike r s
-statements_refused_once form statements r s (AreRefused.OutOfPlace e) (AreRefused.OutOfPlace f) = let same = sym e ∙ f in alike cc
-statements_refused_once form statements r s (AreRefused.OutOfPlace e) (AreRefused.NotTyped f g) = absurd (let clash = sym e ∙ f in cc)
-statements_refused_once form statements r s (AreRefused.OutOfPlace e) (AreRefused.NotGuarded f g d u) = absurd (let clash = sym e ∙ f in cc)
-statements_refused_once form statements r s (AreRefused.NotTyped e h) (AreRefused.OutOfPlace f) = absurd (let clash = sym e ∙ f in cc)
-statements_refused_once form statements r s (AreRefused.NotTyped {number = m} {fault = x} e h) (AreRefused.NotTyped {number = n} {fault = y} f g) = alike (mistyped_once (m, x) (n, y) (sym h ∙ g))
-statements_refused_once form statements r s (AreRefused.NotTyped e h) (AreRefused.NotGuarded f g d u) = absurd (let clash = sym h ∙ g in cc)
-statements_refused_once form statements r s (AreRefused.NotGuarded e h c t) (AreRefused.OutOfPlace f) = absurd (let clash = sym e ∙ f in cc)
-statements_refused_once form statements r s (AreRefused.NotGuarded e h c t) (AreRefused.NotTyped f g) = absurd (let clash = sym h ∙ g in cc)
+statements_refused_once form statements r s (AreRefused.OutOfPlace {fault = a} e) (AreRefused.OutOfPlace {fault = b} f) = alike (ap Place (place_once form statements a b e f))
+statements_refused_once form statements r s (AreRefused.OutOfPlace {fault = a} e) (AreRefused.NotTyped f g) = absurd (placed_unfaulted form statements a e f)
+statements_refused_once form statements r s (AreRefused.OutOfPlace {fault = a} e) (AreRefused.NotGuarded f g d u) = absurd (placed_unfaulted form statements a e f)
+statements_refused_once form statements r s (AreRefused.NotTyped e h) (AreRefused.OutOfPlace {fault = b} f) = absurd (placed_unfaulted form statements b f e)
+statements_refused_once form statements r s (AreRefused.NotTyped {number = m} {fault = x} e h) (AreRefused.NotTyped {number = n} {fault = y} f g) = alike (mistyped_once (one_type_fault statements m n x y h g))
+statements_refused_once form statements r s (AreRefused.NotTyped {number = m} {fault = x} e h) (AreRefused.NotGuarded f g d u) = absurd (no_type_fault statements m x g h)
+statements_refused_once form statements r s (AreRefused.NotGuarded e h c t) (AreRefused.OutOfPlace {fault = b} f) = absurd (placed_unfaulted form statements b f e)
+statements_refused_once form statements r s (AreRefused.NotGuarded e h c t) (AreRefused.NotTyped {number = n} {fault = y} f g) = absurd (no_type_fault statements n y h g)
 statements_refused_once form statements r s (AreRefused.NotGuarded {number = m} e h c t) (AreRefused.NotGuarded {number = n} f g d u) =
     let name = cycle_begins_once c d in
-    let number = template_at_once statements m n d.first h (subst (IsTemplateAt statements m) name t) u in
+    let number = template_at_once statements m n d.first ((statements_by_demands statements).1 h) (subst (IsTemplateAt statements m) name t) u in
     begin_alike number name c.begins d.begins
 
 -- ---- one refusal of a text

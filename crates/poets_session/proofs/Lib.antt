@@ -1,6 +1,7 @@
-pub mod Placing
-pub mod Shaping
 pub mod Cutting
+pub mod Shaping
+pub mod Limits
+pub mod Placing
 pub mod Saying
 pub mod Typing
 pub mod Cycling
@@ -8,6 +9,7 @@ pub mod Scripting
 pub mod Refusing
 pub mod LawsSaid
 pub mod LawsCycles
+pub mod LawsPlaces
 pub mod LawsRefused
 pub mod LawsEvery
 pub mod LawsFitting

@@ -1,98 +1,114 @@
 -- Statements one by one, each in its place.
-use Rattle.std.proofs.Common.{◌≡◌, ℕ, suc, ◌+◌, ◌<◌, ◌≤◌, true, false, List, [], ◌∷◌, ◌++◌, Some, None, length, take, drop, get_or, refl, sym, ap, subst, ◌∙◌, arith, option_and_then}
-use Rattle.std.proofs.Math.Seq.{take-suc, drop-cons}
-use Rattle.std.proofs.lemmas.List.{map-append, length-map, length-take-le, take_all, drop_all}
-use Rattle.std.proofs.lemmas.List.Sums.{fold-append}
+use Rattle.std.proofs.Common.{◌≡◌, ℕ, suc, ◌+◌, ◌<◌, ◌≤◌, true, false, List, [], ◌∷◌, ◌++◌, Some, None, length, take, drop, get_or, refl, sym, ap, subst, ◌∙◌, arith, append-nil}
+use Rattle.std.proofs.lemmas.List.{map-append, length-map, length-take-le, take_all, take_more}
 use Rattle.poets_command.specs.Statements.{statement_of, statements_of}
 use Rattle.poets_command.specs.declared.statement.Statement.{Statement}
 use Rattle.poets_command.specs.Said as said
 use Rattle.poets_session.specs.declared.form.Form.{Form}
 use Rattle.poets_session.specs.declared.counting.Part.{Part}
 use Rattle.poets_session.specs.declared.counting.Counts.{Counts}
-use Rattle.poets_session.specs.Places as P
-use Rattle.poets_session.specs.Places.{next_part, part_after, is_misplaced, is_too_many, lacks_journal, Misplaced, TooMany, PlaceFault, place_fault, place_fault_after}
-use Rattle.poets_session.specs.code.Counting.{part_of, AreCounted}
+use Rattle.poets_session.specs.Places.{KeepLimits, ArePlaced, IsMisplacedAt, IsTooManyAt}
+use Rattle.poets_session.specs.code.Placing.{next_part, part_after, is_too_many, lacks_journal}
+use Rattle.poets_session.specs.code.Counting.{AreCounted}
+use Rattle.poets_session.proofs.Cutting.{cut_around}
+use Rattle.poets_session.proofs.Shaping.{part_more, part_begins, part_whole, part_lacks, part_stops}
+use Rattle.poets_session.proofs.Limits.{limits_more, limits_broken}
 
--- the statements before may stand in their places and are not too many, and the rest decides
-pub record Placed (form : Form) (statements : List said.Statement) (part : Part) (counts : Counts) (before rest : List said.Statement) : Type 0 where
-  pub fault : place_fault_after form before rest ≡ place_fault form statements
-  pub after : part_after form before ≡ Some (part_of part)
+-- the statements stand in their places and keep the limits; they end in the part, and are counted
+pub record Placed (form : Form) (part : Part) (counts : Counts) (before : List said.Statement) : Type 0 where
+  pub after : part_after form before ≡ Some part
+  pub limits : KeepLimits before
   pub counting : AreCounted before counts
-
-pub part_more : (form : Form) (before : List said.Statement) (s : said.Statement) (p : P.Part) → part_after form before ≡ Some p → part_after form (before ++ s ∷ []) ≡ next_part form p s
-part_more form before s p e = fold-append (λ part s. option_and_then (λ p. next_part form p s) part) (Some P.OfBook) before (s ∷ []) ∙ ap (option_and_then (λ p. next_part form p s)) e
-
-pub may_stand : (form : Form) (before : List said.Statement) (s : said.Statement) (p next : P.Part) → part_after form before ≡ Some p → next_part form p s ≡ Some next → is_misplaced form before s ≡ false
-may_stand form before s p next e f = rw (part_more form before s p e, f) refl
-
-pub may_not_stand : (form : Form) (before : List said.Statement) (s : said.Statement) (p : P.Part) → part_after form before ≡ Some p → next_part form p s ≡ None → is_misplaced form before s ≡ true
-may_not_stand form before s p e f = rw (part_more form before s p e, f) refl
-
-pub placed_more :
-    (form : Form) (statements : List said.Statement) (part next : Part) (counts more : Counts) (before rest : List said.Statement) (s : said.Statement) →
-    Placed form statements part counts before (s ∷ rest) → Some (part_of next) ≡ next_part form (part_of part) s → is_too_many before s ≡ false →
-    AreCounted (before ++ s ∷ []) more → Placed form statements next more (before ++ s ∷ []) rest
-placed_more form statements part next counts more before rest s p e f counted = record {
-  fault = sym (rw (may_stand form before s (part_of part) (part_of next) p.after (sym e), f) refl) ∙ p.fault;
-  after = part_more form before s (part_of part) p.after ∙ sym e;
-  counting = counted;
-}
-
-pub misplaced :
-    (form : Form) (statements : List said.Statement) (part : Part) (counts : Counts) (before rest : List said.Statement) (s : said.Statement) →
-    Placed form statements part counts before (s ∷ rest) → None ≡ next_part form (part_of part) s → place_fault form statements ≡ Some (Misplaced (length before + 1))
-misplaced form statements part counts before rest s p e =
-    sym p.fault ∙ rw (may_not_stand form before s (part_of part) p.after (sym e)) refl
-
-pub too_many :
-    (form : Form) (statements : List said.Statement) (part next : Part) (counts : Counts) (before rest : List said.Statement) (s : said.Statement) →
-    Placed form statements part counts before (s ∷ rest) → Some (part_of next) ≡ next_part form (part_of part) s → is_too_many before s ≡ true →
-    place_fault form statements ≡ Some (TooMany (length before + 1))
-too_many form statements part next counts before rest s p e f =
-    sym p.fault ∙ rw (may_stand form before s (part_of part) (part_of next) p.after (sym e), f) refl
-
-pub at_end :
-    (form : Form) (statements : List said.Statement) (part : Part) (counts : Counts) (before : List said.Statement) →
-    Placed form statements part counts before [] → lacks_journal form (Some (part_of part)) ≡ false → place_fault form statements ≡ None
-at_end form statements part counts before p e = sym p.fault ∙ rw (p.after, e) refl
-
-pub journal_missing :
-    (form : Form) (statements : List said.Statement) (part : Part) (counts : Counts) (before : List said.Statement) →
-    Placed form statements part counts before [] → lacks_journal form (Some (part_of part)) ≡ true → place_fault form statements ≡ Some (Misplaced (length before + 1))
-journal_missing form statements part counts before p e = sym p.fault ∙ rw (p.after, e) refl
 
 -- ---- places in the list of statements
 
-pub before_more : (l : List Statement) (i : ℕ) (s : Statement) → i < length l → statements_of (take (i + 1) l) ≡ statements_of (take i l) ++ statement_of (get_or l i s) ∷ []
-before_more l i s h = let e : i + 1 ≡ suc i = omega arith in rw e (ap statements_of (take-suc l i s h) ∙ map-append statement_of (take i l) (get_or l i s ∷ []))
+before_more : (l : List Statement) (i : ℕ) (s : Statement) → i < length l → s ≡ get_or l i s →
+    statements_of (take (i + 1) l) ≡ statements_of (take i l) ++ statement_of s ∷ []
+before_more l i s h e =
+    ap statements_of (take_more l i s h ∙ ap (λ x. take i l ++ x ∷ []) (sym e)) ∙ map-append statement_of (take i l) (s ∷ [])
 
-pub rest_more : (l : List Statement) (i : ℕ) (s : Statement) → i < length l → statements_of (drop i l) ≡ statement_of (get_or l i s) ∷ statements_of (drop (i + 1) l)
-rest_more l i s h = let e : i + 1 ≡ suc i = omega arith in rw e (ap statements_of (drop-cons l i s h))
+cut_at : (l : List Statement) (i : ℕ) (s : Statement) → i < length l → s ≡ get_or l i s →
+    statements_of l ≡ statements_of (take i l) ++ statement_of s ∷ statements_of (drop (i + 1) l)
+cut_at l i s h e = ap statements_of (cut_around l i s h e) ∙ map-append statement_of (take i l) (s ∷ drop (i + 1) l)
 
-pub before_length : (l : List Statement) (i : ℕ) → i ≤ length l → length (statements_of (take i l)) ≡ i
-before_length l i h = length-map (take i l) statement_of ∙ length-take-le i l h
+before_length : (l : List Statement) (i : ℕ) → i ≤ length l → i + 1 ≡ suc (length (statements_of (take i l)))
+before_length l i h =
+    let e : length (statements_of (take i l)) ≡ i = length-map (take i l) statement_of ∙ length-take-le i l h in omega (arith, e)
 
--- the statement at the place is the first of the rest
-pub at_place :
+less_le : (i n : ℕ) → i < n → i ≤ n
+less_le i n h = omega (arith, h)
+
+-- ---- a statement more
+
+pub placed_more :
+    (form : Form) (part next : Part) (counts more : Counts) (l : List Statement) (i : ℕ) (s : Statement) → i < length l → s ≡ get_or l i s →
+    Placed form part counts (statements_of (take i l)) → Some next ≡ next_part form part (statement_of s) →
+    is_too_many (statements_of (take i l)) (statement_of s) ≡ false → AreCounted (statements_of (take i l) ++ statement_of s ∷ []) more →
+    Placed form next more (statements_of (take (i + 1) l))
+placed_more form part next counts more l i s h e p f few counted =
+    subst (Placed form next more) (sym (before_more l i s h e)) (record {
+      after = part_more form (statements_of (take i l)) (statement_of s) part p.after ∙ sym f;
+      limits = limits_more (statements_of (take i l)) (statement_of s) p.limits few;
+      counting = counted;
+    })
+
+pub misplaced :
     (form : Form) (part : Part) (counts : Counts) (l : List Statement) (i : ℕ) (s : Statement) → i < length l → s ≡ get_or l i s →
-    Placed form (statements_of l) part counts (statements_of (take i l)) (statements_of (drop i l)) →
-    Placed form (statements_of l) part counts (statements_of (take i l)) (statement_of s ∷ statements_of (drop (i + 1) l))
-at_place form part counts l i s h e p = subst (λ r. Placed form (statements_of l) part counts (statements_of (take i l)) r) (rest_more l i s h ∙ ap (λ x. statement_of x ∷ statements_of (drop (i + 1) l)) (sym e)) p
+    Placed form part counts (statements_of (take i l)) → None ≡ next_part form part (statement_of s) → IsMisplacedAt form (statements_of l) (i + 1)
+misplaced form part counts l i s h e p f =
+    let before = statements_of (take i l) in
+    record {
+      front = before;
+      rest = statement_of s ∷ statements_of (drop (i + 1) l);
+      cut = cut_at l i s h e;
+      counted = before_length l i (less_le i (length l) h);
+      begins = part_begins form before part p.after;
+      limits = p.limits;
+      wrong = part_stops form (before ++ statement_of s ∷ []) (part_more form before (statement_of s) part p.after ∙ sym f);
+    }
 
--- the statement belongs to those before the next
-pub past_place :
-    (form : Form) (part : Part) (counts : Counts) (l : List Statement) (i : ℕ) (s : Statement) → i < length l → s ≡ get_or l i s →
-    Placed form (statements_of l) part counts (statements_of (take i l) ++ statement_of s ∷ []) (statements_of (drop (i + 1) l)) →
-    Placed form (statements_of l) part counts (statements_of (take (i + 1) l)) (statements_of (drop (i + 1) l))
-past_place form part counts l i s h e p = subst (λ r. Placed form (statements_of l) part counts r (statements_of (drop (i + 1) l))) (sym (before_more l i s h ∙ ap (λ x. statements_of (take i l) ++ statement_of x ∷ []) (sym e))) p
+pub too_many :
+    (form : Form) (part next : Part) (counts : Counts) (l : List Statement) (i : ℕ) (s : Statement) → i < length l → s ≡ get_or l i s →
+    Placed form part counts (statements_of (take i l)) → Some next ≡ next_part form part (statement_of s) →
+    is_too_many (statements_of (take i l)) (statement_of s) ≡ true → IsTooManyAt form (statements_of l) (i + 1)
+too_many form part next counts l i s h e p f many =
+    let before = statements_of (take i l) in
+    record {
+      front = before;
+      one = statement_of s;
+      rest = statements_of (drop (i + 1) l);
+      cut = cut_at l i s h e;
+      counted = before_length l i (less_le i (length l) h);
+      begins = part_begins form (before ++ statement_of s ∷ []) next (part_more form before (statement_of s) part p.after ∙ sym f);
+      limits = p.limits;
+      broken = limits_broken before (statement_of s) many;
+    }
 
--- all statements are before the end
-pub past_all :
-    (form : Form) (part : Part) (counts : Counts) (l : List Statement) (i : ℕ) → length l ≤ i →
-    Placed form (statements_of l) part counts (statements_of (take i l)) (statements_of (drop i l)) →
-    Placed form (statements_of l) part counts (statements_of l) []
-past_all form part counts l i h p =
-    let front : statements_of (take i l) ≡ statements_of l = ap statements_of (take_all i l h) in
-    let rest : statements_of (drop i l) ≡ [] = ap statements_of (drop_all i l h) in
-    subst (λ r. Placed form (statements_of l) part counts (statements_of l) r) rest
-    (subst (λ b. Placed form (statements_of l) part counts b (statements_of (drop i l))) front p)
+-- ---- all of them
+
+past_all : (form : Form) (part : Part) (counts : Counts) (l : List Statement) (i : ℕ) → length l ≤ i → Placed form part counts (statements_of (take i l)) →
+    Placed form part counts (statements_of l)
+past_all form part counts l i h p = subst (Placed form part counts) (ap statements_of (take_all i l h)) p
+
+pub at_end :
+    (form : Form) (part : Part) (counts : Counts) (l : List Statement) (i : ℕ) → length l ≤ i → Placed form part counts (statements_of (take i l)) →
+    false ≡ lacks_journal form part → ArePlaced form (statements_of l)
+at_end form part counts l i h p e =
+    let all = past_all form part counts l i h p in
+    record { shape = part_whole form (statements_of l) part all.after (sym e); limits = all.limits }
+
+pub journal_missing :
+    (form : Form) (part : Part) (counts : Counts) (l : List Statement) (i : ℕ) → length l ≤ i → Placed form part counts (statements_of (take i l)) →
+    true ≡ lacks_journal form part → IsMisplacedAt form (statements_of l) (length l + 1)
+journal_missing form part counts l i h p e =
+    let all = past_all form part counts l i h p in
+    let long : length (statements_of l) ≡ length l = length-map l statement_of in
+    record {
+      front = statements_of l;
+      rest = [];
+      cut = sym (append-nil (statements_of l));
+      counted = omega (arith, long);
+      begins = part_begins form (statements_of l) part all.after;
+      limits = all.limits;
+      wrong = part_lacks form (statements_of l) part all.after (sym e);
+    }

@@ -1,20 +1,19 @@
 -- Refusals, phase by phase.
-use Rattle.std.proofs.Common.{◌≡◌, ◌≢◌, ℕ, List, [], inl, inr, Option, Some, None, Result, Ok, Err, IfErr, refl, sym, subst}
+use Rattle.std.proofs.Common.{◌≡◌, ◌≢◌, List, [], inl, inr, Some, None, Result, Ok, Err, IfErr, refl, sym, subst}
 use Rattle.poets_lex.specs.declared.token.Token.{Token}
 use Rattle.poets_lex.specs.declared.fault.LexFault.{LexFault}
 use Rattle.poets_lex.specs.declared.fault.LexFault.TheVariants as L
 use Rattle.poets_lex.specs.Table.{Table}
 use Rattle.poets_lex.specs.Lexes.{Lexes, FirstFault}
 use Rattle.poets_grammar.specs.Tokens.{toks}
-use Rattle.poets_syntax.specs.Plain.{TypeCause}
 use Rattle.poets_command.specs.Said.{Statement}
-use Rattle.poets_command.specs.TypedStatements.{first_fault}
+use Rattle.poets_command.specs.StatementDemands.{AreTypedStatements}
 use Rattle.poets_session.specs.Pieces.{pieces_of}
-use Rattle.poets_session.specs.Places.{Misplaced, TooMany, place_fault}
-use Rattle.poets_session.specs.code.Counting.{fault_of}
+use Rattle.poets_session.specs.Places.{Misplaced, TooMany, ArePlaced}
+use Rattle.poets_session.specs.code.Placing.{TellsPlace}
 use Rattle.poets_session.specs.Sessions.{Text, IsReadAs}
 use Rattle.poets_session.specs.code.Splitting.{AreSaid}
-use Rattle.poets_session.specs.Refusals.{Refusal, BadByte, LongNumber, LongName, Place, Mistyped, IsStopped, IsUnreadable, AreRefused, IsRefused}
+use Rattle.poets_session.specs.Refusals.{Refusal, BadByte, LongNumber, LongName, Place, IsStopped, IsUnreadable, AreRefused, IsRefused}
 use Rattle.poets_session.specs.code.Checking.{IsTypeRefusal, IsGuardRefusal}
 use Rattle.poets_session.specs.Causes.{IsCauseOf, IsFirstFaultOf, IsFirstFault, lex_cause, place_cause}
 use Rattle.poets_session.specs.declared.form.Form.{Form}
@@ -45,26 +44,23 @@ read_as text names tokens statements lexed said = record { tokens = tokens; lexe
 
 -- ---- statements that are refused
 
-pub place_refused : (form : Form) (statements : List Statement) (fault : PlaceFault) → place_fault form statements ≡ Some (fault_of fault) → IsCauseOf (AreRefused form statements) (place_cause fault)
+pub place_refused : (form : Form) (statements : List Statement) (fault : PlaceFault) → TellsPlace form statements fault → IsCauseOf (AreRefused form statements) (place_cause fault)
 place_refused form statements (P.Misplaced number) e = inr (Place (Misplaced number), refl, AreRefused.OutOfPlace e)
 place_refused form statements (P.TooMany number) e = inr (Place (TooMany number), refl, AreRefused.OutOfPlace e)
 
-mistyped : (form : Form) (statements : List Statement) → place_fault form statements ≡ None →
-    (found : Option (ℕ × TypeCause)) → first_fault statements ≡ found → (r : Refusal) → IsTypeRefusal found r → AreRefused form statements r
-mistyped form statements placed None e r h = absurd cc
-mistyped form statements placed (Some (number, fault)) e r h =
-    let same : Mistyped number fault ≡ r = cc in subst (AreRefused form statements) same (AreRefused.NotTyped placed e)
+mistyped : (form : Form) (statements : List Statement) → ArePlaced form statements → (r : Refusal) → IsTypeRefusal statements r → AreRefused form statements r
+mistyped form statements placed r h = subst (AreRefused form statements) (sym h.told) (AreRefused.NotTyped placed h.first)
 
-pub type_refused : (form : Form) (statements : List Statement) (cause : SessionCause) → place_fault form statements ≡ None →
-    IsCauseOf (IsTypeRefusal (first_fault statements)) cause → IsCauseOf (AreRefused form statements) cause
+pub type_refused : (form : Form) (statements : List Statement) (cause : SessionCause) → ArePlaced form statements →
+    IsCauseOf (IsTypeRefusal statements) cause → IsCauseOf (AreRefused form statements) cause
 type_refused form statements cause placed h =
-    IsCauseOf-map (IsTypeRefusal (first_fault statements)) (AreRefused form statements) cause (mistyped form statements placed (first_fault statements) refl) h
+    IsCauseOf-map (IsTypeRefusal statements) (AreRefused form statements) cause (mistyped form statements placed) h
 
-unguarded : (form : Form) (statements : List Statement) → place_fault form statements ≡ None → first_fault statements ≡ None →
+unguarded : (form : Form) (statements : List Statement) → ArePlaced form statements → AreTypedStatements statements →
     (r : Refusal) → IsGuardRefusal statements r → AreRefused form statements r
 unguarded form statements placed typed r h = subst (AreRefused form statements) (sym h.told) (AreRefused.NotGuarded placed typed h.found h.declared)
 
-pub guard_refused : (form : Form) (statements : List Statement) (cause : SessionCause) → place_fault form statements ≡ None → first_fault statements ≡ None →
+pub guard_refused : (form : Form) (statements : List Statement) (cause : SessionCause) → ArePlaced form statements → AreTypedStatements statements →
     IsCauseOf (IsGuardRefusal statements) cause → IsCauseOf (AreRefused form statements) cause
 guard_refused form statements cause placed typed h = IsCauseOf-map (IsGuardRefusal statements) (AreRefused form statements) cause (unguarded form statements placed typed) h
 

@@ -1,12 +1,14 @@
 -- The scripts and the journal of statements, one statement after the other.
-use Rattle.std.proofs.Common.{◌≡◌, ◌≢◌, ℕ, ◌<◌, Bool, true, false, List, [], ◌∷◌, ◌++◌, Option, Some, None, All, length, drop, get_or, refl, sym, ap, subst, ◌∙◌, arith, if◌then◌else◌}
+use Rattle.std.proofs.Common.{◌≡◌, ◌≢◌, ℕ, ◌<◌, ◌≤◌, List, [], ◌∷◌, ◌++◌, All, length, drop, get_or, refl, sym, ap, subst, ◌∙◌, arith}
+use Rattle.std.specs.Prelude.{◌^◌, count_by, cond}
 use Rattle.std.specs.List.{onto_first}
 use Rattle.std.specs.Arc.{arc_value}
 use Rattle.std.specs.declared.alloc.Global.{Global}
 use Rattle.std.specs.declared.sync.Arc.{Arc}
 use Rattle.std.proofs.lemmas.List.{map-append, length-map, get_or-map}
-use Rattle.std.proofs.lemmas.List.Elements.{All-nil, All-cons}
-use Rattle.std.proofs.lemmas.Bool.Decides.{nat_tests}
+use Rattle.std.proofs.lemmas.List.Elements.{All-weaker}
+use Rattle.std.proofs.lemmas.List.Sums.{sum_by-cons}
+use Rattle.poets_value.specs.Limits.{most_clerks}
 use Rattle.poets_value.specs.Listed.{Listed}
 use Rattle.poets_command.specs.declared.call.Command.{Command as CodeCommand}
 use Rattle.poets_command.specs.Plain as plain
@@ -17,7 +19,7 @@ use Rattle.poets_command.specs.declared.statement.Statement.{Statement}
 use Rattle.poets_command.specs.declared.statement.Statement.TheVariants as S
 use Rattle.poets_command.specs.Said as said
 use Rattle.poets_session.specs.declared.form.Form.{Form}
-use Rattle.poets_session.specs.Places.{PlaceFault, is_misplaced, is_too_many, place_fault, place_fault_after}
+use Rattle.poets_session.specs.Places.{is_clerk, HasClerk, ArePlaced}
 use Rattle.poets_session.specs.code.Scripts.{HasShortNumber}
 use Rattle.poets_session.specs.Sessions.{commands_ahead, scripts_of, commands_in, numbered_call}
 
@@ -97,21 +99,24 @@ number_at l i s h all =
     let inside : i < length (statements_of l) = rw length-map h.0 in
     subst HasShortNumber (get_or-map statement_of l i s (statement_of s) h.0 ∙ ap statement_of (sym h.1)) (all i (statement_of s) inside)
 
-number_fits : (before : List said.Statement) (s : said.Statement) → is_too_many before s ≡ false → HasShortNumber s
-number_fits before (Numbered clerk r) e = grind (arith, nat_tests)
-number_fits before s e = tt
-
-no_fault : (a b : Bool) (m t : PlaceFault) (rest : Option PlaceFault) → (if a then Some m else if b then Some t else rest) ≡ None → (b ≡ false) × (rest ≡ None)
-no_fault true b m t rest e = absurd cc
-no_fault false true m t rest e = absurd cc
-no_fault false false m t rest e = (refl, e)
-
-numbers_fit_after : (form : Form) (before statements : List said.Statement) → place_fault_after form before statements ≡ None → All HasShortNumber statements
-numbers_fit_after form before [] e = All-nil HasShortNumber
-numbers_fit_after form before (s ∷ statements) e =
-    let h = no_fault (is_misplaced form before s) (is_too_many before s) _ _ _ e in
-    All-cons HasShortNumber s statements (number_fits before s h.0) (numbers_fit_after form (before ++ s ∷ []) statements h.1)
+number_fits : (s : said.Statement) → HasClerk s → HasShortNumber s
+number_fits (Numbered clerk r) h = let short : clerk < 2 ^ 32 = omega (arith, h.1) in short
+number_fits s h = tt
 
 -- statements that stand in their places have short numbers
-pub numbers_fit : (form : Form) (statements : List said.Statement) → place_fault form statements ≡ None → All HasShortNumber statements
-numbers_fit form statements e = numbers_fit_after form [] statements e
+pub numbers_fit : (form : Form) (statements : List said.Statement) → ArePlaced form statements → All HasShortNumber statements
+numbers_fit form statements placed = All-weaker HasClerk HasShortNumber number_fits statements placed.limits.numbers
+
+-- ---- how many there are
+
+-- one script for each `clerk`
+scripts_counted : (statements : List said.Statement) → length (scripts_of statements) ≡ count_by is_clerk statements
+scripts_counted [] = omega arith
+scripts_counted (Clerk ∷ statements) =
+    omega (arith, scripts_counted statements, sum_by-cons (λ (x : said.Statement). cond (is_clerk x) 1 0) Clerk statements)
+scripts_counted (s ∷ statements) =
+    omega (arith, scripts_counted statements, sum_by-cons (λ (x : said.Statement). cond (is_clerk x) 1 0) s statements)
+
+-- statements that stand in their places have no more scripts than clerks may be
+pub scripts_few : (form : Form) (statements : List said.Statement) → ArePlaced form statements → length (scripts_of statements) ≤ most_clerks
+scripts_few form statements placed = omega (arith, placed.limits.clerks, scripts_counted statements)

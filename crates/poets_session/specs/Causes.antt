@@ -1,4 +1,4 @@
--- What a fault tells.
+-- What a fault says.
 use Rattle.std.specs.Prelude.{◌≡◌, ℕ, ◌⊎◌, List, Option, Some, None, option_map}
 use Rattle.poets_lex.specs.declared.fault.LexFault.{LexFault}
 use Rattle.poets_lex.specs.declared.fault.LexFault.TheVariants as L
@@ -22,7 +22,7 @@ use Rattle.poets_session.specs.declared.fault.SessionCause.TheVariants as C
 use Rattle.poets_session.specs.declared.fault.SessionFault.{SessionFault}
 use Rattle.poets_session.specs.declared.form.Form.{Form}
 
--- want of memory is told in one way
+-- the cause of a fault of tokens; "out of memory" is one cause, wherever it happened
 abbrev pub lex_cause : LexFault → SessionCause
 lex_cause L.Memory = C.Memory
 lex_cause fault = C.Lex fault
@@ -42,7 +42,7 @@ cause_by fault cause = C.Types fault
 abbrev pub type_cause : TypeFault → SessionCause
 type_cause fault = cause_by fault fault.cause
 
--- the refusal that a cause tells; want of memory is none
+-- the refusal that a cause reports; "out of memory" is none
 abbrev pub refusal_of : SessionCause → Option Refusal
 refusal_of (C.Lex fault) = refusal_at_byte fault
 refusal_of (C.Syntax number S.TooDeep) = Some (TooDeep number)
@@ -55,14 +55,14 @@ refusal_of (C.Guard number (G.Unguarded cycle)) = Some (Unguarded number cycle.i
 refusal_of (C.Guard number G.Memory) = None
 refusal_of C.Memory = None
 
--- the cause tells such a refusal, or want of memory
+-- the cause reports a refusal of which this holds, or that memory ran out
 abbrev pub IsCauseOf : (Refusal → Type 0) → SessionCause → Type 0
 IsCauseOf Is cause = (cause ≡ C.Memory) ⊎ ((r : Refusal) × (refusal_of cause ≡ Some r) × Is r)
 
--- the fault is the first of the statements, or want of memory
+-- the fault is the first one of the statements, or memory ran out
 abbrev pub IsFirstFaultOf : Form → List Statement → SessionFault → Type 0
 IsFirstFaultOf form statements fault = IsCauseOf (AreRefused form statements) fault.what
 
--- the fault is the first of the text, or want of memory
+-- the fault is the first one of the text, or memory ran out
 abbrev pub IsFirstFault : Text → Form → SessionFault → Type 0
 IsFirstFault text form fault = IsCauseOf (IsRefused text form fault.names) fault.what

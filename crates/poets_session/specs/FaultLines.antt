@@ -6,6 +6,6 @@ use Rattle.poets_session.specs.Texts.{refusal_text}
 use Rattle.poets_session.specs.Causes.{refusal_of}
 use Rattle.poets_session.specs.declared.fault.SessionCause.{SessionCause}
 
--- the line is that of the refusal which the cause tells
+-- the line is that of the refusal which the cause reports
 abbrev pub IsLineOf : Table → SessionCause → String Global → Type 0
 IsLineOf names cause line = option_map (refusal_text names) (refusal_of cause) ≡ Some (string_bytes line)

@@ -1,14 +1,10 @@
 -- The laws of sessions, as statements.
-use Rattle.std.specs.Prelude.{◌≡◌, ℕ, true, false, List, [], ◌∷◌, ◌++◌, Some, None, IsSome, All}
-use Rattle.std.specs.Prelude.{◌↔◌}
+use Rattle.std.specs.Prelude.{◌≡◌, ℕ, List, ◌∷◌, All}
 use Rattle.poets_value.specs.declared.value.Name.{Name}
 use Rattle.poets_lex.specs.Table.{Table, IsTable}
 use Rattle.poets_lex.specs.declared.token.Tok.{Tok}
 use Rattle.poets_command.specs.Said.{Statement}
 use Rattle.poets_grammar.specs.Statements.{IsStatement}
-use Rattle.poets_session.specs.Places.{Misplaced, part_after, is_misplaced, lacks_journal}
-use Rattle.poets_session.specs.Places.{place_fault}
-use Rattle.poets_session.specs.Shapes.{HasShape, Begins, GoesWrongAt}
 use Rattle.poets_session.specs.Sessions.{Text, AreValid, IsReadAs, IsSession, IsNoSession}
 use Rattle.poets_session.specs.Sessions.{scripts_of, journal_of}
 use Rattle.poets_session.specs.Refusals.{Refusal, Unguarded, AreRefused, IsRefused}
@@ -79,14 +75,14 @@ SessionsAreWritten =
     (text : Text) (names : Table) (statements : List Statement)
     → IsReadAs text names statements → IsTable names × All (IsWritten names) statements
 
--- what tokens say as a statement is written with a table, where each name among the tokens stands
--- in it, and the numbers and days are those of the language
+-- what tokens say as a statement is written with the names of a table that has each name among the
+-- tokens, if their numbers and days are those of the language
 abbrev pub StatementIsWritten : Type 0
 StatementIsWritten =
     (names : Table) (ts : List Tok) (s : Statement) → AllFit names ts → IsStatement ts s → IsWritten names s
 
--- the commands of statements that are written with the names of a table are written with them: each
--- can be printed, and reads back
+-- where statements are written with the names of a table, each of their commands can be printed
+-- with them, and reads back
 abbrev pub CommandsAreWritten : Type 0
 CommandsAreWritten =
     (names : Table) (statements : List Statement)
@@ -94,44 +90,14 @@ CommandsAreWritten =
     → All (All (IsWrittenCommand names)) (scripts_of statements)
     × All (λ call. IsWrittenCommand names call.1) (journal_of statements)
 
--- the names in a text's first fault stand in its table
+-- the names in a text's first fault are in its table
 abbrev pub FaultsOfTextsAreListed : Type 0
 FaultsOfTextsAreListed =
     (text : Text) (form : Form) (fault : SessionFault) → IsFirstFault text form fault → HasListedNames fault
 
--- the names in the first fault of statements stand in its table, where the statements are written
--- with the names of that table
+-- where statements are written with the names of a table, the names in their first fault are in
+-- that table
 abbrev pub FaultsOfStatementsAreListed : Type 0
 FaultsOfStatementsAreListed =
     (form : Form) (statements : List Statement) (fault : SessionFault)
     → All (IsWritten fault.names) statements → IsFirstFaultOf form statements fault → HasListedNames fault
-
--- statements begin a session's shape exactly where each of them stands in its place
-abbrev pub PlacesByShape : Type 0
-PlacesByShape = (form : Form) (front : List Statement) → IsSome (part_after form front) ↔ Begins form front
-
--- a statement is misplaced exactly where those before it begin no session's shape with it
-abbrev pub MisplacedByShape : Type 0
-MisplacedByShape =
-    (form : Form) (before : List Statement) (s : Statement)
-    → (is_misplaced form before s ≡ true) ↔ ¬ (Begins form (before ++ s ∷ []))
-
--- statements have a session's shape exactly where each of them stands in its place and no `journal`
--- is missing
-abbrev pub WholeByShape : Type 0
-WholeByShape =
-    (form : Form) (statements : List Statement)
-    → HasShape form statements
-    ↔ (IsSome (part_after form statements) × (lacks_journal form (part_after form statements) ≡ false))
-
--- the fault `Misplaced` has the number of the first statement, or of the end, with which the shape
--- goes wrong
-abbrev pub FirstMisplaced : Type 0
-FirstMisplaced =
-    (form : Form) (statements : List Statement) (number : ℕ)
-    → place_fault form statements ≡ Some (Misplaced number) → GoesWrongAt form statements number
-
--- statements without a fault of their places have a session's shape
-abbrev pub PlacedHaveShape : Type 0
-PlacedHaveShape =
-    (form : Form) (statements : List Statement) → place_fault form statements ≡ None → HasShape form statements

@@ -1,6 +1,6 @@
 pub mod Pieces
-pub mod Places
 pub mod Shapes
+pub mod Places
 pub mod Sessions
 pub mod Refusals
 pub mod Texts

@@ -16,13 +16,13 @@ use Rattle.poets_grammar.specs.Statements.{IsStatement}
 use Rattle.poets_grammar.specs.TooDeep.{IsTooDeep}
 use Rattle.poets_command.specs.Said.{Statement, Template}
 use Rattle.poets_command.specs.Declarations.{book_from}
-use Rattle.poets_command.specs.TypedStatements.{first_fault}
+use Rattle.poets_command.specs.StatementDemands.{AreTypedStatements, FirstTypeFault}
 use Rattle.poets_session.specs.Pieces.{Piece, pieces_of}
-use Rattle.poets_session.specs.Places.{PlaceFault, place_fault}
+use Rattle.poets_session.specs.Places.{PlaceFault, ArePlaced, IsPlaceFault}
 use Rattle.poets_session.specs.Sessions.{Text, IsStatementPiece, IsReadAs}
 use Rattle.poets_session.specs.declared.form.Form.{Form}
 
--- why a text is no session; bytes count from 0 and statements from 1
+-- why a text is no session; bytes are counted from 0 and statements from 1
 pub data Refusal : Type 0 where
   BadByte : (at : ℕ) → Refusal
   LongNumber : (at : ℕ) → Refusal
@@ -34,7 +34,7 @@ pub data Refusal : Type 0 where
   -- the cycle of unguarded edges, which begins with the template of the statement
   Unguarded : (statement : ℕ) → (cycle : List Name) → Refusal
 
--- want of memory is no refusal
+-- the refusal of a fault of tokens; "out of memory" is none
 abbrev pub refusal_at_byte : LexFault → Option Refusal
 refusal_at_byte (L.BadByte at) = Some (BadByte at)
 refusal_at_byte (L.LongNumber at) = Some (LongNumber at)
@@ -65,31 +65,30 @@ pub record IsTemplateAt (statements : List Statement) (number : ℕ) (f : Name) 
   pub stands : slice_get statements place ≡ Some (Template template)
   pub named : template.name ≡ f
 
--- why a text says no statements: a fault of its bytes, else the first statement that says nothing;
--- the names are those of its tokens
+-- why a text says no statements: a fault of its bytes, else the first statement that says nothing
 pub data IsUnreadable (text : Text) (names : Table) : Refusal → Type 0 where
-  -- a byte that begins no token, a number or a name that is too long
+  -- a byte that begins no token, a number or a name that is too long; the names may be any
   AtByte : {r : Refusal} (fault : LexFault) → FirstFault [] text fault → refusal_at_byte fault ≡ Some r →
       IsUnreadable text names r
-  -- a statement that is too deep or no sentence
+  -- a statement that is too deep or no sentence; the names are those of the text's tokens
   AtStatement : {tokens : List Token} {r : Refusal} → Lexes [] text 0 tokens names →
       IsStopped (pieces_of (toks tokens)) r → IsUnreadable text names r
 
 -- why statements are no valid session of the form: phase by phase, and in each phase the least
 -- statement
 pub data AreRefused (form : Form) (statements : List Statement) : Refusal → Type 0 where
-  -- one that may not stand in its place, or is one too many
-  OutOfPlace : {fault : PlaceFault} → place_fault form statements ≡ Some fault →
+  -- a statement that may not be in its place, or is one too many
+  OutOfPlace : {fault : PlaceFault} → IsPlaceFault form statements fault →
       AreRefused form statements (Place fault)
-  -- one that is not typed
+  -- a statement that is not typed
   NotTyped :
-      {number : ℕ} {fault : TypeCause} → place_fault form statements ≡ None →
-      first_fault statements ≡ Some (number, fault) →
+      {number : ℕ} {fault : TypeCause} → ArePlaced form statements →
+      FirstTypeFault statements number fault →
       AreRefused form statements (Mistyped number fault)
   -- a book with a cycle of unguarded edges: one that begins with the first template that lies on
   -- any
   NotGuarded :
-      {number : ℕ} {cycle : List Name} → place_fault form statements ≡ None → first_fault statements ≡ None →
+      {number : ℕ} {cycle : List Name} → ArePlaced form statements → AreTypedStatements statements →
       (found : IsFirstCycle (book_from statements) cycle) → IsTemplateAt statements number found.first →
       AreRefused form statements (Unguarded number cycle)
 

@@ -1,4 +1,4 @@
--- Sessions: texts of statements that stand in their places, are typed, and have a guarded book.
+-- Sessions: texts of statements that are in their places, are typed, and have a guarded book.
 use Rattle.std.specs.Prelude.{◌≡◌, ℕ, List, [], ◌∷◌, None, IsTrue, map}
 use Rattle.std.specs.List.{AllZip, flat_map}
 use Rattle.std.specs.Arc.{arc_value}
@@ -18,10 +18,10 @@ use Rattle.poets_command.specs.Calls.{Call, command_of}
 use Rattle.poets_command.specs.declared.call.Command.{Command as CodeCommand}
 use Rattle.poets_command.specs.Said.{Statement, Clerk, Command, Numbered}
 use Rattle.poets_command.specs.Declarations.{book_from, reports_of}
-use Rattle.poets_command.specs.TypedStatements.{first_fault}
+use Rattle.poets_command.specs.StatementDemands.{AreTypedStatements}
 use Rattle.poets_command.specs.Plain as plain
 use Rattle.poets_session.specs.Pieces.{Piece, pieces_of}
-use Rattle.poets_session.specs.Places.{place_fault}
+use Rattle.poets_session.specs.Places.{ArePlaced}
 use Rattle.poets_session.specs.declared.form.Form.{Form}
 use Rattle.poets_session.specs.declared.session.Session.{Session}
 
@@ -43,8 +43,8 @@ pub record IsReadAs (text : Text) (names : Table) (statements : List Statement) 
 
 -- the statements are a valid session of the form
 pub record AreValid (form : Form) (statements : List Statement) : Type 0 where
-  pub placed : place_fault form statements ≡ None
-  pub typed : first_fault statements ≡ None
+  pub placed : ArePlaced form statements
+  pub typed : AreTypedStatements statements
   pub guarded : IsGuarded (book_from statements)
 
 -- the text is a session of the form

@@ -1,6 +1,5 @@
 -- The shape of a session: its book, and what its form has after it.
-use Rattle.std.specs.Prelude.{◌≡◌, ℕ, suc, Bool, true, false, List, [], ◌∷◌, ◌++◌, length, map, All}
-use Rattle.std.specs.Prelude.{IsTrue}
+use Rattle.std.specs.Prelude.{◌≡◌, Bool, true, false, List, [], ◌∷◌, ◌++◌, map, All, IsTrue}
 use Rattle.std.specs.List.{flat_map}
 use Rattle.poets_command.specs.Calls.{Call}
 use Rattle.poets_command.specs.Plain as plain
@@ -24,7 +23,7 @@ clerk_section commands = Clerk ∷ map Command commands
 abbrev pub journal_section : List Call → List Statement
 journal_section calls = Journal ∷ map (λ call. Numbered call.0 call.1) calls
 
--- after the book stands nothing, or a section for each clerk, or a journal
+-- after the book comes nothing, or a section for each clerk, or a journal
 abbrev pub IsAfterBook : Form → List Statement → Type 0
 IsAfterBook F.Book rest = rest ≡ []
 IsAfterBook F.Clerks rest = (scripts : List (List plain.Command)) × (rest ≡ flat_map clerk_section scripts)
@@ -38,21 +37,12 @@ pub record HasShape (form : Form) (statements : List Statement) : Type 0 where
   pub of_book : All (λ s. IsTrue (is_of_book s)) book
   pub after : IsAfterBook form rest
 
--- some statements of that shape begin with these
+-- the statements are the beginning of some statements of that shape
 abbrev pub Begins : Form → List Statement → Type 0
 Begins form front = (rest : List Statement) × HasShape form (front ++ rest)
 
--- with the first of the rest the statements begin nothing of that shape; where none is left, they
--- have not that shape
+-- together with the first of the rest the statements are the beginning of nothing of that shape;
+-- where none is left, they do not have that shape
 abbrev pub GoesWrong : Form → (front rest : List Statement) → Type 0
 GoesWrong form front [] = ¬ (HasShape form front)
 GoesWrong form front (s ∷ rest) = ¬ (Begins form (front ++ s ∷ []))
-
--- the statement with the number, or the end, is the first with which the statements go wrong
-pub record GoesWrongAt (form : Form) (statements : List Statement) (number : ℕ) : Type 0 where
-  pub front : List Statement
-  pub rest : List Statement
-  pub cut : statements ≡ front ++ rest
-  pub counted : number ≡ suc (length front)
-  pub begins : Begins form front
-  pub wrong : GoesWrong form front rest

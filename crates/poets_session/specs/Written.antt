@@ -1,5 +1,5 @@
--- What a text says is written with its names, and with numbers and days of the language; and a
--- fault tells names of the text.
+-- What a text says is written with its names, and with numbers and days of the language; and the
+-- names in a fault are names of the text.
 use Rattle.std.specs.Prelude.{pos, ◌<◌, ◌^◌, IsTrue, List, [], ◌∷◌, All, IfSome}
 use Rattle.poets_value.specs.Whole.{is_day}
 use Rattle.poets_expr.specs.Expression.{Expression}
@@ -21,14 +21,14 @@ use Rattle.poets_session.specs.Refusals.{Refusal, Mistyped, Unguarded}
 use Rattle.poets_session.specs.Causes.{refusal_of}
 use Rattle.poets_session.specs.declared.fault.SessionFault.{SessionFault}
 
--- a name stands in the table, and a number or a day is one of the language
+-- a name is in the table, and a number or a day is one of the language
 abbrev pub Fits : Table → Tok → Type 0
 Fits names (K.Name x) = IsListed names x
 Fits names (K.Number (pos n)) = n < 2 ^ 63
 Fits names (K.Day d) = IsTrue (is_day d)
 Fits names _ = Unit {0}
 
--- each of the tokens does
+-- each of the tokens fits: its name is in the table, its number or day is one of the language
 abbrev pub AllFit : Table → List Tok → Type 0
 AllFit names [] = Unit {0}
 AllFit names (t ∷ ts) = Fits names t × AllFit names ts
@@ -62,8 +62,7 @@ pub record IsWrittenReport (names : Table) (q : plain.Report) : Type 0 where
   pub step : IsWrittenExpression names q.step
   pub key : IfSome q.key (IsWrittenExpression names)
 
--- each name of the statement stands in the table, and its numbers and days are those of the
--- language
+-- each name of the statement is in the table, and its numbers and days are those of the language
 abbrev pub IsWritten : Table → Statement → Type 0
 IsWritten names (Agents xs) = All (IsListed names) xs
 IsWritten names (Kinds xs) = All (IsListed names) xs
@@ -74,19 +73,19 @@ IsWritten names Journal = Unit {0}
 IsWritten names (Command command) = IsWrittenCommand names command
 IsWritten names (Numbered clerk command) = IsWrittenCommand names command
 
--- the name that the fault tells, if it tells one, stands in the table
+-- the name in the fault, if there is one, is in the table
 abbrev pub IsListedFault : Table → TypeCause → Type 0
 IsListedFault names (Twice x) = IsListed names x
 IsListedFault names (Unknown x) = IsListed names x
 IsListedFault names (WrongCount x wanted found) = IsListed names x
 IsListedFault names (WrongType wanted found) = Unit {0}
 
--- so does each that the refusal tells
+-- each name in the refusal is in the table
 abbrev pub IsListedRefusal : Table → Refusal → Type 0
 IsListedRefusal names (Mistyped number fault) = IsListedFault names fault
 IsListedRefusal names (Unguarded number cycle) = All (IsListed names) cycle
 IsListedRefusal names r = Unit {0}
 
--- each name in the fault stands in its table
+-- each name in the fault is in its table
 abbrev pub HasListedNames : SessionFault → Type 0
 HasListedNames fault = IfSome (refusal_of fault.what) (IsListedRefusal fault.names)

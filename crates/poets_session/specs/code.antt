@@ -4,5 +4,6 @@ pub mod Checking
 pub mod Counting
 pub mod Lines
 pub mod Parts
+pub mod Placing
 pub mod Scripts
 pub mod Splitting

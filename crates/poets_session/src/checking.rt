@@ -1,11 +1,11 @@
 //! Types and guardedness of the statements of a session.
-ghost use Rattle.std.specs.Prelude.{◌≡◌, None, IfSome, IfNone, IfOk, IfErr};
+ghost use Rattle.std.specs.Prelude.{◌≡◌, IfSome, IfNone, IfOk, IfErr};
 ghost use Rattle.poets_syntax.specs.Book.{book_of};
 ghost use Rattle.poets_syntax.specs.Checked.{IsChecked};
 ghost use Rattle.poets_meaning.specs.Guarded.{IsGuarded};
 ghost use Rattle.poets_command.specs.Statements.{statement_of, statements_of};
 ghost use Rattle.poets_command.specs.Declarations.{book_from};
-ghost use Rattle.poets_command.specs.TypedStatements.{first_fault};
+ghost use Rattle.poets_command.specs.StatementDemands.{AreTypedStatements};
 ghost use Rattle.poets_types.specs.Verdicts.{HasReportsOf};
 ghost use Rattle.poets_session.specs.code.Checking.{NoneDeclares, TellsTypes, IsGuardRefusal};
 ghost use Rattle.poets_session.specs.code.Checking as checking;
@@ -33,7 +33,7 @@ fn cause_of(fault: TypeFault) -> SessionCause
 
 /// Checks the types of all statements.
 pub(crate) fn check_types(alloc: Global, statements: &[Statement]) -> Result<Checked, SessionCause>
-    ensures passes { IfOk result (λ _. first_fault (statements_of statements.now) ≡ None) }
+    ensures passes { IfOk result (λ _. AreTypedStatements (statements_of statements.now)) }
     ensures book { IfOk result (λ c. book_of c.book ≡ book_from (statements_of statements.now)) }
     ensures reports { IfOk result (HasReportsOf (statements_of statements.now)) }
     ensures checked { IfOk result (λ c. IsChecked (book_of c.book)) }

@@ -1,10 +1,10 @@
 //! Whether each statement may stand in its place, and whether there are too many.
-ghost use Rattle.std.specs.Prelude.{◌≡◌, None, Some, IfErr, OnOk, IfSome};
+ghost use Rattle.std.specs.Prelude.{◌≡◌, IfErr, OnOk, IfSome};
 ghost use Rattle.poets_command.specs.Statements.{statement_of, statements_of};
-ghost use Rattle.poets_session.specs.Places.{place_fault};
-ghost use Rattle.poets_session.specs.Places as places;
-ghost use Rattle.poets_session.specs.code.Counting.{part_of, IsNextPart, IsPlaceFault, AreFew, CountsMore, FewIfSome};
-ghost use Rattle.poets_session.specs.code.Counting.{ManyIfNone};
+ghost use Rattle.poets_session.specs.Places.{ArePlaced};
+ghost use Rattle.poets_session.specs.code.Counting.{AreFew, CountsMore, FewIfSome, ManyIfNone};
+ghost use Rattle.poets_session.specs.code.Placing.{TellsPlace};
+ghost use Rattle.poets_session.specs.code.Placing as placing;
 
 use crate::Form;
 use poets_command::Statement;
@@ -42,7 +42,7 @@ pub(crate) struct Counts {
 
 // The part in which the statement stands after one of the part, if it may stand there.
 fn next_part(form: Form, part: Part, statement: &Statement) -> Option<Part>
-    ensures { IsNextPart form part (statement_of statement.now) result }
+    ensures { result ≡ placing.next_part form part (statement_of statement.now) }
 {
     match statement {
         Statement::Agents(_) | Statement::Kinds(_) | Statement::Template(_) | Statement::Report(_)
@@ -85,15 +85,15 @@ impl Counts {
 
 // Whether a session of the form that ends in the part has no `journal`.
 fn lacks_journal(form: Form, part: Part) -> bool
-    ensures { result ≡ places.lacks_journal form (Some (part_of part)) }
+    ensures { result ≡ placing.lacks_journal form part }
 {
     form == Form::Journal && part == Part::Book
 }
 
 /// Checks that each statement stands in its place, and is not one too many.
 pub(crate) fn check_places(form: Form, statements: &[Statement]) -> Result<(), PlaceFault>
-    ensures placed { OnOk result (place_fault form (statements_of statements.now) ≡ None) }
-    ensures out { IfErr result (IsPlaceFault form (statements_of statements.now)) }
+    ensures placed { OnOk result (ArePlaced form (statements_of statements.now)) }
+    ensures out { IfErr result (TellsPlace form (statements_of statements.now)) }
 {
     let mut part = Part::Book;
     let mut counts = Counts {

@@ -8,27 +8,27 @@ use poets_parse::SyntaxFault;
 use poets_types::TypeFault;
 use poets_value::Memory;
 
-/// The first fault of a text. Statements count from 1.
-#[derive(Drop)]
+/// The first fault of a text. Statements are counted from 1.
+#[derive(Debug, PartialEq, Eq, Drop)]
 pub enum SessionCause {
     /// The bytes cannot be cut into tokens.
     Lex(LexFault),
     /// A statement is too deep, or no sentence.
     Syntax { statement: u64, fault: SyntaxFault },
-    /// A statement may not stand in its place.
+    /// A statement may not be in its place.
     Misplaced { statement: u64 },
     /// A statement is one too many, or has the number of no clerk.
     TooMany { statement: u64 },
     /// A name is declared twice, or a statement is not typed.
     Types(TypeFault),
-    /// Templates unfold for ever; the statement declares the first of the cycle.
+    /// Templates lead back to themselves with no transmission between; the statement declares the first of the cycle.
     Guard { statement: u64, fault: GuardFault },
-    /// Want of memory.
+    /// Out of memory.
     Memory,
 }
 
-/// The first fault of a text, with the texts of the names that stand in it.
-#[derive(Drop)]
+/// The first fault of a text, with the texts of the names in it.
+#[derive(Debug, Drop)]
 pub struct SessionFault {
     pub names: Names,
     pub what: SessionCause,

@@ -1,6 +1,6 @@
 //! The forms of a session.
 
-/// What may stand in a session. The forms are those of `docs/LANGUAGE.md`, "Sessions".
+/// What a session may have. The forms are those of `docs/LANGUAGE.md`, "Sessions".
 #[derive(Debug, Clone, Copy, PartialEq, Eq)]
 pub enum Form {
     /// Book statements alone.

@@ -2,8 +2,7 @@
 ghost use Rattle.poets_session.specs.Laws.{OneSession, NoSessionRefused, NoValidRefused, OneRefusal};
 ghost use Rattle.poets_session.specs.Laws.{OneRefusalOfStatements, OneLine, EveryTextIsRead, AllStatementsAreJudged};
 ghost use Rattle.poets_session.specs.Laws.{SessionsAreWritten, StatementIsWritten, CommandsAreWritten};
-ghost use Rattle.poets_session.specs.Laws.{FaultsOfTextsAreListed, FaultsOfStatementsAreListed, PlacesByShape};
-ghost use Rattle.poets_session.specs.Laws.{MisplacedByShape, WholeByShape, FirstMisplaced, PlacedHaveShape};
+ghost use Rattle.poets_session.specs.Laws.{FaultsOfTextsAreListed, FaultsOfStatementsAreListed};
 
 /// A text is one session of a form at most.
 pub fn one_session()
@@ -42,14 +41,4 @@ pub fn sessions_are_written()
 pub fn faults_are_listed()
     ensures texts { FaultsOfTextsAreListed }
     ensures statements { FaultsOfStatementsAreListed }
-{}
-
-/// Statements stand in their places exactly where they begin a session by its shape: a book, and what its form has
-/// after it. So the first misplaced one is the first with which they begin none.
-pub fn places_by_shape()
-    ensures front { PlacesByShape }
-    ensures misplaced { MisplacedByShape }
-    ensures whole { WholeByShape }
-    ensures first { FirstMisplaced }
-    ensures placed { PlacedHaveShape }
 {}

@@ -93,8 +93,7 @@ fn cycle_line(
 
 /// The line that tells why a text is no session, with its LF, by `docs/LANGUAGE.md`, "Refused texts".
 ///
-/// A fault that is want of memory has no line, and is answered as it is. No fault that `read` hands out has a cycle
-/// without a name.
+/// "Out of memory" has no line, and is returned as it is. No fault that `read` hands out has a cycle without a name.
 pub fn fault_text(alloc: Global, fault: &SessionFault) -> Result<String, Memory>
     ensures line { IfOk result (IsLineOf fault.now.names fault.now.what) }
 {

@@ -7,7 +7,7 @@ use poets_value::List;
 use std::sync::Arc;
 
 /// A valid session.
-#[derive(Drop)]
+#[derive(Debug, Drop)]
 pub struct Session {
     /// The texts of its names.
     pub names: Names,

@@ -1,55 +1,18 @@
 //! The statements of a text.
-ghost use Rattle.std.specs.Prelude.{◌≡◌, ◌≢◌, [], ◌<◌, length, IfSome, IfNone, IfOk, IfErr};
+ghost use Rattle.std.specs.Prelude.{◌≡◌, IfOk, IfErr};
 ghost use Rattle.poets_grammar.specs.Tokens.{toks, AreNatural};
 ghost use Rattle.poets_session.specs.Pieces.{pieces_of};
-ghost use Rattle.poets_session.specs.Pieces as pieces;
 ghost use Rattle.poets_session.specs.Refusals.{IsUnread, IsStopped};
 ghost use Rattle.poets_session.specs.Causes.{IsCauseOf, syntax_cause};
-ghost use Rattle.poets_session.specs.code.Splitting.{piece, Says, Say, AreCutInto, StandAheadOfEnd, HaveNoEnd};
-ghost use Rattle.poets_session.specs.code.Splitting.{TellsUnended};
+ghost use Rattle.poets_session.specs.code.Splitting.{piece, Says, Say, TellsUnended};
 
 use crate::SessionCause;
+use crate::pieces::first_piece;
 use poets_command::Statement;
-use poets_lex::{Sign, Tok, Token};
+use poets_lex::Token;
 use poets_parse::{SyntaxFault, is_too_deep, statement};
 use poets_value::{List, push};
 use std::alloc::Global;
-
-// Whether the token ends a statement.
-fn is_end(token: &Token) -> bool
-    ensures { result ≡ pieces.is_end token.now.what }
-{
-    match token.what {
-        Tok::Sign(Sign::DoubleSemicolon) => true,
-        _ => false,
-    }
-}
-
-// The number of tokens ahead of the first `;;`, if there is one.
-fn tokens_ahead(tokens: &[Token]) -> Option<usize>
-    ensures found { IfSome result (StandAheadOfEnd tokens.now) }
-    ensures none { IfNone result (HaveNoEnd tokens.now) }
-{
-    for (place, token) in tokens.iter().enumerate() {
-        if is_end(token) {
-            return Some(place);
-        }
-    }
-    None
-}
-
-// The tokens of the first statement, whether a `;;` ends it, and the tokens after it.
-fn first_piece(tokens: &[Token]) -> (&[Token], bool, &[Token])
-    requires { tokens.now ≢ [] }
-    ensures piece { AreCutInto tokens.now result.0.now result.1 result.2.now }
-    ensures shorter { length result.2.now < length tokens.now }
-    ensures natural { AreNatural tokens.now → AreNatural result.0.now × AreNatural result.2.now }
-{
-    match tokens_ahead(tokens) {
-        Some(length) => (&tokens[..length], true, &tokens[length + 1..]),
-        None => (tokens, false, &[]),
-    }
-}
 
 // Why a statement without a `;;` is none.
 fn unended(tokens: &[Token]) -> SyntaxFault

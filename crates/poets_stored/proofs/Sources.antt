@@ -16,6 +16,7 @@ use Rattle.poets_grammar.specs.Statements.{IsCommand, IsStatement}
 use Rattle.poets_command.specs.Plain.{Command}
 use Rattle.poets_command.specs.Said as said
 use Rattle.poets_print.specs.Lines.{command_text}
+use Rattle.poets_print.proofs.WritingCommands.{number_written}
 use Rattle.poets_printed.proofs.ShortCommands.{short_command}
 use Rattle.poets_session.specs.Pieces.{Piece, is_end, with_token, pieces_of}
 use Rattle.poets_session.specs.Sessions.{Text, IsStatementPiece, IsReadAs, commands_ahead, scripts_of}
@@ -131,7 +132,7 @@ printed_length names command = length (command_text names command)
 
 module _ (names : Table) (all : IsTable names) where
   statement_printed : {ts : List Tok} {s : said.Statement} → IsStatement ts s → IsWritten names s → statement_weight (printed_length names) s ≤ 80 * length ts
-  statement_printed (IsStatement.Command r) h = short_command names all r h.1
+  statement_printed (IsStatement.Command {command} r) h = short_command names all r h.1 (number_written names command h.0)
   statement_printed _ h = omega arith
 
   statements_printed :

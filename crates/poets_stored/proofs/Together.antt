@@ -13,7 +13,8 @@ use Rattle.poets_command.specs.Said.{Statement}
 use Rattle.poets_printed.specs.Numbered.{numbered_text}
 use Rattle.poets_session.specs.declared.form.Form.{Form}
 use Rattle.poets_session.specs.Sessions.{Text, IsSession, scripts_of}
-use Rattle.poets_stored.proofs.Fewness.{commands_few, scripts_few}
+use Rattle.poets_session.proofs.Scripting.{scripts_few}
+use Rattle.poets_stored.proofs.Fewness.{commands_few}
 use Rattle.poets_stored.proofs.Sharing.{IsOfClerk, shares_within}
 use Rattle.poets_stored.proofs.Sources.{printed_length, session_printed}
 use Rattle.poets_stored.proofs.Storing.{calls_within}

@@ -13,7 +13,7 @@ use Rattle.poets_command.specs.declared.call.Command.{Command as CodeCommand}
 use Rattle.poets_print.specs.Laws.{CanWriteCommand}
 use Rattle.poets_printed.specs.Numbered.{numbered_text}
 
--- the grammar can write the command, whose names stand in the table
+-- the grammar can write the command, whose names are in the table
 abbrev pub HasText : Table → CodeCommand → Type 0
 HasText names command = CanWriteCommand names (command_of command)
 

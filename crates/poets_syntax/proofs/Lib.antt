@@ -7,6 +7,7 @@ pub mod Copying
 pub mod WholeContracts
 pub mod Typedness
 pub mod TypingRules
+pub mod Demanded
 pub mod Soundness
 pub mod TypedReplacing
 pub mod TypedGivens

@@ -26,13 +26,13 @@ use Rattle.poets_syntax.proofs.Typedness.{passed, kind_declared, as_many, Applic
 
 -- one type
 
-same_itself : (t : Ty) → same_type t t ≡ true
+pub same_itself : (t : Ty) → same_type t t ≡ true
 same_itself t = eq-eqb _ _ refl
 
 pub must_be_itself : (t : Ty) → must_be t t ≡ Passes tt
 must_be_itself t = rw (same_itself t) refl
 
-one_type : (s t : Ty) → must_be s t ≡ Passes tt → s ≡ t
+pub one_type : (s t : Ty) → must_be s t ≡ Passes tt → s ≡ t
 one_type T.Int T.Int h = refl
 one_type T.Bool T.Bool h = refl
 one_type T.Agent T.Agent h = refl

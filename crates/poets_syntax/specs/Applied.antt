@@ -10,7 +10,8 @@ use Rattle.poets_syntax.specs.Book.{template_in}
 abbrev pub Takes : Book → Name → ℕ → Type 0
 Takes book f n = (t : Template) × (template_in book.templates f ≡ Some t) × (length t.params ≡ n)
 
--- each application in the contract is of a template with as many parameters
+-- each application in the contract is of a template of the book, to as many arguments as it has
+-- parameters
 abbrev pub ApplicationsFit : Book → Contract → Type 0
 ApplicationsFit book Success = Unit {0}
 ApplicationsFit book Failure = Unit {0}
@@ -20,7 +21,8 @@ ApplicationsFit book (Par c₁ c₂) = ApplicationsFit book c₁ × Applications
 ApplicationsFit book (Seq c₁ c₂) = ApplicationsFit book c₁ × ApplicationsFit book c₂
 ApplicationsFit book (App f args) = Takes book f (length args)
 
--- so it is in the bodies of the templates
+-- each application in the body of a template is of a template of the book, to as many arguments as
+-- it has parameters
 abbrev pub BodiesFit : Book → Type 0
 BodiesFit book = (f : Name) (t : Template) → template_in book.templates f ≡ Some t → ApplicationsFit book t.body
 
@@ -28,7 +30,8 @@ BodiesFit book = (f : Name) (t : Template) → template_in book.templates f ≡ 
 abbrev pub FitsTemplate : Book → Name → List Expression → Type 0
 FitsTemplate book f args = (t : Template) → template_in book.templates f ≡ Some t → length t.params ≡ length args
 
--- where a template is applied, it is to as many arguments as it has parameters
+-- where the contract applies a template of the book, it is to as many arguments as that has
+-- parameters
 abbrev pub CountsFit : Book → Contract → Type 0
 CountsFit book Success = Unit {0}
 CountsFit book Failure = Unit {0}
@@ -38,6 +41,7 @@ CountsFit book (Par c₁ c₂) = CountsFit book c₁ × CountsFit book c₂
 CountsFit book (Seq c₁ c₂) = CountsFit book c₁ × CountsFit book c₂
 CountsFit book (App f args) = FitsTemplate book f args
 
--- so it is in the bodies of the templates
+-- where the body of a template applies a template of the book, it is to as many arguments as that
+-- has parameters
 abbrev pub BodiesCountsFit : Book → Type 0
 BodiesCountsFit book = (f : Name) (t : Template) → template_in book.templates f ≡ Some t → CountsFit book t.body

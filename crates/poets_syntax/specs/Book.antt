@@ -37,7 +37,7 @@ pub record BinderValues : Type 0 where
   pub what : Option Value
   pub day : Option Value
 
--- the parts of an event
+-- what the binders stand for where they take an event: its parts
 abbrev pub values_of : Event → BinderValues
 values_of e = record {
   sender = Some (V.Agent e.sender);
@@ -46,7 +46,7 @@ values_of e = record {
   day = Some (V.Day e.day);
 }
 
--- the parts of a granted step
+-- what the binders stand for in a granted step: each of them is undefined
 abbrev pub undefined_values : BinderValues
 undefined_values = record { sender = None; receiver = None; what = None; day = None }
 
@@ -54,10 +54,10 @@ undefined_values = record { sender = None; receiver = None; what = None; day = N
 abbrev pub bound : Binders → BinderValues → Env → Env
 bound b v env = (b.day, v.day) ∷ (b.what, v.what) ∷ (b.receiver, v.receiver) ∷ (b.sender, v.sender) ∷ env
 
--- the environment in which a transmit has taken an event
+-- the environment below a transmit that has taken an event
 abbrev pub taken : Binders → Event → Env → Env
 taken b e env = bound b (values_of e) env
 
--- the environment in which a transmit was granted
+-- the environment below a transmit that was granted
 abbrev pub granted : Binders → Env → Env
 granted b env = bound b undefined_values env

@@ -18,7 +18,7 @@ pub record IsCheckedBook (book : Book) (reports : List Name) : Type 0 where
   pub typed : IsTypedBook book reports
   pub distinct : IsDistinct same_name (names_of_templates_and book reports)
   pub undeclared : All (λ f. book.declared f ≡ None) (names_of_templates_and book reports)
-  -- what is declared beside them is an agent or a kind
+  -- each declared name is an agent or a kind
   pub agent_or_kind : (x : Name) (ty : Ty) → book.declared x ≡ Some ty → (ty ≡ T.Agent) ⊎ (ty ≡ T.Kind)
 
 -- the book is checked beside reports of some names

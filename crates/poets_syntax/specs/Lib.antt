@@ -12,7 +12,10 @@ pub mod TypeOf
 pub mod OfType
 pub mod Typed
 pub mod Typing
+pub mod Demands
 pub mod Checked
 pub mod Results
 pub mod TypedLaws
+pub mod DemandLaws
+pub mod FaultExamples
 pub mod code

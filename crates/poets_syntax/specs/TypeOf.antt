@@ -47,48 +47,51 @@ must_be_number_or_day T.Int = Passes tt
 must_be_number_or_day T.Day = Passes tt
 must_be_number_or_day found = Fails (WrongType T.Int found)
 
--- a node of one part, which must have the type
+-- the type of a node with one part, which must have the wanted type
 abbrev pub of_one : (wanted x node : Ty) → Verdict Ty
 of_one wanted x node = do
   _ ← must_be wanted x
   Passes node
 
--- a node of two parts, which must both have the type
+-- the type of a node with two parts, which must both have the wanted type
 abbrev pub of_two : (wanted x y node : Ty) → Verdict Ty
 of_two wanted x y node = do
   _ ← must_be wanted x
   _ ← must_be wanted y
   Passes node
 
+-- the type of an operator of one operand, applied to a part of this type
 abbrev pub unary_type : UnaryOp → Ty → Verdict Ty
 unary_type Minus x = of_one T.Int x T.Int
 unary_type Not x = of_one T.Bool x T.Bool
 unary_type AmountOf x = of_one T.Resource x T.Int
 unary_type KindOf x = of_one T.Resource x T.Kind
 
--- a number or a day, and a number that is added or taken away
+-- the type of a sum: of a number or a day, and a number that is added to it
 abbrev pub sum_type : Ty → Ty → Verdict Ty
 sum_type x y = do
   _ ← must_be_number_or_day x
   _ ← must_be T.Int y
   Passes x
 
+-- the type of a difference: of two days a number, and else as of a sum
 abbrev pub difference_type : Ty → Ty → Verdict Ty
 difference_type T.Day T.Day = Passes T.Int
 difference_type x y = sum_type x y
 
--- two parts of one type
+-- the type of a test whether two parts of one type are equal
 abbrev pub equal_type : Ty → Ty → Verdict Ty
 equal_type x y = do
   _ ← must_be x y
   Passes T.Bool
 
--- two numbers or two days
+-- the type of a test by order: of two numbers or two days
 abbrev pub order_type : Ty → Ty → Verdict Ty
 order_type x y = do
   _ ← must_be_number_or_day x
   equal_type x y
 
+-- the type of an operator of two operands, applied to parts of these types
 abbrev pub binary_type : Op → Ty → Ty → Verdict Ty
 binary_type O.Add x y = sum_type x y
 binary_type O.Sub x y = difference_type x y
@@ -104,12 +107,14 @@ binary_type O.Ge x y = order_type x y
 binary_type O.And x y = of_two T.Bool x y T.Bool
 binary_type O.Or x y = of_two T.Bool x y T.Bool
 
+-- the type of `res(x, y)`
 abbrev pub make_type : Ty → Ty → Verdict Ty
 make_type x y = do
   _ ← must_be T.Int x
   _ ← must_be T.Kind y
   Passes T.Resource
 
+-- the type of an `if`
 abbrev pub if_type : Ty → Ty → Ty → Verdict Ty
 if_type x y z = do
   _ ← must_be T.Bool x
@@ -125,7 +130,7 @@ abbrev pub resource_type : Name → Option Ty → Verdict Ty
 resource_type kind None = Fails (Unknown kind)
 resource_type kind (Some t) = of_one T.Kind t T.Resource
 
--- an agent or a kind stands in an expression as a name, and not as a literal
+-- the type of a literal; an agent or a kind is written as a name, and never as a literal
 abbrev pub literal_type : Declared → Value → Verdict Ty
 literal_type declared (V.Int n) = Passes T.Int
 literal_type declared (V.Bool b) = Passes T.Bool

@@ -23,7 +23,7 @@ is_among names x = list_any (same_name x) names
 abbrev pub in_use : Book → List Name → Name → Bool
 in_use book reports x = is_some (book.declared x) || is_some (template_in book.templates x) || is_among reports x
 
--- the first name from the left that is in use, or stands earlier in the same list, is a fault
+-- the fault of the first name that is in use or occurs earlier in the list
 abbrev pub check_new : (Name → Bool) → (earlier names : List Name) → Verdict (Unit {0})
 check_new used earlier [] = Passes tt
 check_new used earlier (x ∷ names) =

@@ -22,31 +22,36 @@ use Rattle.poets_syntax.specs.Book.{template_in}
 use Rattle.poets_syntax.specs.TypeOf.{Scope, type_in}
 use Rattle.poets_syntax.specs.Typed.{is_among, in_use, names_bound, types_bound, scope_of}
 
--- numbers and days can be ordered, and have a number added and taken away
+-- the types of numbers and days, which can be ordered, and which a number can be added to and
+-- subtracted from
 pub data IsNumberOrDay : Ty → Type 0 where
   Number : IsNumberOrDay T.Int
   ADay : IsNumberOrDay T.Day
 
--- the operators of the rules below
+-- `+` and `-`
 pub data IsSum : Op → Type 0 where
   Added : IsSum O.Add
   TakenAway : IsSum O.Sub
 
+-- `*`, `/` and `%`
 pub data IsProduct : Op → Type 0 where
   Times : IsProduct O.Mul
   Over : IsProduct O.Div
   Modulo : IsProduct O.Rem
 
+-- `=` and `<>`
 pub data IsEquality : Op → Type 0 where
   Equal : IsEquality O.Eq
   Unequal : IsEquality O.Ne
 
+-- `<`, `<=`, `>` and `>=`
 pub data IsComparison : Op → Type 0 where
   Below : IsComparison O.Lt
   AtMost : IsComparison O.Le
   Above : IsComparison O.Gt
   AtLeast : IsComparison O.Ge
 
+-- `and` and `or`
 pub data IsConnective : Op → Type 0 where
   Both : IsConnective O.And
   Either : IsConnective O.Or
@@ -95,7 +100,7 @@ pub data Has (declared : Declared) (scope : Scope) : Expression → Ty → Type 
 abbrev pub Fit : Declared → Scope → List Param → List Expression → Type 0
 Fit declared scope params args = AllZip (λ p a. Has declared scope a p.ty) params args
 
--- none of the names is in use, and none stands in the list before
+-- none of the names is in use, and none occurs earlier in the list
 pub data AreNew (used : Name → Bool) : (earlier names : List Name) → Type 0 where
   NoName : {earlier : List Name} → AreNew used earlier []
   OneMore :

@@ -2,9 +2,11 @@
 //! nothing.
 ghost use Rattle.poets_syntax.specs.Laws.{WellFormedBindsUndeclared, ReplacedIsWhole, TypedIsWellFormed};
 ghost use Rattle.poets_syntax.specs.Laws.{TypedApplicationsFit, TypedBodiesFit, TypedCountsFit, CountsFitWhereKnown};
+ghost use Rattle.poets_syntax.specs.DemandLaws.{TypesByDemands, TypeFaultsByDemands, ContractsByDemands, ContractFaultsByDemands};
+ghost use Rattle.poets_syntax.specs.DemandLaws.{OneCause};
 ghost use Rattle.poets_syntax.specs.TypedLaws.{TypesByRules, ContractsByRules, ValueIsOfType, FoldedHasType, ReplacedHasType, ReplacedIsTyped};
 
-/// A well-formed contract binds no declared name, which replacing names asks for.
+/// A well-formed contract binds no declared name, as replacing names requires.
 pub fn well_formed_binders()
     ensures { WellFormedBindsUndeclared }
 {}
@@ -21,7 +23,17 @@ pub fn typed_by_rules()
     ensures contracts { ContractsByRules }
 {}
 
-/// A typed contract is well-formed and has the right numbers of arguments, which the other laws ask for.
+/// The checks of expressions and contracts report the cause of the first demand of typing that is not met, and report
+/// nothing exactly where all are met (`docs/LANGUAGE.md`, "Names and types").
+pub fn faults_by_demands()
+    ensures types { TypesByDemands }
+    ensures type_faults { TypeFaultsByDemands }
+    ensures contracts { ContractsByDemands }
+    ensures contract_faults { ContractFaultsByDemands }
+    ensures one_cause { OneCause }
+{}
+
+/// A typed contract is well-formed and has the right numbers of arguments, as the other laws require.
 pub fn typed_well_formed()
     ensures well_formed { TypedIsWellFormed }
     ensures counts { TypedCountsFit }

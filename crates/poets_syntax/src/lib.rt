@@ -3,6 +3,7 @@
 
 pub mod build;
 mod equality;
+pub mod examples;
 pub mod laws;
 pub mod substitution;
 mod term;

@@ -53,8 +53,8 @@ pub fn subst_args(
     Ok(replaced)
 }
 
-/// The contract with its names replaced by literals, of two pairs of one name by the later.
-/// Below a transmit that binds a name, that name stays.
+/// The contract with its names replaced by literals; of two pairs with one name the later counts. Below a transmit that
+/// binds a name, that name stays.
 pub fn subst(alloc: Global, term: &Term, pairs: &[(Name, Given)]) -> Result<Term, Memory>
     ensures { GivesContract result (replace.replace (reverse pairs.now) (contract_of term.now)) }
 {

@@ -14,7 +14,7 @@ AreNames keys rows = keys ≡ map (λ r. r.name) rows
 abbrev pub IsReady : {O T : Type 0} → ℕ → List (Row O T) → Listed (ℕ × Event) → Type 0
 IsReady n rows log = 0 < n → (0 < log.room) × ((r : _) → slice_get rows (n - 1) ≡ Some r → 0 < r.events.room)
 
--- the events of each row are those with its number in the log, and no other numbers stand there
+-- the events of each row are those with its number in the log, which has no other numbers
 pub record AreOfLog {O T : Type 0} (rows : List (RowView O T)) (log : List (ℕ × Event)) : Type 0 where
   pub each : (i : ℕ) (r : RowView O T) → slice_get rows i ≡ Some r → r.events ≡ events_with (i + 1) log
   pub known : All (λ p. p.0 ≤ length rows) log

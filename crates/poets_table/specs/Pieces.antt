@@ -10,15 +10,15 @@ use Rattle.poets_value.specs.Listed.{Listed}
 use Rattle.poets_value.specs.declared.event.Event.{Event}
 use Rattle.poets_table.specs.declared.events.TheConstants.{PIECE_LENGTH, MOST_PIECES}
 
--- how many events a piece has at most
+-- the most events of a piece
 abbrev pub piece_length : ℕ
 piece_length = PIECE_LENGTH
 
--- so many sealed pieces can be counted in a word
+-- the most sealed pieces, which can be counted in a word
 abbrev pub most_pieces : ℕ
 most_pieces = MOST_PIECES
 
--- a list of events as it is kept: its pieces, and for how many events more the last one has room
+-- a list of events as it is stored: its pieces, and for how many more events the last one has room
 pub record EventsView : Type 0 where
   pub pieces : List (List Event)
   pub room : ℕ
@@ -27,7 +27,7 @@ pub record EventsView : Type 0 where
 abbrev pub joined : List (List Event) → List Event
 joined pieces = flat_map (λ p. p) pieces
 
--- how many events stand ahead of each piece, where so many stand ahead of the first
+-- how many events come before each piece, where so many come before the first
 abbrev pub starts_from : ℕ → List (List Event) → List ℕ
 starts_from n [] = []
 starts_from n (p ∷ pieces) = n ∷ starts_from (n + length p) pieces
@@ -46,7 +46,7 @@ last_start (n ∷ n' ∷ starts) = last_start (n' ∷ starts)
 abbrev pub is_full : List Event → (starts : List ℕ) → Bool
 is_full events starts = nat_eq (length events - last_start starts) piece_length
 
--- pieces of at most so many events follow each other: the next one begins behind n, no further than
+-- pieces of at most so many events follow each other: the next one begins after n, no further than
 -- a piece's length
 abbrev pub AreNear : ℕ → (starts : List ℕ) → Type 0
 AreNear n [] = Unit {0}
@@ -58,13 +58,13 @@ AreStarts [] count = ⊥
 AreStarts (n ∷ starts) count = (n ≡ 0) × AreNear n (starts ++ count ∷ [])
 
 -- the piece with the number has the event at the place: it begins there, or less than a piece's
--- length ahead of it, and the next piece, if there is one, begins behind it
+-- length before it, and the next piece, if there is one, begins after it
 abbrev pub IsPieceOf : (place : ℕ) → List ℕ → (number : ℕ) → Type 0
 IsPieceOf place starts number =
     (n : ℕ) × (slice_get starts number ≡ Some n) × (n ≤ place) × (place < n + piece_length)
     × ((m : ℕ) → slice_get starts (suc number) ≡ Some m → place < m)
 
--- where pieces begin once the event at a place is out: those behind it begin one place earlier
+-- where pieces begin once the event at a place is out: those after it begin one place earlier
 abbrev pub starts_without : ℕ → List ℕ → List ℕ
 starts_without place starts = map (λ n. if nat_lt place n then n - 1 else n) starts
 
@@ -72,7 +72,7 @@ starts_without place starts = map (λ n. if nat_lt place n then n - 1 else n) st
 abbrev pub pieces_of : List (Arc (Listed Event) Global) → List (List Event)
 pieces_of pieces = map (λ p. (arc_value {X = Listed Event} p).items) pieces
 
--- how many events more a last piece takes without memory
+-- how many more events a last piece takes without new memory
 abbrev pub free_places : Listed Event → ℕ
 free_places last = min last.room (piece_length - length last.items)
 

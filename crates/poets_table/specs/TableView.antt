@@ -21,7 +21,7 @@ pub record RowView (O T : Type 0) : Type 0 where
   pub events : List Event
   -- where the pieces of the events begin
   pub starts : List ℕ
-  -- what was owed ahead of each piece
+  -- what was owed before each piece
   pub points : List T
   pub ended : Bool
 
@@ -59,7 +59,7 @@ IsSameButRoom old new = (new.rows ≡ old.rows) × (new.log ≡ old.log)
 abbrev pub AreEventsOf : {O T : Type 0} → ℕ → List (RowView O T) → List Event → Type 0
 AreEventsOf {O} {T} n rows events = (r : RowView O T) → slice_get rows (n - 1) ≡ Some r → events ≡ r.events
 
--- an event stands at the place, from 0, of the row with the number
+-- the row with the number has an event at the place, from 0
 abbrev pub IsPlaceOf : {O T : Type 0} → ℕ → (place : ℕ) → List (RowView O T) → Type 0
 IsPlaceOf {O} {T} n place rows = (r : RowView O T) → slice_get rows (n - 1) ≡ Some r → place < length r.events
 
@@ -69,8 +69,8 @@ changed_at f place [] = []
 changed_at f zero (x ∷ xs) = f x ∷ xs
 changed_at f (suc place) (x ∷ xs) = x ∷ changed_at f place xs
 
--- the row with a new last piece, which begins behind all events, and ahead of which the current is
--- owed
+-- the row with a new last piece, which begins after all events, and before which the current
+-- contract is owed
 abbrev pub with_piece : {O T : Type 0} → RowView O T → RowView O T
 with_piece r = record r { starts = r.starts ++ length r.events ∷ []; points = r.points ++ r.current ∷ [] }
 
@@ -78,11 +78,11 @@ with_piece r = record r { starts = r.starts ++ length r.events ∷ []; points = 
 abbrev pub with_room : {O T : Type 0} → RowView O T → RowView O T
 with_room r = if is_full r.events r.starts then with_piece r else r
 
--- the row with one event more, and with what is owed after it
+-- the row with one more event, and with what is owed after it
 abbrev pub with_event : {O T : Type 0} → Event → T → RowView O T → RowView O T
 with_event e c r = record r { current = c; events = r.events ++ e ∷ [] }
 
--- the rows with one event more on the one with the number, and with what is owed after it
+-- the rows, where the one with the number has one more event, and what is owed after it
 abbrev pub recorded : {O T : Type 0} → ℕ → Event → Arc T Global → List (RowView O T) → List (RowView O T)
 recorded n e c rows = changed_at (with_event e (arc_value c)) (n - 1) rows
 
@@ -98,7 +98,7 @@ finished r = record r { ended = true }
 abbrev pub number_named : {O T : Type 0} → Name → List (RowView O T) → Option ℕ
 number_named x rows = option_map (λ i. i + 1) (position (λ r. nat_eq x.id r.name.id) rows)
 
--- a new row, without events: what is owed at first is owed ahead of its one piece
+-- a new row, without events: what is owed at first is owed before its one piece
 abbrev pub new_row : {O T : Type 0} → Name → O → T → RowView O T
 new_row x o c = record {
   name = x;
@@ -118,14 +118,14 @@ with_row x o c rows = rows ++ new_row x (arc_value o) (arc_value c) ∷ []
 abbrev pub events_with : ℕ → List (ℕ × Event) → List Event
 events_with n log = map (λ p. p.1) (filter (λ p. nat_eq p.0 n) log)
 
--- where the pair stands in the log that has the event at a place of those with a number
+-- the place in the log of the pair that has the event at a place of those with a number
 abbrev pub place_in_log : ℕ → (place : ℕ) → List (ℕ × Event) → ℕ
 place_in_log n place [] = 0
 place_in_log n zero (p ∷ log) = if nat_eq p.0 n then 0 else suc (place_in_log n zero log)
 place_in_log n (suc place) (p ∷ log) =
     if nat_eq p.0 n then suc (place_in_log n place log) else suc (place_in_log n (suc place) log)
 
--- the pair stands here in the log: it has the number, and so many with the number stand ahead of it
+-- the pair is here in the log: it has the number, and there are so many with the number before it
 abbrev pub IsPairOf : ℕ → (place here : ℕ) → List (ℕ × Event) → Type 0
 IsPairOf n place here log =
     ((e : Event) × (slice_get log here ≡ Some (n, e))) × (length (events_with n (take here log)) ≡ place)
@@ -159,7 +159,7 @@ pub record Cuts {O T : Type 0} (n k : ℕ) (table : TableView O T) (cut : CutVie
   pub place : cut.place ≡ k
   pub fits : IsCutOf table.rows table.log cut
 
--- the row without the event, with what is owed then, and what was owed ahead of each piece
+-- the row without the event, with what is owed then, and what was owed before each piece
 abbrev pub without_event : {O T : Type 0} → CutView → T → List T → RowView O T → RowView O T
 without_event cut c points r =
     record r { current = c; events = remove r.events cut.place; starts = cut.starts; points = points }

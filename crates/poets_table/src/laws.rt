@@ -7,8 +7,8 @@ ghost use Rattle.poets_table.specs.TableView.{CutView, HasStarts, IsPairOf, IsRo
 
 use poets_value::{Event, Name};
 
-/// Where the events with a number have one at a place, its pair stands in the log where `place_in_log` says. Without
-/// it, the events with the number are without that event, and all others stay.
+/// Where the events with a number have one at a place, its pair is in the log at the place that `place_in_log` gives.
+/// Without it, the events with the number are without that event, and all others stay.
 pub fn pair_of_event()
     ensures pair { (n k : ℕ) (log : List (ℕ × Event)) → k < length (events_with n log) →
         IsPairOf n k (place_in_log n k log) log }
@@ -18,8 +18,8 @@ pub fn pair_of_event()
         events_with m (remove log (place_in_log n k log)) ≡ events_with m log }
 {}
 
-/// The pieces of a row begin in order, the first at 0, and none is too long: so it is in a new row, and so it stays. No
-/// piece begins behind the events. Up to the piece that has the event of a cut, all begin as before.
+/// The pieces of a row begin in order, the first at 0, and none is too long: it is so in a new row, and stays so. No
+/// piece begins after the events. Up to the piece that has the event of a cut, all begin as before.
 pub fn starts_of_rows<O, T>()
     ensures new { (x : Name) (o : O) (c : T) → HasStarts (new_row x o c) }
     ensures room { (r : RowView O T) → HasStarts r → HasStarts (with_room r) }

@@ -22,7 +22,7 @@ pub struct Row<O, T> {
     /// What is still owed.
     pub current: Arc<T>,
     pub events: Events,
-    /// For each piece of the events, what was owed ahead of it.
+    /// For each piece of the events, what was owed before it.
     pub points: List<Arc<T>>,
     pub ended: bool,
 }
@@ -152,7 +152,7 @@ fn note(log: &mut List<(u64, Event)>, number: u64, event: &Event)
 }
 
 impl<O: Drop, T: Drop> Table<O, T> {
-    /// Adds a row at the end, and answers its number. The room that was made is given up.
+    /// Adds a row at the end, and returns its number. The room that was made is given up.
     pub fn add(&mut self, name: Name, original: Arc<O>, current: Arc<T>) -> Result<u64, Memory>
         requires { number_named name self.old.rows ≡ None }
         ensures ok { IfOk result (λ n. n ≡ length self.old.rows + 1) }

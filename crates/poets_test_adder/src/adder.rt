@@ -1,4 +1,4 @@
-//! A machine that adds, by which the turnstile, the clerks and the journal are tried.
+//! A machine that adds, for tests of the turnstile, the clerks and the journal.
 ghost use Rattle.std.specs.Prelude.{◌≡◌, ℕ, ◌+◌, ◌%◌, ◌^◌, ◌≤◌, List, [], length, map};
 ghost use Rattle.std.specs.Arc.{arc_value};
 ghost use Rattle.poets_test_adder.specs.Adding.{IsSum, calls_of, total};

@@ -1,4 +1,4 @@
-//! A small machine that adds, by which the turnstile, the clerks and the journal are tried.
+//! A small machine that adds, for tests of the turnstile, the clerks and the journal.
 #![tactic(auto)]
 
 mod adder;

@@ -90,33 +90,24 @@ const ROWS: [(&str, &[i64], &[(Option<i64>, Option<i64>)]); 2] = [
     ),
 ];
 
-// Whether the answer is the value.
-fn is_value(answer: &Answer, wanted: Option<i64>) -> bool {
-    match answer {
-        Answer::Single(value) => *value == wanted.map(Int),
-        Answer::Rows(_) => false,
+// The answer that has these rows.
+fn rows_of(alloc: Global, pairs: &[(Option<i64>, Option<i64>)]) -> Result<Answer, Memory> {
+    let mut rows = List::new(alloc);
+    for (key, value) in pairs {
+        push(&mut rows, (key.map(Int), value.map(Int)))?;
     }
-}
-
-// Whether the answer is the rows.
-fn is_rows(answer: &Answer, wanted: &[(Option<i64>, Option<i64>)]) -> bool {
-    let Answer::Rows(rows) = answer else {
-        return false;
-    };
-    let mut pairs = rows.as_slice().iter().zip(wanted);
-    rows.len() == wanted.len()
-        && pairs.all(|(row, (key, value))| *row == (key.map(Int), value.map(Int)))
+    Ok(Answer::Rows(rows))
 }
 
 #[test]
 fn all_events_or_those_of_each_key_are_folded(rt: HostRuntime) -> Result<(), Memory> {
     for (text, amounts, wanted) in &VALUES {
-        let found = answer(rt.alloc(), text, amounts)?;
-        assert!(rt; is_value(&found, *wanted), "{amounts:?}");
+        let wanted = Answer::Single(wanted.map(Int));
+        assert_eq!(rt; answer(rt.alloc(), text, amounts)?, wanted, "{amounts:?}");
     }
     for (text, amounts, wanted) in &ROWS {
-        let found = answer(rt.alloc(), text, amounts)?;
-        assert!(rt; is_rows(&found, wanted), "{amounts:?}");
+        let wanted = rows_of(rt.alloc(), wanted)?;
+        assert_eq!(rt; answer(rt.alloc(), text, amounts)?, wanted, "{amounts:?}");
     }
     Ok(())
 }

@@ -159,6 +159,20 @@ fn a_list_with_room_takes_items(rt: HostRuntime) {
     assert!(rt; list.len() == 1000);
 }
 
+#[test]
+fn lists_of_the_same_items_are_equal(rt: HostRuntime) {
+    let mut list = List::new(rt.alloc());
+    let mut roomy = List::new(rt.alloc());
+    assert!(rt; roomy.reserve(1000).is_ok());
+    assert_eq!(rt; list, roomy);
+    for (made, _) in &CHANGES {
+        assert!(rt; is_made(&mut list, *made));
+        assert!(rt; list != roomy);
+        assert!(rt; is_made(&mut roomy, *made));
+        assert_eq!(rt; list, roomy);
+    }
+}
+
 fn resource(kind: u32, amount: i64) -> Value {
     Value::Resource(Resource {
         kind: Name { id: kind },

@@ -10,9 +10,9 @@ use Rattle.poets_command.specs.Plain.{Entry}
 use Rattle.poets_command.specs.Calls.{calls_of}
 use Rattle.poets_command.specs.Declarations.{book_from, reports_of}
 use Rattle.poets_command.specs.Said.{Statement}
+use Rattle.poets_history.specs.Frame.{frame_of}
 use Rattle.poets_history.specs.Histories.{IsRightHistory}
 use Rattle.poets_history.proofs.Histories.{one_history}
-use Rattle.poets_history.proofs.OneFrames.{one_frame}
 use Rattle.poets_print.specs.Lines.{history_text}
 use Rattle.poets_session.specs.Sessions.{Text, IsSession, IsReadAs}
 use Rattle.poets_session.specs.declared.form.Form.{Form}
@@ -26,11 +26,7 @@ use Rattle.poets_top.proofs.Owning.{one_clerk}
 
 -- right histories of the same calls are one
 right_once : (b : Book) (reports : List Report) (h h' : List Entry) → IsRightHistory b reports h → IsRightHistory b reports h' → calls_of h ≡ calls_of h' → h ≡ h'
-right_once b reports h h' p q calls =
-    let mine = p.legal in
-    let other = q.legal in
-    let there = one_frame other.frame mine.frame h' (other.book ∙ sym mine.book) (other.reports ∙ sym mine.reports) other.holds in
-    one_history mine.frame h h' mine.holds there calls
+right_once b reports h h' p q calls = one_history (frame_of b reports) h h' p.legal q.legal calls
 
 -- a journal has one history at most
 pub one_replay : OneReplay

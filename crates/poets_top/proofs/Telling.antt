@@ -23,9 +23,9 @@ use Rattle.poets_command.specs.Plain.{Entry}
 use Rattle.poets_command.specs.Said.{Statement}
 use Rattle.poets_rules.specs.declared.rules.Rules.{Rules}
 use Rattle.poets_rules.specs.Rules as R
-use Rattle.poets_history.specs.Frame.{Frame}
-use Rattle.poets_history.specs.Histories.{InFrame}
+use Rattle.poets_history.specs.Frame.{Frame, frame_of}
 use Rattle.poets_history.specs.Ledger.{Ledger, ledger_of, contract_named, trace}
+use Rattle.poets_history.proofs.Owing.{residual_owed, with_marks}
 use Rattle.poets_engine.specs.Accounts.{Accounts, IsFormedAccount}
 use Rattle.poets_engine.specs.declared.accounts.Account.{Account}
 use Rattle.poets_engine.proofs.Owed.{residual_performed}
@@ -43,20 +43,18 @@ module _ (s : StudiedBook) (reports : List Report) (names : Table) (l : Ledger) 
 
   explained_by : (may_end : Bool) (way text : List ℕ) → IsTrue may_end ↔ Perf (book_of s.book) [] residual [] → TellsWay (book_of s.book) o (trace l n) way →
       text ≡ contract_line name (length (trace l n)) may_end ++ next_lines names (next (book_of s.book) (marks_of s) residual) ++ way →
-      InFrame (book_of s.book) reports (λ f. Explains f names l name text)
+      Explains (frame_of (book_of s.book) reports) names l name text
   explained_by may_end way text tells tells_way is =
       let law = residual_performed (book_of s.book) (marks_of s) (IsStudied-book (book_of s.book) s.marks studied) o (trace l n) formed fit declared in
-      let f : Frame = record { book = book_of s.book; reports = reports; marks = marks_of s; right = AreRight-studied (book_of s.book) s.marks studied } in
-      record {
-        frame = f;
-        book = refl;
-        reports = refl;
-        holds = subst (Explains f names l name) (sym is) (Explains.OfContract (x, at, named) (λ y. law.0 (tells.0 y), λ p. tells.1 (law.1 p)) tells_way);
-      }
+      let right = AreRight-studied (book_of s.book) s.marks studied in
+      let steps = next (book_of s.book) (marks_of s) residual in
+      subst (Explains (frame_of (book_of s.book) reports) names l name) (sym is)
+      (Explains.OfContract (x, at, named) (λ y. law.0 (tells.0 y), λ p. tells.1 (law.1 p)) (residual_owed (book_of s.book) (marks_of s) right o (trace l n))
+      (with_marks (book_of s.book) (marks_of s) right (λ m. next (book_of s.book) m residual ≡ steps) refl) tells_way)
 
 pub explained : (s : StudiedBook) (reports : List Report) (names : Table) (l : Ledger) (name : List ℕ) (x : Name) (a : Account) (text : String Global) →
     place_of name names ≡ Some x.id → Accounts s l x (Some a) → IsFormedAccount s a → ExplainsAccount s names name a text →
-    InFrame (book_of s.book) reports (λ f. Explains f names l name (string_bytes text))
+    Explains (frame_of (book_of s.book) reports) names l name (string_bytes text)
 explained s reports names l name x a text at (c, named, is) formed e =
     let book = book_of s.book in
     explained_by s reports names l name x c.0 c.1 at named e.studied (subst (IsWellFormed book.declared) is.original formed.formed) (subst (CountsFit book) is.original formed.original)
@@ -97,10 +95,7 @@ next_lines-more names steps i step lt at =
 
 pub explanation_read : (rules found : Rules) (statements : List Statement) (names : Table) (h : List Entry) (name text : List ℕ) → found ≡ rules →
     R.book_of_rules rules ≡ book_from statements → R.reports_of_rules rules ≡ reports_of statements →
-    InFrame (R.book_of_rules found) (R.reports_of_rules found) (λ f. Explains f names (ledger_of h) name text) → IsExplanation name names statements h text
-explanation_read rules found statements names h name text same book reports e = record {
-  frame = e.frame;
-  book = e.book ∙ ap R.book_of_rules same ∙ book;
-  reports = e.reports ∙ ap R.reports_of_rules same ∙ reports;
-  holds = e.holds;
-}
+    Explains (frame_of (R.book_of_rules found) (R.reports_of_rules found)) names (ledger_of h) name text → IsExplanation name names statements h text
+explanation_read rules found statements names h name text same book reports e =
+    subst (λ r. Explains (frame_of (book_from statements) r) names (ledger_of h) name text) (ap R.reports_of_rules same ∙ reports)
+    (subst (λ b. Explains (frame_of b (R.reports_of_rules found)) names (ledger_of h) name text) (ap R.book_of_rules same ∙ book) e)

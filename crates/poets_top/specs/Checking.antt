@@ -14,7 +14,7 @@ book_line templates reports =
 abbrev pub book_text : List Statement → List ℕ
 book_text statements = book_line (length (book_from statements).templates) (length (reports_of statements))
 
--- of a book no history is made, and its line is to be written
+-- a book gives no history, and its line is to be written
 pub record ChecksBook (statements : List Statement) (h : List Entry) (text : List ℕ) : Type 0 where
   pub none : h ≡ []
   pub line : text ≡ book_text statements

@@ -20,7 +20,7 @@ pub record IsDemonstrated (sales : ℕ) (h : List Entry) (line : List ℕ) : Typ
   pub history : IsHistoryOf statements h
   pub line_is : line ≡ demo_line sales h
 
--- what a demonstration asks for: its history, and its line
+-- what is due for a demonstration: its history, and its line
 pub data IsDemonstration (sales : ℕ) : (status : ℕ) → List Entry → (text : List ℕ) → Type 0 where
   Demonstrated : {h : List Entry} {line : List ℕ} → IsDemonstrated sales h line → IsDemonstration sales DONE h line
 

@@ -10,7 +10,6 @@ use Rattle.poets_lex.specs.Table.{Table, place_of}
 use Rattle.poets_syntax.specs.Contract.{Contract}
 use Rattle.poets_syntax.specs.Plain.{Book}
 use Rattle.poets_meaning.specs.Perf.{Perf}
-use Rattle.poets_calculus.specs.Residual.{residual_after}
 use Rattle.poets_way.specs.Texts.{way_text}
 use Rattle.poets_way.specs.Way.{Way}
 use Rattle.poets_way.specs.Ways.{Ways}
@@ -18,9 +17,9 @@ use Rattle.poets_open.specs.Next.{Step, next}
 use Rattle.poets_command.specs.Declarations.{book_from, reports_of}
 use Rattle.poets_command.specs.Plain.{Entry}
 use Rattle.poets_command.specs.Said.{Statement}
-use Rattle.poets_history.specs.Frame.{Frame}
-use Rattle.poets_history.specs.Histories.{InFrame}
+use Rattle.poets_history.specs.Frame.{Frame, frame_of}
 use Rattle.poets_history.specs.Ledger.{Ledger, ledger_of, trace}
+use Rattle.poets_history.specs.Owed.{Owed, WithRightMarks}
 use Rattle.poets_history.specs.Replies.{IsNamed, TellsWhetherPerformed}
 use Rattle.poets_print.specs.Lines.{yes_text}
 use Rattle.poets_print.specs.Texts.{step_text}
@@ -54,8 +53,8 @@ way_line way = codes "way " ++ way_text way ++ 10 ∷ []
 abbrev pub no_way_line : List ℕ
 no_way_line = codes "way none" ++ 10 ∷ []
 
--- the line tells a way in which the trace performs the contract, or that the trace does not perform
--- it
+-- the line gives a way in which the trace performs the contract, or says that the trace does not
+-- perform it
 pub data TellsWay (book : Book) (o : Contract) (s : List Event) : (line : List ℕ) → Type 0 where
   Performed : {way : Way} → Ways book [] o s way → TellsWay book o s (way_line way)
   NotPerformed : (Perf book [] o s → ⊥) → TellsWay book o s no_way_line
@@ -64,25 +63,28 @@ pub data TellsWay (book : Book) (o : Contract) (s : List Event) : (line : List �
 abbrev pub IsCalled : Table → Ledger → (name : List ℕ) → (number : ℕ) → (original : Contract) → Type 0
 IsCalled names l name i o = (x : Name) × (place_of name names ≡ Some x.id) × IsNamed l x i o
 
+-- these are the open transmissions of the contract
+abbrev pub AreNext : Book → Contract → List Step → Type 0
+AreNext book c steps = WithRightMarks book (λ marks. next book marks c ≡ steps)
+
 -- by the ledger this text explains the contract with a name: how many events its trace has, whether
--- the trace performs it, the open transmissions of its residual, and a way in which the trace
+-- the trace performs it, the open transmissions of what is owed, and a way in which the trace
 -- performs it
 pub data Explains (f : Frame) (names : Table) (l : Ledger) (name : List ℕ) : (text : List ℕ) → Type 0 where
   OfNone :
       ((i : ℕ) (o : Contract) → IsCalled names l name i o → ⊥) →
       Explains f names l name (absent_line name)
   OfContract :
-      {i : ℕ} {o : Contract} {may_end : Bool} {way : List ℕ} → IsCalled names l name i o →
-      TellsWhetherPerformed f may_end o (trace l i) → TellsWay f.book o (trace l i) way →
+      {i : ℕ} {o residual : Contract} {may_end : Bool} {steps : List Step} {way : List ℕ} →
+      IsCalled names l name i o → TellsWhetherPerformed f may_end o (trace l i) →
+      Owed f.book o (trace l i) residual → AreNext f.book residual steps → TellsWay f.book o (trace l i) way →
       Explains f names l name
-      (contract_line name (length (trace l i)) may_end
-      ++ next_lines names (next f.book f.marks (residual_after f.book f.marks o (trace l i)))
-      ++ way)
+      (contract_line name (length (trace l i)) may_end ++ next_lines names steps ++ way)
 
 -- after a history of the session this text explains the contract with a name
 abbrev pub IsExplanation : (name : List ℕ) → Table → List Statement → List Entry → (text : List ℕ) → Type 0
 IsExplanation name names statements h text =
-    InFrame (book_from statements) (reports_of statements) (λ f. Explains f names (ledger_of h) name text)
+    Explains (frame_of (book_from statements) (reports_of statements)) names (ledger_of h) name text
 
 -- the history is that of the journal's calls, and after it the text explains the contract with a
 -- name

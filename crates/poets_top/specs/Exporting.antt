@@ -26,7 +26,7 @@ pub record IsDocumentLine (names : Table) (book : Book) (reports : List Report) 
       ≡ document_bytes names
       (record { declared = declared; templates = book.templates; reports = reports; history = h }) ++ 10 ∷ []
 
--- of the journal the history of its calls is made, and its document is to be written
+-- the history of the journal's calls is made, and its document is to be written
 pub record ExportsJournal (names : Table) (statements : List Statement) (h : List Entry) (text : List ℕ) : Type 0 where
   pub history : IsReplayOf statements h
   pub document : IsDocumentLine names (book_from statements) (reports_of statements) h text

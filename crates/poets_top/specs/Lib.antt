@@ -6,6 +6,7 @@ pub mod Explaining
 pub mod Exporting
 pub mod Demonstrating
 pub mod Runs
+pub mod RunEnds
 pub mod Promises
 pub mod Scripts
 pub mod Laws

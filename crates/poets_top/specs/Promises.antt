@@ -42,7 +42,7 @@ EndsAsAsked words source sink outcome =
     Ends source.before source.after sink.before sink.after outcome.status (history_of outcome.history.items) mode
 
 -- where no count of faults rose, the run ends with the status that it deserves, or with that of
--- want of memory
+-- "out of memory"
 abbrev pub EndsAsDeserved : List (String Global) → (source sink : Change) → Outcome → Type 0
 EndsAsDeserved words source sink outcome =
     (mode : Mode) (wanted : ℕ) → AskFor (map string_bytes words) mode → DeservesRun source.before.bytes mode wanted →

@@ -17,7 +17,7 @@ pub record IsReplayOf (statements : List Statement) (h : List Entry) : Type 0 wh
   pub right : IsRightHistory (book_from statements) (reports_of statements) h
   pub calls : calls_of h ≡ journal_of statements
 
--- of the journal the history of its calls is made, and its lines are to be written
+-- the history of the journal's calls is made, and its lines are to be written
 pub record ReplaysJournal (names : Table) (statements : List Statement) (h : List Entry) (text : List ℕ) : Type 0 where
   pub history : IsReplayOf statements h
   pub lines : text ≡ history_text names h

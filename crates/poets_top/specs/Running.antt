@@ -12,15 +12,15 @@ use Rattle.poets_print.specs.Lines.{history_text}
 use Rattle.poets_session.specs.declared.form.Form.TheVariants as F
 use Rattle.poets_session.specs.Sessions.{Text, IsSession, scripts_of}
 
--- a right history in which the commands of each clerk are his script, in order, and no other
--- clerk's stand there
+-- a right history in which the commands of each clerk are his script, in order, and there are no
+-- others
 pub record IsHistoryOf (statements : List Statement) (h : List Entry) : Type 0 where
   pub right : IsRightHistory (book_from statements) (reports_of statements) h
   pub own : (place : ℕ) (script : List Command) → slice_get (scripts_of statements) place ≡ Some script →
       own (suc place) h ≡ script
   pub clerks : All (λ e. (1 ≤ e.clerk) × (e.clerk ≤ length (scripts_of statements))) h
 
--- of the clerks' scripts a history is made, and its lines are to be written
+-- a history is made of the clerks' scripts, and its lines are to be written
 pub record RunsScripts (names : Table) (statements : List Statement) (h : List Entry) (text : List ℕ) : Type 0 where
   pub history : IsHistoryOf statements h
   pub lines : text ≡ history_text names h

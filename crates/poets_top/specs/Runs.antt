@@ -1,4 +1,4 @@
--- What a run answers, and how it ends.
+-- What is due for a run, and how it ends.
 use Rattle.std.specs.Prelude.{◌≡◌, ℕ, ◌+◌, ◌≤◌, ◌<◌, ◌⊎◌, List, [], length, Option, Some}
 use Rattle.poets_io.specs.Causes.{Rose}
 use Rattle.poets_io.specs.Streams.{GivesAll, LosesFront}
@@ -32,7 +32,7 @@ IsMade T.Replay names statements = ReplaysJournal names statements
 IsMade (T.Explain name) names statements = ExplainsJournal name names statements
 IsMade T.Export names statements = ExportsJournal names statements
 
--- what a text asks for that was read
+-- what is due for a text that was read: the status, the history, and the text to be written
 pub data IsAnswerTo (text : Text) (task : Task) : (status : ℕ) → List Entry → List ℕ → Type 0 where
   -- a session
   Made :
@@ -43,7 +43,7 @@ pub data IsAnswerTo (text : Text) (task : Task) : (status : ℕ) → List Entry 
   Refused : {names : Table} {r : Refusal} → IsRefused text (form_of task) names r →
       IsAnswerTo text task NO_SESSION [] (refusal_text names r)
 
--- what a source asks for that was like this before the run, and like that after it
+-- what is due for a source that was like this before the run, and like that after it
 pub data IsResult (task : Task) (source source' : Stream) : (status : ℕ) → List Entry → List ℕ → Type 0 where
   -- it was read to its end
   Read :
@@ -90,7 +90,7 @@ pub data DeservesRun (left : Option Text) : Mode → (status : ℕ) → Type 0 w
       DeservesRun left (M.Read task) status
   OfDemo : {sales : ℕ} → DeservesRun left (M.Demo sales) DONE
 
--- the status, or that of want of memory
+-- the status is the wanted one, or that of "out of memory"
 abbrev pub IsStatusOrMemory : (wanted status : ℕ) → Type 0
 IsStatusOrMemory wanted status = (status ≡ wanted) ⊎ (status ≡ NO_MEMORY)
 

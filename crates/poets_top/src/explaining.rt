@@ -88,8 +88,7 @@ fn account_text(
     requires { IsFormedAccount studied.now account.now }
     ensures { IfOk result (ExplainsAccount studied.now names.now name.now account.now) }
 {
-    // The book is checked and guarded, and the marks are right.
-    let _book = studied.book();
+    studied.recall();
     let may_end = may_end(studied, &account.residual);
     let mut text = contract_line(alloc, name, account.events.len(), may_end)?;
     let steps = next(alloc, studied, &account.residual)?;

@@ -52,17 +52,18 @@ module _ {C F A : Type 0} (number : A → ℕ) (front : A → List (ℕ × C)) (
       (every k low high)
 
   -- what comes back at the end
-  pub closing : {M : Type 0} (history : M → List (ℕ × C)) (frame : M → F) (f : F) (clerks : ℕ) (ws : List ℕ) (xs : List (Option M)) (id : ℕ) (v : View C F) (cs : List A)
-      → Final (Seen (Rule history frame f clerks) id v) ws xs → v.stage ≡ Idle → 0 < v.number → All (λ c. KnowsClerk v (number c) (front c) (calls c)) cs → ((k : ℕ) → 0 < k → k ≤ clerks → Contains (map number cs) k)
-      → (x : M) × (get_elem? xs 0 ≡ some (Some x)) × (frame x ≡ f) × All (λ c. IsClerkIn (history x) (number c) (front c) (calls c)) cs × OnlyClerks clerks (history x)
-  closing history frame f clerks ws xs id v cs final idle low all every =
-      let r = closes history frame f clerks ws xs id v final idle low (covered v cs clerks all every) in let x = r.0 in (
-        x,
-        r.1,
-        r.2,
-        All-weaker (λ c. KnowsClerk v (number c) (front c) (calls c)) (λ c. IsClerkIn (history x) (number c) (front c) (calls c)) (λ c h. knows_all v (history x) r.3 r.5 r.6 (number c) (front c) (calls c) h) cs all,
-        r.4,
-      )
+  module _ {M : Type 0} (history : M → List (ℕ × C)) (frame : M → F) (f : F) (clerks : ℕ) where
+    pub closing : (ws : List ℕ) (xs : List (Option M)) (id : ℕ) (v : View C F) (cs : List A)
+        → Final (Seen (Rule history frame f clerks) id v) ws xs → v.stage ≡ Idle → 0 < v.number → All (λ c. KnowsClerk v (number c) (front c) (calls c)) cs → ((k : ℕ) → 0 < k → k ≤ clerks → Contains (map number cs) k)
+        → (x : M) × (get_elem? xs 0 ≡ some (Some x)) × (frame x ≡ f) × All (λ c. IsClerkIn (history x) (number c) (front c) (calls c)) cs × OnlyClerks clerks (history x)
+    closing ws xs id v cs final idle low all every =
+        let r = closes history frame f clerks ws xs id v final idle low (covered v cs clerks all every) in let x = r.0 in (
+          x,
+          r.1,
+          r.2,
+          All-weaker (λ c. KnowsClerk v (number c) (front c) (calls c)) (λ c. IsClerkIn (history x) (number c) (front c) (calls c)) (λ c h. knows_all v (history x) r.3 r.5 r.6 (number c) (front c) (calls c) h) cs all,
+          r.4,
+        )
 
 pub some_item : {A : Type 0} (number : A → ℕ) (xs : List A) (k : ℕ) → Contains (map number xs) k → 0 < length xs
 some_item number xs k h = All-contains (λ _. 0 < length xs) (map number xs) k (λ i d l. omega (arith, length-map xs number)) h

@@ -23,22 +23,23 @@ module _ {A E : Type 0} where
   ok_fact (Err e) P Q X ok h f = absurd (cc (ok))
 
 module _ {M C F K : Type 0} (history : M → List (ℕ × C)) (frame : M → F) where
-  -- the seat with the view v held the machine x, which came back as y with one call more
-  pub called : (owes : List (ℕ × C) → ℕ → C → K → Type 0) (v w : View C F) (t : ℕ) (x y : M) (m : Me (Option M) (View C F)) (k : ℕ) (c : C) (kept : K) (u : Setting F)
-      → IsServing history frame v t x None m → Served history frame v t x → v.setting ≡ Some u → v.number ≡ k → 0 < k
-      → history y ≡ history x ++ (k, c) ∷ [] → owes (history x) k c kept → t + 1 < 2 ^ 64 → w ≡ record m.0 { stage = Idle; front = history y; calls = m.0.calls ++ c ∷ [] }
-      → IsCall owes u.clerks k c kept v.front w.front v.calls w.calls
-  called owes v w t x y m k c kept u holds h has is low adds owed fits now =
-      let e = ap (λ m. m.0) holds in let setting = h.setting u has in let few : k ≤ u.clerks = let a = setting.2 in omega arith in
-      let front : w.front ≡ history x ++ (k, c) ∷ [] = ap (λ z. z.front) now ∙ adds in
-      let calls : w.calls ≡ v.calls ++ c ∷ [] = ap (λ z. z.calls) now ∙ ap (λ z. z.calls ++ c ∷ []) e in
-      let before : own_calls k (history x) ≡ v.calls = subst (λ (n : ℕ). own_calls n (history x) ≡ v.calls) is (h.calls (subst (λ (n : ℕ). 0 < n) (sym is) low)).0 in record {
-        before = history x;
-        longer = h.front;
-        last = front;
-        owed = owed;
-        calls = calls;
-        own = ap (own_calls k) front ∙ (own_added k (history x) c ∙ (ap (λ z. z ++ c ∷ []) before ∙ sym calls));
-        clerks = subst (OnlyClerks u.clerks) (sym front) (All-push (λ e. (0 < e.0) × (e.0 ≤ u.clerks)) (history x) (k, c) setting.1 (low, few));
-        short = let n = ap length front in let a = length-append (history x) ((k, c) ∷ []) in let b = h.short in omega arith;
-      }
+  -- the seat with the view v held the machine x
+  module _ (owes : List (ℕ × C) → ℕ → C → K → Type 0) (v : View C F) (t : ℕ) (x : M) (m : Me (Option M) (View C F)) (u : Setting F)
+      (holds : IsServing history frame v t x None m) (h : Served history frame v t x) (has : v.setting ≡ Some u) where
+    -- which came back as y with one call more
+    pub called : (w : View C F) (y : M) (k : ℕ) (c : C) (kept : K) → v.number ≡ k → 0 < k → history y ≡ history x ++ (k, c) ∷ [] → owes (history x) k c kept
+        → t + 1 < 2 ^ 64 → w ≡ record m.0 { stage = Idle; front = history y; calls = m.0.calls ++ c ∷ [] } → IsCall owes u.clerks k c kept v.front w.front v.calls w.calls
+    called w y k c kept is low adds owed fits now =
+        let e = ap (λ m. m.0) holds in let setting = h.setting u has in let few : k ≤ u.clerks = let a = setting.2 in omega arith in
+        let front : w.front ≡ history x ++ (k, c) ∷ [] = ap (λ z. z.front) now ∙ adds in
+        let calls : w.calls ≡ v.calls ++ c ∷ [] = ap (λ z. z.calls) now ∙ ap (λ z. z.calls ++ c ∷ []) e in
+        let before : own_calls k (history x) ≡ v.calls = subst (λ (n : ℕ). own_calls n (history x) ≡ v.calls) is (h.calls (subst (λ (n : ℕ). 0 < n) (sym is) low)).0 in record {
+          before = history x;
+          longer = h.front;
+          last = front;
+          owed = owed;
+          calls = calls;
+          own = ap (own_calls k) front ∙ (own_added k (history x) c ∙ (ap (λ z. z ++ c ∷ []) before ∙ sym calls));
+          clerks = subst (OnlyClerks u.clerks) (sym front) (All-push (λ e. (0 < e.0) × (e.0 ≤ u.clerks)) (history x) (k, c) setting.1 (low, few));
+          short = let n = ap length front in let a = length-append (history x) ((k, c) ∷ []) in let b = h.short in omega arith;
+        }

@@ -16,9 +16,9 @@ pub numbered_are_all : {M C F : Type 0} (count : ℕ) (clerks : List (ClerkOf M 
 numbered_are_all count clerks = all_from (λ c. number c) clerks count
 
 -- one that is numbered 1 and then one that is numbered 2, in a list that was empty
-pub two_numbered : {A : Type 0} (f : A → ℕ) (xs ys zs : List A) (a b : A) → xs ≡ [] → ys ≡ xs ++ a ∷ [] → zs ≡ ys ++ b ∷ [] → f a ≡ 1 → f b ≡ 2 → (n : ℕ) → n ≡ 2
+pub two_numbered : {A : Type 0} (f : A → ℕ) (xs ys zs : List A) {a b : A} → xs ≡ [] → ys ≡ xs ++ a ∷ [] → zs ≡ ys ++ b ∷ [] → f a ≡ 1 → f b ≡ 2 → (n : ℕ) → n ≡ 2
     → (length zs ≡ n) × ((k : ℕ) (d : A) → k < length zs → f (slice_index_or zs k d) ≡ k + 1)
-two_numbered {A} f xs ys zs a b none first second one other n two =
+two_numbered {A} f xs ys zs {a} {b} none first second one other n two =
     let all : zs ≡ a ∷ b ∷ [] = second ∙ (ap (λ l. l ++ b ∷ []) first ∙ ap (λ l. (l ++ a ∷ []) ++ b ∷ []) none) in
     subst (λ l. (length l ≡ n) × ((k : ℕ) (d : A) → k < length l → f (slice_index_or l k d) ≡ k + 1)) (sym all) (sym two, at)
   where

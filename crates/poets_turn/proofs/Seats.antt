@@ -42,18 +42,20 @@ module _ {M C F : Type 0} (history : M → List (ℕ × C)) (frame : M → F) (f
   abbrev Kept : St → Type 0
   Kept = Rule history frame f clerks
 
-  -- what w had seen or heard of goes into x, and w is empty_view
-  joined : (log : List (ℕ × C)) (vs : List V) (id : ℕ) (v : V) (other : ℕ) (w x : V) → get_elem? vs id ≡ some v → get_elem? vs other ≡ some w → ¬ (other ≡ id) → IsPrefix v.front log → IsPrefix w.front log → v.heard ≡ [] → w.heard ≡ []
-      → known x ≡ longer v.front w.front → IsKnown log vs → IsKnown log (set (set vs id x) other empty_view)
-  joined log vs id v other w x at at' apart p q unheard unheard' now h =
-      let at_id : get_elem? (set (set vs id x) other empty_view) id ≡ some x = set_else (set vs id x) other id empty_view (λ e. apart (sym e)) ∙ set_here vs id x (at_below vs id v at) in
-      dite (ℕ_discrete h.0 other)
-      (λ e. let is : w.front ≡ log = sym (longer_nil w.front) ∙ (ap (longer w.front) (sym unheard') ∙ (ap known (one_there vs other h.0 w h.1 (sym e) at' h.2) ∙ h.3)) in
-      (id, x, at_id, now ∙ longer_right v.front w.front log p is))
-      (λ ne. dite (ℕ_discrete h.0 id)
-      (λ e. let is : v.front ≡ log = sym (longer_nil v.front) ∙ (ap (longer v.front) (sym unheard) ∙ (ap known (one_there vs id h.0 v h.1 (sym e) at h.2) ∙ h.3)) in
-      (id, x, at_id, now ∙ longer_left v.front w.front log q is))
-      (λ ne'. (h.0, h.1, set_else (set vs id x) other h.0 empty_view ne ∙ (set_else vs id h.0 x ne' ∙ h.2), h.3)))
+  -- the seat id has seen a beginning of the log, and has heard nothing
+  module _ (log : List (ℕ × C)) (vs : List V) (h : IsKnown log vs) (id : ℕ) (v : V) (at : get_elem? vs id ≡ some v) (p : IsPrefix v.front log) (unheard : v.heard ≡ []) where
+    -- what w had seen or heard of goes into x, and w is empty_view
+    joined : (other : ℕ) (w x : V) → get_elem? vs other ≡ some w → ¬ (other ≡ id) → IsPrefix w.front log → w.heard ≡ [] → known x ≡ longer v.front w.front
+        → IsKnown log (set (set vs id x) other empty_view)
+    joined other w x at' apart q unheard' now =
+        let at_id : get_elem? (set (set vs id x) other empty_view) id ≡ some x = set_else (set vs id x) other id empty_view (λ e. apart (sym e)) ∙ set_here vs id x (at_below vs id v at) in
+        dite (ℕ_discrete h.0 other)
+        (λ e. let is : w.front ≡ log = sym (longer_nil w.front) ∙ (ap (longer w.front) (sym unheard') ∙ (ap known (one_there vs other h.0 w h.1 (sym e) at' h.2) ∙ h.3)) in
+        (id, x, at_id, now ∙ longer_right v.front w.front log p is))
+        (λ ne. dite (ℕ_discrete h.0 id)
+        (λ e. let is : v.front ≡ log = sym (longer_nil v.front) ∙ (ap (longer v.front) (sym unheard) ∙ (ap known (one_there vs id h.0 v h.1 (sym e) at h.2) ∙ h.3)) in
+        (id, x, at_id, now ∙ longer_left v.front w.front log q is))
+        (λ ne'. (h.0, h.1, set_else (set vs id x) other h.0 empty_view ne ∙ (set_else vs id h.0 x ne' ∙ h.2), h.3)))
 
   -- a view that says nothing but a beginning of the log
   nobody_fits : (m : Meaning C) (j : ℕ) (front : List (ℕ × C)) (setting : Option (Setting F)) → IsPrefix front m.log → ((t : Setting F) → setting ≡ Some t → (t.frame ≡ f) × (t.clerks ≡ clerks))
@@ -195,7 +197,7 @@ module _ {M C F : Type 0} (history : M → List (ℕ × C)) (frame : M → F) (f
       record { front = q.front; heard = p.front; setting = q.setting; stage = q.stage; clerk = q.clerk; nobody = q.nobody; count = q.count; ended = q.ended }
       (seen_stays m.log vs id v (with_note v w) at (λ h. longer_left v.front w.front m.log p.front (sym (longer_nil v.front) ∙ (ap (longer v.front) (sym unheard) ∙ h))) r.seen) in
       revised history frame f clerks record { words = s.words; homes = s.homes; views = set vs id (with_note v w) } first other w empty_view there (sym no.0) no_number no.2 no.3 (empty_fits first.meaning other)
-      (joined m.log vs id v other w (with_note v w) at at_other apart q.front p.front unheard unheard' refl r.seen)
+      (joined m.log vs r.seen id v at q.front unheard other w (with_note v w) at_other apart p.front unheard' refl)
 
   pub clerk_taken : (id : ℕ) (v : V) (other : ℕ) (w : V) → 0 < v.number → 0 < w.number → w.stage ≡ Idle → v.heard ≡ [] → w.heard ≡ [] → Joins Kept id v other w (with_clerk v w) empty_view
   clerk_taken id v other w mine theirs idle unheard unheard' s r at apart there = let m = r.meaning in let vs = s.views in let x : V = with_clerk v w in
@@ -290,7 +292,7 @@ module _ {M C F : Type 0} (history : M → List (ℕ × C)) (frame : M → F) (f
               (λ ne'. (old.0, subst (λ (i : ℕ). get_elem? two i ≡ some old.0) (sym seat_k) (kept at_k old.0 ne ne' old.1), subst (λ b. HasNumber b k old.0) (sym over_k) old.2)));
         };
         all_made = r.all_made;
-        seen = joined m.log vs id v other w x at at_other apart q.front p.front unheard unheard' refl r.seen;
+        seen = joined m.log vs r.seen id v at q.front unheard other w x at_other apart p.front unheard' refl;
       }
     where
       true_false : true ≡ false → ⊥

@@ -232,75 +232,77 @@ module _ {M C F : Type 0} (history : M → List (ℕ × C)) (frame : M → F) (f
   one_home : (s : St) (r : Kept s) → (h : maybe.Option (Option M)) × (s.homes ≡ h ∷ [])
   one_home s r = ⊎_elim (λ i. (some (Some i.machine), i.home)) (λ o. (none, o.away)) r.machine
 
-  -- the machine x goes back, and the turn to the next ticket
-  handed : (s : St) (r : Kept s) (t next id : ℕ) (l : List (ℕ × C)) (cs : List (ℕ × Option M)) (v : V) (x : M) (seen_now : List (ℕ × C)) (mine : List C) → get_elem? s.views id ≡ some v → v.stage ≡ Serving t l
-      → next ≡ t + 1 → cs ≡ (0, Some x) ∷ [] → frame x ≡ f → IsPrefix r.meaning.log (history x) → length (history x) ≤ r.meaning.serving + 1 → OnlyClerks r.meaning.numbers.made (history x)
-      → IsPrefix seen_now (history x) → (own_calls v.number seen_now ≡ mine) × (mine ≡ own_calls v.number (history x)) → ((k : ℕ) → k ≢ v.number → own_calls k (history x) ≡ own_calls k r.meaning.log)
-      → IsKnown (history x) (set s.views id (record v { stage = Idle; front = seen_now; calls = mine })) → Kept (stepped s 1 next id cs (record v { stage = Idle; front = seen_now; calls = mine }) gives)
-  handed s r t next id l cs v x seen_now mine at serves up carried framed longer short all front calls others seen = let m = r.meaning in let q = r.each_seat id v at in
-      let w : V = record v { stage = Idle; front = seen_now; calls = mine } in
-      let turn = subst (FitsStage m id) serves q.stage in
-      let at_turn : m.ticket_seat m.serving ≡ id = ap m.ticket_seat (sym turn.0) ∙ turn.2 in
-      let some_number : 0 < v.number = dite (ℕ_discrete v.number 0) (λ z. absurd (no_serving t l (sym serves ∙ (q.nobody z).0))) (λ ne. omega arith) in
-      let clerk = q.clerk some_number in
-      let order = r.order in let t_is = turn.0 in let t_low = turn.1 in
-      let m' : Meaning C = record m { serving = m.serving + 1; log = history x } in
-      let home = one_home s r in
-      let back : homes_after s.homes cs gives ≡ some (Some x) ∷ [] = ap (λ c. homes_after s.homes c gives) carried ∙ ap (λ hs. set hs 0 (some (Some x))) home.1 in
-      record {
-        meaning = m';
-        words = ap (λ ws. set ws 1 next) r.words ∙ (λ i. m.ticket ∷ (up ∙ ap (λ (k : ℕ). k + 1) t_is) i ∷ []);
-        order = omega arith;
-        short = short;
-        machine = inl record { machine = x; home = back; history_is = refl; frame_is = framed };
-        each_seat = each_stays (Fits f clerks m') s.views id w
-            record {
-              front = front;
-              heard = prefix_trans v.heard m.log (history x) q.heard longer;
-              setting = q.setting;
-              stage = tt;
-              clerk = λ _. record { high = clerk.high; seat = clerk.seat; over = clerk.over; calls = calls.1; seen = calls.0 };
-              nobody = λ z. absurd (omega arith);
-              count = q.count;
-              ended = All-weaker (IsEnded m.numbers m.log id) (IsEnded m.numbers (history x) id)
-                  (λ e h. record { low = h.low; high = h.high; seat = h.seat; over = h.over; calls = h.calls ∙ sym (others e.0 (λ same. true_false (sym h.over ∙ (ap m.numbers.is_ended same ∙ clerk.over)))) }) v.ended q.ended;
-            }
-            (λ j u other at'. let p = r.each_seat j u at' in record {
-              front = prefix_trans u.front m.log (history x) p.front longer;
-              heard = prefix_trans u.heard m.log (history x) p.heard longer;
-              setting = p.setting;
-              stage = later m (history x) j (λ e. other (sym e ∙ at_turn)) u.stage p.stage;
-              clerk = λ low. let c = p.clerk low in record {
-                high = c.high;
-                seat = c.seat;
-                over = c.over;
-                calls = c.calls ∙ sym (others u.number (λ same. other (sym c.seat ∙ (ap m.numbers.number_seat same ∙ clerk.seat))));
-                seen = c.seen;
-              };
-              nobody = p.nobody;
-              count = p.count;
-              ended = All-weaker (IsEnded m.numbers m.log j) (IsEnded m.numbers (history x) j)
-                  (λ e h. record { low = h.low; high = h.high; seat = h.seat; over = h.over; calls = h.calls ∙ sym (others e.0 (λ same. other (sym h.seat ∙ (ap m.numbers.number_seat same ∙ clerk.seat)))) }) u.ended p.ended;
-            });
-        tickets = λ k low high. let old = r.tickets k (omega arith) high in
-            still (λ (u : V). HasTicket k u.stage) s.views id (m.ticket_seat k) w
-            (λ is. let had : HasTicket k v.stage = subst (λ (u : V). HasTicket k u.stage) (sym (one_there s.views id (m.ticket_seat k) v old.0 (sym is) at old.1)) old.2 in
-            let same : t ≡ k = subst (HasTicket k) serves had in absurd (omega arith)) old;
-        numbers = numbers_stay m.numbers clerks s.views id v w at refl refl refl r.numbers;
-        all_made = all;
-        seen = seen;
-      }
-    where
-      no_serving : (t : ℕ) (l : List (ℕ × C)) → ◌≡◌ {A = Stage C} (Serving t l) Idle → ⊥
-      no_serving t l e = cc
+  -- the seat with the view v serves in the turn t, and hands over the machine x
+  module _ (s : St) (r : Kept s) (t next id : ℕ) (l : List (ℕ × C)) (cs : List (ℕ × Option M)) (v : V) (x : M) (at : get_elem? s.views id ≡ some v)
+      (serves : v.stage ≡ Serving t l) (up : next ≡ t + 1) (carried : cs ≡ (0, Some x) ∷ []) where
+    -- the machine goes back, and the turn to the next ticket
+    handed : (seen_now : List (ℕ × C)) (mine : List C) → frame x ≡ f → IsPrefix r.meaning.log (history x) → length (history x) ≤ r.meaning.serving + 1 → OnlyClerks r.meaning.numbers.made (history x)
+        → IsPrefix seen_now (history x) → (own_calls v.number seen_now ≡ mine) × (mine ≡ own_calls v.number (history x)) → ((k : ℕ) → k ≢ v.number → own_calls k (history x) ≡ own_calls k r.meaning.log)
+        → IsKnown (history x) (set s.views id (record v { stage = Idle; front = seen_now; calls = mine })) → Kept (stepped s 1 next id cs (record v { stage = Idle; front = seen_now; calls = mine }) gives)
+    handed seen_now mine framed longer short all front calls others seen = let m = r.meaning in let q = r.each_seat id v at in
+        let w : V = record v { stage = Idle; front = seen_now; calls = mine } in
+        let turn = subst (FitsStage m id) serves q.stage in
+        let at_turn : m.ticket_seat m.serving ≡ id = ap m.ticket_seat (sym turn.0) ∙ turn.2 in
+        let some_number : 0 < v.number = dite (ℕ_discrete v.number 0) (λ z. absurd (no_serving t l (sym serves ∙ (q.nobody z).0))) (λ ne. omega arith) in
+        let clerk = q.clerk some_number in
+        let order = r.order in let t_is = turn.0 in let t_low = turn.1 in
+        let m' : Meaning C = record m { serving = m.serving + 1; log = history x } in
+        let home = one_home s r in
+        let back : homes_after s.homes cs gives ≡ some (Some x) ∷ [] = ap (λ c. homes_after s.homes c gives) carried ∙ ap (λ hs. set hs 0 (some (Some x))) home.1 in
+        record {
+          meaning = m';
+          words = ap (λ ws. set ws 1 next) r.words ∙ (λ i. m.ticket ∷ (up ∙ ap (λ (k : ℕ). k + 1) t_is) i ∷ []);
+          order = omega arith;
+          short = short;
+          machine = inl record { machine = x; home = back; history_is = refl; frame_is = framed };
+          each_seat = each_stays (Fits f clerks m') s.views id w
+              record {
+                front = front;
+                heard = prefix_trans v.heard m.log (history x) q.heard longer;
+                setting = q.setting;
+                stage = tt;
+                clerk = λ _. record { high = clerk.high; seat = clerk.seat; over = clerk.over; calls = calls.1; seen = calls.0 };
+                nobody = λ z. absurd (omega arith);
+                count = q.count;
+                ended = All-weaker (IsEnded m.numbers m.log id) (IsEnded m.numbers (history x) id)
+                    (λ e h. record { low = h.low; high = h.high; seat = h.seat; over = h.over; calls = h.calls ∙ sym (others e.0 (λ same. true_false (sym h.over ∙ (ap m.numbers.is_ended same ∙ clerk.over)))) }) v.ended q.ended;
+              }
+              (λ j u other at'. let p = r.each_seat j u at' in record {
+                front = prefix_trans u.front m.log (history x) p.front longer;
+                heard = prefix_trans u.heard m.log (history x) p.heard longer;
+                setting = p.setting;
+                stage = later m (history x) j (λ e. other (sym e ∙ at_turn)) u.stage p.stage;
+                clerk = λ low. let c = p.clerk low in record {
+                  high = c.high;
+                  seat = c.seat;
+                  over = c.over;
+                  calls = c.calls ∙ sym (others u.number (λ same. other (sym c.seat ∙ (ap m.numbers.number_seat same ∙ clerk.seat))));
+                  seen = c.seen;
+                };
+                nobody = p.nobody;
+                count = p.count;
+                ended = All-weaker (IsEnded m.numbers m.log j) (IsEnded m.numbers (history x) j)
+                    (λ e h. record { low = h.low; high = h.high; seat = h.seat; over = h.over; calls = h.calls ∙ sym (others e.0 (λ same. other (sym h.seat ∙ (ap m.numbers.number_seat same ∙ clerk.seat)))) }) u.ended p.ended;
+              });
+          tickets = λ k low high. let old = r.tickets k (omega arith) high in
+              still (λ (u : V). HasTicket k u.stage) s.views id (m.ticket_seat k) w
+              (λ is. let had : HasTicket k v.stage = subst (λ (u : V). HasTicket k u.stage) (sym (one_there s.views id (m.ticket_seat k) v old.0 (sym is) at old.1)) old.2 in
+              let same : t ≡ k = subst (HasTicket k) serves had in absurd (omega arith)) old;
+          numbers = numbers_stay m.numbers clerks s.views id v w at refl refl refl r.numbers;
+          all_made = all;
+          seen = seen;
+        }
+      where
+        no_serving : (t : ℕ) (l : List (ℕ × C)) → ◌≡◌ {A = Stage C} (Serving t l) Idle → ⊥
+        no_serving t l e = cc
 
-      true_false : true ≡ false → ⊥
-      true_false e = cc
+        true_false : true ≡ false → ⊥
+        true_false e = cc
 
-      later : (m : Meaning C) (log : List (ℕ × C)) (j : ℕ) → (m.ticket_seat m.serving ≢ j) → (st : Stage C) → FitsStage m j st → FitsStage (record m { serving = m.serving + 1; log = log }) j st
-      later m log j other Idle a = tt
-      later m log j other (Waiting k) a = let b = a.0 in (dite (ℕ_discrete k m.serving) (λ e. absurd (other (ap m.ticket_seat (sym e) ∙ a.2))) (λ ne. omega arith), a.1, a.2)
-      later m log j other (Serving k l) a = absurd (other (ap m.ticket_seat (sym a.0) ∙ a.2))
+        later : (m : Meaning C) (log : List (ℕ × C)) (j : ℕ) → (m.ticket_seat m.serving ≢ j) → (st : Stage C) → FitsStage m j st → FitsStage (record m { serving = m.serving + 1; log = log }) j st
+        later m log j other Idle a = tt
+        later m log j other (Waiting k) a = let b = a.0 in (dite (ℕ_discrete k m.serving) (λ e. absurd (other (ap m.ticket_seat (sym e) ∙ a.2))) (λ ne. omega arith), a.1, a.2)
+        later m log j other (Serving k l) a = absurd (other (ap m.ticket_seat (sym a.0) ∙ a.2))
 
   abbrev machine_or : M → Option M → M
   machine_or d (Some x) = x
@@ -315,53 +317,51 @@ module _ {M C F : Type 0} (history : M → List (ℕ × C)) (frame : M → F) (f
   stage_log (Waiting t) = []
   stage_log (Serving t l) = l
 
-  pub enters : (slots id : ℕ) (me : K) (t next : ℕ) (l : List (ℕ × C)) (x : M) (c : C) (u : Setting F) → me.0.stage ≡ Serving t l → me.1 ≡ (0, Some x) ∷ [] → next ≡ t + 1 → me.0.setting ≡ Some u → frame x ≡ u.frame
-      → history x ≡ l ++ (me.0.number, c) ∷ [] → Allows Kept slots id me 1 (λ _. next) (λ _. AfterEntry history (step slots 1 next 0 none) me next)
-  enters slots id me t next l x c u serves carried up has framed adds s r _ at _ = let m = r.meaning in let v = me.0 in let q = r.each_seat id v at in
-      let turn = subst (FitsStage m id) serves q.stage in
-      let some_number : 0 < v.number = dite (ℕ_discrete v.number 0) (λ z. absurd (no_serving t l (sym serves ∙ (q.nobody z).0))) (λ ne. omega arith) in
-      let clerk = q.clerk some_number in let high = clerk.high in let short = r.short in
-      let to : history x ≡ m.log ++ (v.number, c) ∷ [] = adds ∙ ap (λ z. z ++ (v.number, c) ∷ []) turn.3 in
-      let mine : v.calls ++ c ∷ [] ≡ own_calls v.number (history x) = ap (λ z. z ++ c ∷ []) clerk.calls ∙ (sym (own_added v.number m.log c) ∙ ap (own_calls v.number) (sym to)) in (
-        record v { stage = Idle; front = history x; calls = v.calls ++ c ∷ [] },
-        gives,
-        tt,
-        handed s r t next id l me.1 v x (history x) (v.calls ++ c ∷ []) at serves up carried (framed ∙ (q.setting u has).0) ((v.number, c) ∷ [], sym to)
-            (let e = ap length to in let n = length-append m.log ((v.number, c) ∷ []) in omega arith)
-            (subst (OnlyClerks m.numbers.made) (sym to) (All-push (λ e. (0 < e.0) × (e.0 ≤ m.numbers.made)) m.log (v.number, c) r.all_made (some_number, high)))
-            (prefix_self (history x)) (sym mine, mine) (λ k ne. ap (own_calls k) to ∙ own_kept k v.number m.log c (λ e. ne (sym e)))
-            (let w : V = record v { stage = Idle; front = history x; calls = v.calls ++ c ∷ [] } in
-            (id, w, set_here s.views id w (at_below s.views id v at), longer_left (history x) v.heard (history x) (prefix_trans v.heard m.log (history x) q.heard ((v.number, c) ∷ [], sym to)) refl)),
-        λ t' l' x' c' serves' carried' adds'.
-            let same_log : l ≡ l' = ap stage_log (sym serves ∙ serves') in
-            let same_x : x ≡ x' = ap (in_hand x) (sym carried ∙ carried') in
-            let e : history x ≡ history x' = ap history same_x in
-            let same_c : c ≡ c' = ap (λ p. p.1) (same_from_push l l (v.number, c) (v.number, c') (sym adds ∙ (e ∙ (adds' ∙ ap (λ z. z ++ (v.number, c') ∷ []) (sym same_log))))).1 in
-            λ i. (record v { stage = Idle; front = e i; calls = v.calls ++ same_c i ∷ [] }, rest (carried i)),
-      )
-    where
-      no_serving : (t : ℕ) (l : List (ℕ × C)) → ◌≡◌ {A = Stage C} (Serving t l) Idle → ⊥
-      no_serving t l e = cc
+  -- the seat serves in the turn t, with the machine x in its hand
+  module _ (slots id : ℕ) (me : K) (t next : ℕ) (l : List (ℕ × C)) (x : M) (u : Setting F) (serves : me.0.stage ≡ Serving t l) (carried : me.1 ≡ (0, Some x) ∷ [])
+      (up : next ≡ t + 1) (has : me.0.setting ≡ Some u) (framed : frame x ≡ u.frame) where
+    no_serving : (t : ℕ) (l : List (ℕ × C)) → ◌≡◌ {A = Stage C} (Serving t l) Idle → ⊥
+    no_serving t l e = cc
 
-  pub passes : (slots id : ℕ) (me : K) (t next : ℕ) (l : List (ℕ × C)) (x : M) (u : Setting F) → me.0.stage ≡ Serving t l → me.1 ≡ (0, Some x) ∷ [] → next ≡ t + 1 → me.0.setting ≡ Some u → frame x ≡ u.frame
-      → history x ≡ l → Allows Kept slots id me 1 (λ _. next) (λ _. AfterPass (step slots 1 next 0 none) me next)
-  passes slots id me t next l x u serves carried up has framed same s r _ at _ = let m = r.meaning in let v = me.0 in let q = r.each_seat id v at in
-      let turn = subst (FitsStage m id) serves q.stage in
-      let some_number : 0 < v.number = dite (ℕ_discrete v.number 0) (λ z. absurd (no_serving t l (sym serves ∙ (q.nobody z).0))) (λ ne. omega arith) in
-      let clerk = q.clerk some_number in let short = r.short in
-      let to : history x ≡ m.log = same ∙ turn.3 in (
-        record v { stage = Idle },
-        gives,
-        tt,
-        handed s r t next id l me.1 v x v.front v.calls at serves up carried (framed ∙ (q.setting u has).0) (subst (IsPrefix m.log) (sym to) (prefix_self m.log))
-            (let e = ap length to in omega arith) (subst (OnlyClerks m.numbers.made) (sym to) r.all_made) (subst (IsPrefix v.front) (sym to) q.front)
-            (clerk.seen, clerk.calls ∙ ap (own_calls v.number) (sym to)) (λ k ne. ap (own_calls k) to)
-            (subst (λ l. IsKnown l (set s.views id (record v { stage = Idle }))) (sym to) (seen_stays m.log s.views id v (record v { stage = Idle }) at (λ h. h) r.seen)),
-        λ i. (record v { stage = Idle }, rest (carried i)),
-      )
-    where
-      no_serving : (t : ℕ) (l : List (ℕ × C)) → ◌≡◌ {A = Stage C} (Serving t l) Idle → ⊥
-      no_serving t l e = cc
+    pub enters : (c : C) → history x ≡ l ++ (me.0.number, c) ∷ [] → Allows Kept slots id me 1 (λ _. next) (λ _. AfterEntry history (step slots 1 next 0 none) me next)
+    enters c adds s r _ at _ = let m = r.meaning in let v = me.0 in let q = r.each_seat id v at in
+        let turn = subst (FitsStage m id) serves q.stage in
+        let some_number : 0 < v.number = dite (ℕ_discrete v.number 0) (λ z. absurd (no_serving t l (sym serves ∙ (q.nobody z).0))) (λ ne. omega arith) in
+        let clerk = q.clerk some_number in let high = clerk.high in let short = r.short in
+        let to : history x ≡ m.log ++ (v.number, c) ∷ [] = adds ∙ ap (λ z. z ++ (v.number, c) ∷ []) turn.3 in
+        let mine : v.calls ++ c ∷ [] ≡ own_calls v.number (history x) = ap (λ z. z ++ c ∷ []) clerk.calls ∙ (sym (own_added v.number m.log c) ∙ ap (own_calls v.number) (sym to)) in (
+          record v { stage = Idle; front = history x; calls = v.calls ++ c ∷ [] },
+          gives,
+          tt,
+          handed s r t next id l me.1 v x at serves up carried (history x) (v.calls ++ c ∷ []) (framed ∙ (q.setting u has).0) ((v.number, c) ∷ [], sym to)
+              (let e = ap length to in let n = length-append m.log ((v.number, c) ∷ []) in omega arith)
+              (subst (OnlyClerks m.numbers.made) (sym to) (All-push (λ e. (0 < e.0) × (e.0 ≤ m.numbers.made)) m.log (v.number, c) r.all_made (some_number, high)))
+              (prefix_self (history x)) (sym mine, mine) (λ k ne. ap (own_calls k) to ∙ own_kept k v.number m.log c (λ e. ne (sym e)))
+              (let w : V = record v { stage = Idle; front = history x; calls = v.calls ++ c ∷ [] } in
+              (id, w, set_here s.views id w (at_below s.views id v at), longer_left (history x) v.heard (history x) (prefix_trans v.heard m.log (history x) q.heard ((v.number, c) ∷ [], sym to)) refl)),
+          λ t' l' x' c' serves' carried' adds'.
+              let same_log : l ≡ l' = ap stage_log (sym serves ∙ serves') in
+              let same_x : x ≡ x' = ap (in_hand x) (sym carried ∙ carried') in
+              let e : history x ≡ history x' = ap history same_x in
+              let same_c : c ≡ c' = ap (λ p. p.1) (same_from_push l l (v.number, c) (v.number, c') (sym adds ∙ (e ∙ (adds' ∙ ap (λ z. z ++ (v.number, c') ∷ []) (sym same_log))))).1 in
+              λ i. (record v { stage = Idle; front = e i; calls = v.calls ++ same_c i ∷ [] }, rest (carried i)),
+        )
+
+    pub passes : history x ≡ l → Allows Kept slots id me 1 (λ _. next) (λ _. AfterPass (step slots 1 next 0 none) me next)
+    passes same s r _ at _ = let m = r.meaning in let v = me.0 in let q = r.each_seat id v at in
+        let turn = subst (FitsStage m id) serves q.stage in
+        let some_number : 0 < v.number = dite (ℕ_discrete v.number 0) (λ z. absurd (no_serving t l (sym serves ∙ (q.nobody z).0))) (λ ne. omega arith) in
+        let clerk = q.clerk some_number in let short = r.short in
+        let to : history x ≡ m.log = same ∙ turn.3 in (
+          record v { stage = Idle },
+          gives,
+          tt,
+          handed s r t next id l me.1 v x at serves up carried v.front v.calls (framed ∙ (q.setting u has).0) (subst (IsPrefix m.log) (sym to) (prefix_self m.log))
+              (let e = ap length to in omega arith) (subst (OnlyClerks m.numbers.made) (sym to) r.all_made) (subst (IsPrefix v.front) (sym to) q.front)
+              (clerk.seen, clerk.calls ∙ ap (own_calls v.number) (sym to)) (λ k ne. ap (own_calls k) to)
+              (subst (λ l. IsKnown l (set s.views id (record v { stage = Idle }))) (sym to) (seen_stays m.log s.views id v (record v { stage = Idle }) at (λ h. h) r.seen)),
+          λ i. (record v { stage = Idle }, rest (carried i)),
+        )
 
   -- the front takes in what was heard
   pub settles : (slots id : ℕ) (me : K) → Allows Kept slots id me 1 (λ x. x) (AfterSettling (step slots 1 0 0 none) me)

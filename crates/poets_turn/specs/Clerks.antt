@@ -39,7 +39,7 @@ module _ {M C F : Type 0} where
   abbrev pub number : ClerkOf M C F → ℕ
   number clerk = clerk.number
 
-  -- what the clerk saw of the history, which is a beginning of it
+  -- what the clerk saw of the history, which is a prefix of it
   abbrev pub front : ClerkOf M C F → List (ℕ × C)
   front clerk = clerk.seat.me.0.front
 
@@ -63,7 +63,7 @@ module _ {M C F : Type 0} where
   abbrev pub IsNoteOf : {R K : Type 0} → (M → F) → Turn M C R K F → NoteOf M C F → Type 0
   IsNoteOf frame turn note = IsAt frame turn note.seat
 
-  -- so many clerks, which saw nothing and made no call
+  -- they are so many clerks, which saw nothing and made no call
   abbrev pub AreFresh : {R K : Type 0} → (M → F) → Turn M C R K F → ℕ → List (ClerkOf M C F) → Type 0
   AreFresh frame turn count clerks = (length clerks ≡ count) × All (λ c. IsFresh frame turn c) clerks
 
@@ -75,7 +75,7 @@ module _ {M C F : Type 0} where
   abbrev pub SawNoMore : (clerk clerk' : ClerkOf M C F) → Type 0
   SawNoMore clerk clerk' = (front clerk' ≡ front clerk) × (calls clerk' ≡ calls clerk)
 
-  -- the clerk saw all that it had seen, and all that the note tells
+  -- the clerk saw all that it had seen before, and all that the writer of the note had seen
   abbrev pub HasHeard : NoteOf M C F → (clerk clerk' : ClerkOf M C F) → Type 0
   HasHeard note clerk clerk' = IsPrefix (front clerk) (front clerk') × IsPrefix (note_front note) (front clerk')
 
@@ -98,13 +98,13 @@ pub record IsCall {C K : Type 0} (owes : List (ℕ × C) → ℕ → C → K →
   pub last : saw' ≡ before ++ (number, call) ∷ []
   -- what was kept is owed there
   pub owed : owes before number call kept
-  -- it is one more of the clerk's own calls
+  -- the call is one more of the clerk's own
   pub calls : made' ≡ made ++ call ∷ []
-  -- of this clerk, what it saw has just its own calls
+  -- what it saw has just its own calls under its number
   pub own : own_calls number saw' ≡ made'
   -- each entry that it saw is under the number of a clerk
   pub clerks : OnlyClerks count saw'
-  -- and they can be counted in 64 bits
+  -- and the entries can be counted in 64 bits
   pub short : length saw' < 2 ^ 64
 
 module _ {M C R K F T : Type 0} where

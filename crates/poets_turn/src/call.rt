@@ -20,8 +20,8 @@ use std::thread::Threads;
 const TRIES: u16 = 1_000;
 
 impl<M: Machine> Turn<M> {
-    /// Waits for the clerk's turn, and has the machine take the call. The call then stands at the end of what the clerk
-    /// saw. After want of memory no entry was made.
+    /// Waits for the clerk's turn, and has the machine take the call. The call is then at the end of what the clerk
+    /// saw. If memory ran out, no entry was made.
     pub fn call<R: Threads + Wait + Sync>(
         &self,
         rt: &R,

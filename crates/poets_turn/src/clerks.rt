@@ -1,4 +1,4 @@
-//! What clerks tell of themselves and tell each other.
+//! What clerks say of themselves and tell each other.
 ghost use Rattle.std.specs.Prelude.{◌≡◌, ◌<◌, length};
 ghost use Rattle.poets_turn.specs.Clerks.{HasHeard, SawNoMore, front, calls, number, note_front, IsClerkOf, IsNoteOf};
 
@@ -37,7 +37,7 @@ impl<M: Machine> Turn<M> {
         }
     }
 
-    /// From now on the clerk saw all that the note tells, too.
+    /// Has the clerk hear a note: it then saw all that the note's writer had seen, too.
     pub fn hear(&self, clerk: &mut Clerk<M>, note: Note<M>)
         requires of { IsClerkOf M.frame self.now clerk.old }
         requires note { IsNoteOf M.frame self.now note }

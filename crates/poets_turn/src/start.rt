@@ -14,7 +14,7 @@ use std::alloc::Global;
 use std::snapshot::Snapshot;
 
 impl<M: Machine> Turn<M> {
-    /// A turnstile for a machine that took no call yet, with its clerks, numbered from 1. For want of memory the
+    /// A turnstile for a machine that took no call yet, with its clerks, numbered from 1. If memory runs out, the
     /// machine comes back.
     pub fn start(alloc: Global, machine: M, clerks: u32) -> Result<(Turn<M>, List<Clerk<M>>), M>
         requires clerks { (0 < clerks) × (clerks ≤ most_clerks) }

@@ -1,4 +1,4 @@
-//! What a seat at the turnstile knows. No value of these types is made: they stand in proofs alone.
+//! What a seat at the turnstile knows. No value of these types is made: they occur in proofs alone.
 use std::collections::LinkedList;
 
 /// What is fixed when a turnstile is made: the machine's frame, and the number of clerks.
@@ -22,13 +22,13 @@ pub struct View<C, F> {
     /// The clerk's number, or 0 for a note.
     pub number: u32,
     pub stage: Stage<C>,
-    /// The beginning of the log that was seen.
+    /// The prefix of the log that was seen.
     pub front: LinkedList<(u32, C)>,
-    /// A beginning of the log that was heard of.
+    /// A prefix of the log that was heard of.
     pub heard: LinkedList<(u32, C)>,
     /// The clerk's own calls.
     pub calls: LinkedList<C>,
-    /// How many numbers were made, where this seat makes them, or 0.
+    /// How many numbers were given out, if this seat gives them out, or 0.
     pub count: u32,
     /// The clerks that this seat took in, each with its own calls.
     pub ended: LinkedList<(u32, LinkedList<C>)>,

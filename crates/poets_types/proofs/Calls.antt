@@ -14,7 +14,8 @@ use Rattle.poets_command.specs.declared.call.Command.{Command}
 use Rattle.poets_command.proofs.TypingRules.{command_typed}
 use Rattle.poets_types.specs.declared.cause.TypeCause.{TypeCause}
 use Rattle.poets_types.specs.Calls.{AreTypedCalls}
-use Rattle.poets_types.specs.Verdicts.{CommandIsTyped, command_verdict}
+use Rattle.poets_types.specs.code.Checks.{command_verdict}
+use Rattle.poets_types.specs.Verdicts.{CommandIsTyped}
 use Rattle.poets_types.specs.code.Answers.{answer_of}
 use Rattle.poets_types.proofs.Checks.{passes_from_ok}
 

@@ -4,7 +4,7 @@ use Rattle.std.specs.Prelude.{IfErr}
 use Rattle.poets_syntax.specs.Plain.{Twice, Unknown, WrongCount, WrongType}
 use Rattle.poets_syntax.specs.TypeOf.{Verdict, Passes, Fails, ◌>>=◌}
 use Rattle.poets_types.specs.declared.cause.TypeCause.{TypeCause}
-use Rattle.poets_types.specs.Faults.{IsFaultOf}
+use Rattle.poets_types.specs.code.Answers.{IsToldBy}
 use Rattle.poets_types.specs.code.Answers.{answer_of, IsAnswerOf}
 
 pub passes_from_ok : {A : Type 0} (r : Verdict A) (a : A) → answer_of r ≡ Ok a → r ≡ Passes a
@@ -27,6 +27,6 @@ answer_told check result e = rw e (by_check check)
     by_check (Fails (WrongCount x wanted found)) = refl
     by_check (Fails (WrongType wanted found)) = refl
 
-pub fault_told : (check : Verdict (Unit {0})) (result : Result (Unit {0}) TypeCause) → result ≡ answer_of check → IfErr result (IsFaultOf check)
+pub fault_told : (check : Verdict (Unit {0})) (result : Result (Unit {0}) TypeCause) → result ≡ answer_of check → IfErr result (IsToldBy check)
 fault_told check (Ok _) e = tt
 fault_told check (Err cause) e = answer_told check (Err cause) e

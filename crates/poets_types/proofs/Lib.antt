@@ -3,6 +3,7 @@ pub mod Binders
 pub mod CheckedBooks
 pub mod Checks
 pub mod Calls
+pub mod Demanded
 pub mod TypedAnswers
 pub mod Declaring
 pub mod Indices

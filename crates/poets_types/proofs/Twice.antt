@@ -13,7 +13,7 @@ use Rattle.poets_command.specs.TypedStatements.{or_else, twice_from}
 use Rattle.poets_command.specs.Said as said
 use Rattle.poets_types.specs.declared.cause.TypeCause.{TypeCause}
 use Rattle.poets_types.specs.declared.cause.TypeCause.TheVariants as C
-use Rattle.poets_types.specs.Faults.{IsFaultOf, IsFirstFault}
+use Rattle.poets_types.specs.code.Answers.{IsToldBy, IsToldFirst}
 
 -- the names that were declared, and those that the statements declare after them, the newest first
 abbrev pub names_before : List said.Statement → List Name → List Name
@@ -45,8 +45,8 @@ pub check_new-same : (used used' : Name → Bool) (names : List Name) → ((x : 
 check_new-same used used' names e = ap (λ (u : Name → Bool). check_new u [] names) (fun_ext e)
 
 -- the fault of the statement is the first
-pub first_here : (check : Verdict (Unit {0})) (cause : TypeCause) (number : ℕ) (others first : TypeFault) → IsFaultOf check cause → first ≡ or_else check number others →
-    IsFirstFault first (record { statement = number; cause = cause })
+pub first_here : (check : Verdict (Unit {0})) (cause : TypeCause) (number : ℕ) (others first : TypeFault) → IsToldBy check cause → first ≡ or_else check number others →
+    IsToldFirst first (record { statement = number; cause = cause })
 first_here check (C.Twice x) number others first f e = e ∙ ap (λ (k : Verdict (Unit {0})). or_else k number others) f
 first_here check (C.Unknown x) number others first f e = e ∙ ap (λ (k : Verdict (Unit {0})). or_else k number others) f
 first_here check (C.WrongCount x wanted found) number others first f e = e ∙ ap (λ (k : Verdict (Unit {0})). or_else k number others) f

@@ -3,11 +3,11 @@ ghost use Rattle.std.specs.Prelude.{◌≡◌, None, IfOk, IfErr, map};
 ghost use Rattle.poets_syntax.specs.Book.{template_of, book_of};
 ghost use Rattle.poets_command.specs.Statements.{statement_of, statements_of};
 ghost use Rattle.poets_command.specs.Declarations.{book_from};
-ghost use Rattle.poets_command.specs.TypedStatements.{first_fault};
+ghost use Rattle.poets_command.specs.StatementDemands.{AreTypedStatements};
 ghost use Rattle.poets_command.specs.TypedStatements as spec;
 ghost use Rattle.poets_types.specs.Faults.{IsFirstFault};
 ghost use Rattle.poets_types.specs.Verdicts.{HasReportsOf, IsCheckedWithReports};
-ghost use Rattle.poets_types.specs.code.Answers.{IsAnswerOf};
+ghost use Rattle.poets_types.specs.code.Answers.{IsAnswerOf, IsToldFirst};
 ghost use Rattle.poets_types.specs.code.Checks.{mistyped_in, with_reports};
 ghost use Rattle.poets_types.specs.code.Gathering.{AddsNames, AddsReport, AddsTemplate, AreDeclared};
 
@@ -27,7 +27,7 @@ use std::alloc::Global;
 use std::collections::BTreeMap;
 
 /// What typed statements declare.
-#[derive(Drop)]
+#[derive(Debug, PartialEq, Eq, Drop)]
 pub struct Checked {
     /// The agents, the kinds and the templates.
     pub book: Book,
@@ -123,7 +123,7 @@ fn check_statements(
     statements: &[Statement],
 ) -> Result<(), TypeFault>
     ensures passes { IfOk result (λ _. mistyped_in book.now reports.now statements.now ≡ None) }
-    ensures fault { IfErr result (IsFirstFault (mistyped_in book.now reports.now statements.now)) }
+    ensures fault { IfErr result (IsToldFirst (mistyped_in book.now reports.now statements.now)) }
 {
     let index = Index::new(alloc, book, reports)?;
     for (place, statement) in statements.iter().enumerate() {
@@ -137,14 +137,14 @@ fn check_statements(
     Ok(())
 }
 
-/// Checks the statements of a book or of a whole session, and answers what they declare.
-/// An error tells the first fault: names that are declared twice come first, and then types.
+/// Checks the statements of a book or of a whole session, and returns what they declare. An error is the first fault:
+/// names that are declared twice come first, and then types.
 pub fn check_book(alloc: Global, statements: &[Statement]) -> Result<Checked, TypeFault>
-    ensures passes { IfOk result (λ _. first_fault (statements_of statements.now) ≡ None) }
+    ensures passes { IfOk result (λ _. AreTypedStatements (statements_of statements.now)) }
     ensures book { IfOk result (λ c. book_of c.book ≡ book_from (statements_of statements.now)) }
     ensures reports { IfOk result (HasReportsOf (statements_of statements.now)) }
     ensures typed { IfOk result IsCheckedWithReports }
-    ensures fault { IfErr result (IsFirstFault (first_fault (statements_of statements.now))) }
+    ensures fault { IfErr result (IsFirstFault (statements_of statements.now)) }
 {
     check_names(alloc, statements)?;
     let checked = gather(alloc, statements)?;

@@ -3,13 +3,13 @@
 use poets_value::{Memory, Name, Ty};
 use thiserror::Error;
 
-/// Why something is not typed, or want of memory.
+/// Why something is not typed, or that memory ran out.
 #[derive(Debug, Clone, Copy, PartialEq, Eq, Error)]
 pub enum TypeCause {
-    /// The name is declared elsewhere, or stands earlier in the same list.
+    /// The name is declared elsewhere, or occurs earlier in the same list.
     #[error("a name stands twice")]
     Twice { name: Name },
-    /// Nothing of that name may stand here.
+    /// Nothing that may be used here has that name.
     #[error("a name is unknown")]
     Unknown { name: Name },
     /// The template or the report of that name has another number of parameters.
@@ -18,12 +18,12 @@ pub enum TypeCause {
     /// Another type is wanted.
     #[error("wanted {wanted:?}, found {found:?}")]
     WrongType { wanted: Ty, found: Ty },
-    /// Want of memory.
+    /// Out of memory.
     #[error("no memory is left")]
     Memory,
 }
 
-/// Which statement is not typed, and why. Statements count from 1. For want of memory the number means nothing.
+/// Which statement is not typed, and why. Statements are counted from 1. If memory ran out, the number means nothing.
 #[derive(Debug, Clone, Copy, PartialEq, Eq, Error)]
 #[error("in statement {statement}: {cause}")]
 pub struct TypeFault {
@@ -31,7 +31,7 @@ pub struct TypeFault {
     pub cause: TypeCause,
 }
 
-/// Which call is not typed, and why. Calls count from 0. For want of memory the place means nothing.
+/// Which call is not typed, and why. Calls are counted from 0. If memory ran out, the place means nothing.
 #[derive(Debug, Clone, Copy, PartialEq, Eq, Error)]
 #[error("in the call at place {place}: {cause}")]
 pub struct CallFault {

@@ -3,9 +3,8 @@ ghost use Rattle.std.specs.Prelude.{◌≡◌, IfOk, IfErr};
 ghost use Rattle.poets_expr.specs.Env.{declared_of};
 ghost use Rattle.poets_command.specs.Calls.{command_of};
 ghost use Rattle.poets_command.specs.TypedStatements as spec;
-ghost use Rattle.poets_types.specs.Faults.{IsFaultOf};
 ghost use Rattle.poets_types.specs.Calls.{AreTypedCalls, IsFirstCallFault};
-ghost use Rattle.poets_types.specs.Verdicts.{CommandIsTyped, TermIsTyped, command_verdict, term_verdict};
+ghost use Rattle.poets_types.specs.Verdicts.{CommandIsTyped, TermIsTyped, IsFaultOfCommand, IsFaultOfTerm};
 ghost use Rattle.poets_types.specs.code.Answers.{answer_of};
 ghost use Rattle.poets_types.specs.code.Checks.{arguments_verdict, with_reports};
 
@@ -74,8 +73,7 @@ pub(crate) fn check_command(index: &Index, command: &Command) -> Result<(), Type
     }
 }
 
-/// Checks a contract without parameters in a book with these reports. An error tells its first fault.
-#[tactic(auto, using(crate::proofs::Checks::fault_told))]
+/// Checks a contract without parameters in a book with these reports. An error is its first fault.
 pub fn check_term(
     alloc: Global,
     book: &Book,
@@ -83,15 +81,14 @@ pub fn check_term(
     term: &Term,
 ) -> Result<(), TypeCause>
     ensures passes { IfOk result (λ _. TermIsTyped book.now reports.now term.now) }
-    ensures fault { IfErr result (IsFaultOf (term_verdict book.now reports.now term.now)) }
+    ensures fault { IfErr result (IsFaultOfTerm book.now reports.now term.now) }
 {
     let index = Index::new(alloc, book, reports)?;
     check_contract(&index, &Scope::Empty, term)
 }
 
-/// Checks a command in a book with these reports. An error tells its first fault. For the commands of a session
-/// `check_book` is faster, which looks over the book once.
-#[tactic(auto, using(crate::proofs::Checks::fault_told))]
+/// Checks a command in a book with these reports. An error is its first fault. For the commands of a session
+/// `check_book` is faster, because it looks over the book only once.
 pub fn check_call(
     alloc: Global,
     book: &Book,
@@ -99,13 +96,13 @@ pub fn check_call(
     command: &Command,
 ) -> Result<(), TypeCause>
     ensures passes { IfOk result (λ _. CommandIsTyped book.now reports.now command.now) }
-    ensures fault { IfErr result (IsFaultOf (command_verdict book.now reports.now command.now)) }
+    ensures fault { IfErr result (IsFaultOfCommand book.now reports.now command.now) }
 {
     let index = Index::new(alloc, book, reports)?;
     check_command(&index, command)
 }
 
-/// Checks the commands of calls in a book with these reports, looking over the book once. An error tells the first call
+/// Checks the commands of calls in a book with these reports, looking over the book once. An error is the first call
 /// that is not typed.
 pub fn check_calls(
     alloc: Global,

@@ -6,7 +6,7 @@ ghost use Rattle.poets_syntax.specs.Typed.{is_among, check_new};
 ghost use Rattle.poets_command.specs.Statements.{statement_of, statements_of};
 ghost use Rattle.poets_command.specs.Declarations as declarations;
 ghost use Rattle.poets_command.specs.TypedStatements.{twice_from};
-ghost use Rattle.poets_types.specs.Faults.{IsFirstFault};
+ghost use Rattle.poets_types.specs.code.Answers.{IsToldFirst};
 ghost use Rattle.poets_types.specs.code.Answers.{IsAnswerOf};
 ghost use Rattle.poets_types.specs.code.Tables.{AreAdded};
 
@@ -46,7 +46,7 @@ fn add_names(seen: &mut BTreeSet<Name>, names: &[Name]) -> Result<(), TypeCause>
 // No statement declares a name that was declared before.
 pub(crate) fn check_names(alloc: Global, statements: &[Statement]) -> Result<(), TypeFault>
     ensures passes { IfOk result (λ _. twice_from 1 [] (statements_of statements.now) ≡ None) }
-    ensures fault { IfErr result (IsFirstFault (twice_from 1 [] (statements_of statements.now))) }
+    ensures fault { IfErr result (IsToldFirst (twice_from 1 [] (statements_of statements.now))) }
 {
     let mut seen = BTreeSet::new(alloc);
     for (place, statement) in statements.iter().enumerate() {

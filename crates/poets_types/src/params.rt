@@ -25,7 +25,7 @@ pub(crate) struct Params<'a> {
 impl<'a> Params<'a> {
     ghost use Rattle.std.specs.Prelude.{IfOk, IfErr};
     ghost use Rattle.poets_syntax.specs.TypeOf.{Passes};
-    ghost use Rattle.poets_types.specs.Faults.{IsFaultOf};
+    ghost use Rattle.poets_types.specs.code.Answers.{IsToldBy};
     ghost use Rattle.poets_types.specs.code.Checks.{params_verdict};
 
     // The parameters, if none of their names is in use, and none stands twice.
@@ -36,7 +36,7 @@ impl<'a> Params<'a> {
     ) -> Result<Params<'a>, TypeCause>
         ensures list { IfOk result (λ params. params.list.now ≡ list.now) }
         ensures passes { IfOk result (λ _. params_verdict index.now list.now ≡ Passes tt) }
-        ensures fault { IfErr result (IsFaultOf (params_verdict index.now list.now)) }
+        ensures fault { IfErr result (IsToldBy (params_verdict index.now list.now)) }
     {
         let mut types = BTreeMap::new(alloc);
         for param in list {

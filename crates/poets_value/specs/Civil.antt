@@ -8,11 +8,11 @@ use Rattle.jiff_core.specs.Calendar.{IsCivilDate, days_from_civil}
 abbrev pub IsDayNumber : ℤ → Type 0
 IsDayNumber n = (neg_ℤ (pos 719_162) ≤ℤ n) × (n ≤ℤ pos 2_932_896)
 
--- the digit of a number at a power of ten
+-- the digit of a number at a power of ten, as a byte
 abbrev pub digit_at : ℕ → ℕ → ℕ
 digit_at n power = 48 + n / power % 10
 
--- YYYY-MM-DD
+-- the ten bytes YYYY-MM-DD of a year, a month and a day
 abbrev pub day_bytes : ℕ → ℕ → ℕ → List ℕ
 day_bytes y m d =
     digit_at y 1000 ∷ digit_at y 100 ∷ digit_at y 10 ∷ digit_at y 1 ∷ 45
@@ -30,7 +30,7 @@ pub record IsDayText (text : List ℕ) (number : ℤ) : Type 0 where
   pub of_day : IsDayOf year month day number
   pub bytes : text ≡ day_bytes year month day
 
--- two digits of a number below 100
+-- the bytes are the two digits of this number, which is below 100
 abbrev pub IsPair : ℕ → ℕ → ℕ → Type 0
 IsPair tens ones n = (n < 100) × (tens ≡ digit_at n 10) × (ones ≡ digit_at n 1)
 
@@ -45,13 +45,15 @@ last_month year zero day = 0
 last_month year (suc month) day =
     if int_le (days_from_civil (pos year) (suc month) 1) day then suc month else last_month year month day
 
+-- the year of the day with a number
 abbrev pub year_of : ℤ → ℕ
 year_of day = last_year 9999 day
 
+-- the month of the day with a number, where January is 1
 abbrev pub month_of : ℤ → ℕ
 month_of day = last_month (year_of day) 12 day
 
--- the first day of the month is day 1
+-- the day of the month of the day with a number, where the first is 1
 abbrev pub day_of_month : ℤ → ℕ
 day_of_month day = unsigned_abs (day -ℤ days_from_civil (pos (year_of day)) (month_of day) 1) + 1
 

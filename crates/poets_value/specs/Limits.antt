@@ -1,4 +1,4 @@
--- Limits that several crates keep.
+-- Limits that several crates share.
 use Rattle.std.specs.Prelude.{ℕ}
 use Rattle.poets_value.specs.declared.limits.TheConstants.{LONGEST_TEXT, MOST_CLERKS, MOST_SALES}
 

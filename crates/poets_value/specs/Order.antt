@@ -6,7 +6,7 @@ use Rattle.poets_value.specs.declared.value.Value.{Value}
 use Rattle.poets_value.specs.declared.value.Value.TheVariants as V
 use Rattle.poets_value.specs.contracts.value.ValueOrd.TheImpl as value_ord
 
--- what `cmp` of two values answers
+-- the result of comparing two values by `cmp`
 abbrev pub value_cmp : Value → Value → Ordering
 value_cmp = (value_ord.ghosts).cmp
 
@@ -19,11 +19,12 @@ type_place (V.Kind k) = 3
 type_place (V.Resource r) = 4
 type_place (V.Day d) = 5
 
--- by kind, and then by amount
+-- the first resource comes before the second: resources are in the order of kinds, and then of
+-- amounts
 abbrev pub ResourcePrecedes : Resource → Resource → Type 0
 ResourcePrecedes r s = (r.kind.id < s.kind.id) ⊎ ((r.kind ≡ s.kind) × (r.amount <ℤ s.amount))
 
--- the first value stands before the second
+-- the first value comes before the second
 abbrev pub Precedes : Value → Value → Type 0
 Precedes (V.Int m) (V.Int n) = m <ℤ n
 Precedes (V.Bool a) (V.Bool b) = (a ≡ false) × (b ≡ true)

@@ -14,9 +14,11 @@ is_whole z = int_le (neg_ℤ (pos (2 ^ 63 - 1))) z && int_le z (pos (2 ^ 63 - 1)
 abbrev pub is_day : ℤ → Bool
 is_day z = int_le (neg_ℤ (pos 719_162)) z && int_le z (pos 2_932_896)
 
+-- the amount of the resource is a whole number of the language
 abbrev pub IsWholeResource : Resource → Type 0
 IsWholeResource r = IsTrue (is_whole r.amount)
 
+-- each number in the value is a whole number of the language, and each day one of its days
 abbrev pub IsWholeValue : Value → Type 0
 IsWholeValue (V.Int n) = IsTrue (is_whole n)
 IsWholeValue (V.Bool b) = Unit {0}

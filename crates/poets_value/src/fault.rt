@@ -3,7 +3,7 @@
 use std::alloc::{AllocError, AllocFailed};
 use thiserror::Error;
 
-/// Want of memory.
+/// Out of memory.
 #[derive(Debug, Clone, Copy, PartialEq, Eq, Error)]
 #[error("no memory is left")]
 pub struct Memory;

@@ -30,7 +30,7 @@ pub fn order_of_days()
     ensures { ⟦<Day as Ord>⟧.cmp ≡ int_cmp }
 {}
 
-/// Values and events are equal where they are one.
+/// `==` of two values, and of two events, is true exactly where they are the same.
 pub fn equal_values_and_events()
     ensures value { (v w : Value) → IsTrue (⟦<Value as PartialEq>⟧.eq v w) ↔ (v ≡ w) }
     ensures event { (e f : Event) → IsTrue (⟦<Event as PartialEq>⟧.eq e f) ↔ (e ≡ f) }

@@ -1,10 +1,10 @@
-//! Limits that several crates keep.
+//! Limits that several crates share.
 
-/// A text has no more bytes.
+/// The most bytes of a text.
 pub const LONGEST_TEXT: usize = 16_777_216;
 
-/// No more clerks work at once.
+/// The most clerks that work at once.
 pub const MOST_CLERKS: u64 = 64;
 
-/// A clerk of a demonstration makes no more sales.
+/// The most sales of each clerk of a demonstration.
 pub const MOST_SALES: u32 = 1000;

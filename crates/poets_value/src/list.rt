@@ -3,6 +3,7 @@ ghost use Rattle.std.specs.Prelude.{◌≡◌, ◌+◌, ◌-◌, ◌<◌, ◌≤
 
 use crate::Memory;
 use std::alloc::Global;
+use std::fmt;
 use std::marker::Model;
 
 /// A list of items, with room for some more.
@@ -23,6 +24,34 @@ impl<T> Model for List<T> {
       items = l.vec.items;
       room = vec_capacity l.vec - vec_len l.vec;
     } };
+}
+
+/// Two lists are equal if their items are, one by one. The room is not compared.
+impl<T: PartialEq> PartialEq for List<T> {
+    ghost use Rattle.std.specs.Cmp.{on_per};
+    ghost use Rattle.std.specs.Cmp.Lexicographic.{pointwise, lists_per};
+
+    ghost eq = { λ x y. pointwise T.eq x.items y.items };
+
+    ghost laws = { on_per (λ x. x.items) (lists_per T.laws) };
+
+    fn eq(&self, other: &List<T>) -> bool {
+        self.vec == other.vec
+    }
+}
+
+impl<T: Eq> Eq for List<T> {
+    ghost use Rattle.std.specs.Cmp.{on_equiv};
+    ghost use Rattle.std.specs.Cmp.Lexicographic.{lists_equiv};
+
+    ghost laws = { on_equiv (λ x. x.items) (lists_equiv T.Eq.laws) };
+}
+
+/// Shows the items as a vector does.
+impl<T: fmt::Debug> fmt::Debug for List<T> {
+    fn fmt<W: fmt::Write>(&self, f: &mut fmt::Formatter<W>) -> fmt::Result {
+        fmt::Debug::fmt(&self.vec, f)
+    }
 }
 
 impl<T> List<T> {
@@ -97,7 +126,7 @@ impl<T> List<T> {
         self.vec.pop()
     }
 
-    /// Takes the item at a place out, and moves those after it.
+    /// Takes out the item at a place, and closes the gap.
     pub fn remove(&mut self, place: usize) -> T
         requires { place < length self.old.items }
         ensures item { slice_get self.old.items place ≡ Some result }
@@ -151,7 +180,7 @@ impl<T: Drop> List<T> {
     }
 }
 
-/// Adds the item at the end. After want of memory the list is as before, and the item is lost.
+/// Adds the item at the end. If it is out of memory, the list is as before and the item is lost.
 pub fn push<T: Drop>(list: &mut List<T>, item: T) -> Result<(), Memory>
     ensures items { OnOk result (list.new.items ≡ list.old.items ++ item ∷ []) }
     ensures memory { OnErr result (list.new ≡ list.old) }

@@ -2,7 +2,7 @@
 
 use crate::Day;
 
-/// A name's place in the table of names: equal places are equal texts.
+/// A name's place in the table of names: names with equal places have equal texts.
 #[derive(Debug, Clone, Copy, PartialEq, Eq, PartialOrd, Ord, Hash)]
 pub struct Name {
     pub id: u32,

@@ -8,8 +8,8 @@ use Rattle.poets_meaning.specs.Perf.{Perf}
 use Rattle.poets_way.specs.Way.{Way}
 use Rattle.poets_way.specs.Ways.{Ways}
 
--- where there is a way in which a trace performs a contract (`Ways`), it performs the contract
--- (`Perf`)
+-- where there is a way in which a trace performs a contract (`Ways`), the trace performs the
+-- contract (`Perf`)
 abbrev pub WaysPerform : Type 0
 WaysPerform =
     (book : Book) (env : Env) (c : Contract) (s : List Event) (w : Way) → Ways book env c s w → Perf book env c s

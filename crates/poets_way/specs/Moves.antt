@@ -25,7 +25,7 @@ moves_of (W.Right w) = Right ∷ moves_of w
 moves_of (W.Both sides v u) = Both sides ∷ moves_of v ++ moves_of u
 moves_of (W.Then n v u) = Then n ∷ moves_of v ++ moves_of u
 
--- the ways with a move in front of them, whose parts are the first of them
+-- the ways that a move and these ways make: the first of these are the parts of the move's way
 abbrev pub put_before : Move → List Way → List Way
 put_before Nothing ws = W.Nothing ∷ ws
 put_before Enter (w ∷ ws) = W.Enter w ∷ ws

@@ -29,16 +29,16 @@ way_at t n = slice_index_or t.ways n W.Nothing
 abbrev pub sides_at : TrailsView → ℕ → List Bool
 sides_at t n = slice_index_or t.sides n []
 
--- how many of the sides are the second one
+-- how many of the sides are second ones
 abbrev pub seconds : List Bool → ℕ
 seconds [] = zero
 seconds (second ∷ sides) = if second then suc (seconds sides) else seconds sides
 
--- the table with one way more, whose number is how many there were
+-- the table with one more way, whose number is how many there were before
 abbrev pub with_way : TrailsView → Way → TrailsView
 with_way t w = record { ways = t.ways ++ w ∷ []; sides = t.sides }
 
--- the table with one list of sides more, whose number is how many there were
+-- the table with one more list of sides, whose number is how many there were before
 abbrev pub with_sides : TrailsView → List Bool → TrailsView
 with_sides t sides = record { ways = t.ways; sides = t.sides ++ sides ∷ [] }
 
@@ -52,7 +52,7 @@ way_of_node t (N.Right w) = W.Right (way_at t w)
 way_of_node t (N.Both sides v u) = W.Both (sides_at t sides) (way_at t v) (way_at t u)
 way_of_node t (N.Then n v u) = W.Then n (way_at t v) (way_at t u)
 
--- the table with the way of a node more
+-- the table with one more way, that of a node
 abbrev pub with_node : TrailsView → Node → TrailsView
 with_node t node = with_way t (way_of_node t node)
 

@@ -1,7 +1,7 @@
 //! The laws of ways, each carried by a function that does nothing.
 ghost use Rattle.poets_way.specs.Laws.{WaysPerform, SomeWay};
 
-/// Where there is a way in which a trace performs a contract, it performs the contract.
+/// Where there is a way in which a trace performs a contract, the trace performs the contract.
 pub fn ways_perform()
     ensures { WaysPerform }
 {}

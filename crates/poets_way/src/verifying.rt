@@ -52,7 +52,7 @@ fn follow<'a>(
     }
 }
 
-/// Whether the events perform the contract in this way. Predicates are asked under environments, and no residual is
+/// Whether the events perform the contract in this way. Predicates are evaluated under environments, and no residual is
 /// made.
 pub fn verify(
     alloc: Global,

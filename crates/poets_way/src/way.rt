@@ -6,7 +6,7 @@ use poets_value::List;
 use std::marker::Model;
 
 /// The head of a way, without its parts.
-#[derive(Drop)]
+#[derive(Debug, Drop)]
 pub(crate) enum Move {
     /// Of `Success`: nothing is left to do.
     Nothing,
@@ -25,7 +25,7 @@ pub(crate) enum Move {
 }
 
 /// In which way a trace performs a contract. It is kept as a flat list, so that no way is too deep to be read.
-#[derive(Drop)]
+#[derive(Debug, Drop)]
 pub struct Way {
     // The head of the way, and then the moves of its parts in their order.
     moves: List<Move>,

@@ -36,7 +36,7 @@ pub enum Mode<'a> {
 
 /// What the words ask for, or `None` where they are no command form. The program's name is none of the words.
 ///
-/// An `Err` is want of memory, of which the clauses say nothing.
+/// An `Err` is "out of memory", of which the clauses say nothing.
 pub fn mode_of<'a>(alloc: Global, words: &'a [String]) -> Result<Option<Mode<'a>>, Memory>
     ensures some { IfOk result (λ found. IfSome found (AskFor (texts_of words.now))) }
     ensures none { IfOk result (λ found. IfNone found (¬ (IsCommandForm (texts_of words.now)))) }

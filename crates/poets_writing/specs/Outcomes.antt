@@ -11,8 +11,8 @@ use Rattle.poets_writing.specs.Writing.{Change, HasFailed, IsWritten}
 use Rattle.poets_writing.specs.declared.outcome.Outcome.{Outcome}
 use Rattle.poets_writing.specs.declared.outcome.TheConstants.{DONE, NO_MEMORY, WRITE_FAULT}
 
--- what is asked for was written to the sink, or as much of it as the sink or memory allowed, as the
--- outcome tells
+-- what is asked for was written to the sink, or as much of it as the sink or memory allowed; the
+-- outcome says which
 abbrev pub Writes : (Is : (status : ℕ) → List Entry → (text : List ℕ) → Type 0) → (sink : Change) → Outcome → Type 0
 Writes Is sink outcome = IsWritten Is sink.before sink.after outcome.status (history_of outcome.history.items)
 
@@ -20,7 +20,7 @@ Writes Is sink outcome = IsWritten Is sink.before sink.after outcome.status (his
 abbrev pub lines_of : Table → List code.Entry → List ℕ
 lines_of names entries = history_text names (history_of entries)
 
--- the lines of entries that stand behind so many earlier ones, numbered on from those
+-- the lines of entries that come after so many earlier ones, with numbers that go on from those
 abbrev pub lines_after : Table → (earlier : ℕ) → List code.Entry → List ℕ
 lines_after names earlier entries = lines_from names (earlier + 1) (history_of entries)
 

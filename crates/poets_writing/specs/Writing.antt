@@ -14,7 +14,7 @@ pub record Stream : Type 0 where
   pub bytes : Option (List ℕ)
   pub faults : ℕ
 
--- a sink that holds these bytes, where it tells them, and whose count of faults stands here
+-- a sink that holds these bytes, where it tells them, and has this count of faults
 abbrev pub stream : Option (List ℕ) → ℕ → Stream
 stream bytes faults = record { bytes = bytes; faults = faults }
 
@@ -33,8 +33,8 @@ pub record HasFailed (old new : Stream) : Type 0 where
   pub rose : Rose old.faults new.faults
   pub later : old.faults ≤ new.faults
 
--- how it ends that an answer is written to a sink; it tells the status, the history, and the text
--- that is to be written
+-- how writing an answer to a sink ends; the answer is a status, a history, and the text that is to
+-- be written
 pub data IsWritten (Is : (status : ℕ) → List Entry → (text : List ℕ) → Type 0) (sink sink' : Stream) :
     (status : ℕ) → List Entry → Type 0 where
   -- the text was written whole, without a fault
@@ -42,16 +42,16 @@ pub data IsWritten (Is : (status : ℕ) → List Entry → (text : List ℕ) →
       {status : ℕ} {h : List Entry} {text : List ℕ} →
       Is status h text → Appends sink.bytes sink'.bytes text → sink'.faults ≡ sink.faults →
       IsWritten Is sink sink' status h
-  -- the sink failed: a front of the text was written
+  -- the sink failed: a prefix of the text was written
   Failed :
       {status : ℕ} {h : List Entry} {text : List ℕ} →
       Is status h text → AppendsPart sink.bytes sink'.bytes text → HasFailed sink sink' →
       IsWritten Is sink sink' WRITE_FAULT h
-  -- want of memory while the lines of a history are written: a front of them was written, and not
-  -- all, without a fault
+  -- memory ran out between the lines of a history: a prefix of them was written, and not all,
+  -- without a fault
   MemoryBetween :
       {h : List Entry} (names : Table) →
       Is DONE h (history_text names h) → h ≢ [] → AppendsPart sink.bytes sink'.bytes (history_text names h) →
       sink'.faults ≡ sink.faults → IsWritten Is sink sink' NO_MEMORY h
-  -- want of memory ahead of all writing: nothing was written, and no history is handed out
+  -- memory ran out before all writing: nothing was written, and no history is handed out
   MemoryBefore : sink' ≡ sink → IsWritten Is sink sink' NO_MEMORY []

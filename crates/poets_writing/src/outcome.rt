@@ -1,4 +1,4 @@
-//! What a run answers.
+//! How a run ends: its status and its history.
 ghost use Rattle.std.specs.Prelude.{◌≡◌, []};
 
 use poets_command::Entry;
@@ -14,7 +14,7 @@ pub const NO_SESSION: u8 = 1;
 /// The words are no command form.
 pub const USAGE: u8 = 2;
 
-/// Want of memory.
+/// Out of memory.
 pub const NO_MEMORY: u8 = 3;
 
 /// Reading failed.
@@ -29,7 +29,7 @@ pub const TOO_LONG: u8 = 6;
 /// The status that the program ends with, and a history. The history of a session of clerks, of a journal or of a
 /// demonstration is that of the whole session where the status is `DONE`, and where it is `WRITE_FAULT` after the
 /// calls; it is that or none where the status is `NO_MEMORY`. Else, and for a book, there is none.
-#[derive(Drop)]
+#[derive(Debug, PartialEq, Eq, Drop)]
 pub struct Outcome {
     pub status: u8,
     pub history: List<Entry>,

@@ -67,7 +67,7 @@ pub fn write_history<K: Sink>(
     write_lines(alloc, sink, names, 0, entries)
 }
 
-/// Writes the lines of entries that stand behind so many earlier ones, whose numbers they go on from.
+/// Writes the lines of entries that come after so many earlier ones, with numbers that go on from those.
 pub fn write_lines<K: Sink>(
     alloc: Global,
     sink: &mut K,
@@ -112,7 +112,7 @@ pub fn write<K: Sink>(alloc: Global, sink: &mut K, names: &Names, history: List<
     }
 }
 
-/// Writes a line that is none of a history, and answers the status.
+/// Writes a line that is not part of a history, and returns the status.
 pub fn write_line<K: Sink>(alloc: Global, sink: &mut K, status: u8, line: &str) -> Outcome
     ensures history { result.history.items ≡ [] }
     ensures line { WritesLine line.now (change K.held K.faults sink.old sink.new) status result }

@@ -12,7 +12,7 @@ use Rattle.poets_clerks.specs.declared.answers.DoneOf.{DoneOf}
 
 module _ {M C T K F : Type 0} (frame : M → F) (answers : F → List (ℕ × C) → ℕ → C → T → Type 0)
     (turn : Turn M C T K F) where
-  -- the clerk v made the call and became w, and this is the answer; or memory wanted, and there is
+  -- the clerk v made the call and became w, and this is the answer; or memory ran out, and there is
   -- none
   abbrev pub MadeCall : {E : Type 0} → Arc C Global → Result (DoneOf T) E → (v w : ClerkOf M C F) → Type 0
   MadeCall call made v w = MatchResult made

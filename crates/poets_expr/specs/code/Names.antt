@@ -12,6 +12,6 @@ use Rattle.poets_expr.specs.Free.{names_of}
 abbrev pub value_of_name : Env → Name → Option Value
 value_of_name env name = value_in (declared_of env.decls.now.names) (reverse env.pairs.now) name
 
--- the names that stand in an `Expr`, in order, repeats too
+-- the names in an `Expr`, in order, each as often as it occurs
 abbrev pub names_in : Expr → List Name
 names_in e = names_of (expression_of e)

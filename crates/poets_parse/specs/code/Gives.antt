@@ -20,7 +20,7 @@ use Rattle.poets_parse.specs.declared.fault.SyntaxFault.TheVariants as F
 use Rattle.poets_parse.specs.declared.fault.ReadFault.{ReadFault}
 use Rattle.poets_parse.specs.declared.fault.ReadFault.TheVariants as R
 
--- a refusal comes where nothing is read; want of memory may come anywhere
+-- a refusal comes where nothing is read; memory may run out anywhere
 abbrev pub Refuses : {Y : Type 0} → ReadFault → Option Y → Type 0
 Refuses (R.Unfit left) read = read ≡ None
 Refuses R.Memory read = Unit {0}

@@ -50,7 +50,7 @@ AreTokensOf ts call = SayCall ts call.0 (command_of (arc_value call.1))
 abbrev pub AreTokensOfNone : List Tok → Type 0
 AreTokensOfNone ts = (clerk : ℕ) (command : Command) → ¬ (SayCall ts clerk command)
 
--- the text says this call; its names are numbered on from a table
+-- the text says this call; its new names get the next numbers of a table
 pub record SaysCall (before : Table) (text : List ℕ) (clerk : ℕ) (command : Command) (after : Table) : Type 0 where
   pub tokens : List Token
   pub lexed : Lexes before text 0 tokens after
@@ -110,7 +110,7 @@ pub record IsMistyped (rules : Rules) (calls : List CodeCall) (place : ℕ) : Ty
   pub ahead : AreTyped rules (take place calls)
   pub untyped : ¬ (IsTypedBy rules (command_of (arc_value call.1)))
 
--- the fault tells the number, from 1, of the first call that is not typed, or want of memory
+-- the fault is the number, from 1, of the first call that is not typed, or memory ran out
 abbrev pub TellsMistyped : Rules → List CodeCall → RecoverFault → Type 0
 TellsMistyped rules calls (F.Text number) = (place : ℕ) × (number ≡ place + 1) × IsMistyped rules calls place
 TellsMistyped rules calls F.Memory = Unit {0}

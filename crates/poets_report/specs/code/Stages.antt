@@ -1,4 +1,4 @@
--- What is asked of a report at its start and at an event.
+-- What is evaluated of a report at its start and at an event.
 use Rattle.std.specs.Prelude.{◌≡◌, List, [], ◌∷◌, Option, Some}
 use Rattle.poets_value.specs.declared.event.Event.{Event}
 use Rattle.poets_value.specs.declared.value.Value.{Value}

@@ -90,5 +90,5 @@ abbrev pub DerivesBoth : {E : Type 0} → Derivation → (a b : ℕ) → (old ne
     Result (ℕ × ℕ) E → Type 0
 DerivesBoth d a b old new start stop answer =
     HasDerived
-        d (Plus (contract_at old.arena a) (contract_at old.arena b)) (AreResiduals d new.arena a b) (HasNoted new)
-        old new start stop answer
+    d (Plus (contract_at old.arena a) (contract_at old.arena b)) (AreResiduals d new.arena a b) (HasNoted new)
+    old new start stop answer

@@ -10,7 +10,7 @@ use Rattle.poets_parse.specs.declared.fault.SyntaxFault.{SyntaxFault}
 use Rattle.poets_command.specs.Said.{Statement}
 use Rattle.poets_command.specs.Statements.{statement_of, statements_of}
 use Rattle.poets_command.specs.declared.statement.Statement.{Statement as CodeStatement}
-use Rattle.poets_session.specs.Pieces.{Piece, pieces_of}
+use Rattle.poets_session.specs.Pieces.{Piece, pieces_of, ahead_of_end, after_end}
 use Rattle.poets_session.specs.Sessions.{IsStatementPiece}
 use Rattle.poets_session.specs.Refusals.{IsUnread}
 use Rattle.poets_session.specs.Causes.{IsCauseOf}
@@ -36,13 +36,22 @@ Say pieces found = AreSaid pieces (statements_of found.items)
 abbrev pub AreCutInto : (tokens first : List Token) → Bool → (rest : List Token) → Type 0
 AreCutInto tokens first ended rest = pieces_of (toks tokens) ≡ piece (toks first) ended ∷ pieces_of (toks rest)
 
--- so many tokens stand ahead of the first `;;`
+-- so many tokens, and not all, stand ahead of the first `;;`
 abbrev pub StandAheadOfEnd : List Token → ℕ → Type 0
-StandAheadOfEnd tokens n = (n < length tokens) × AreCutInto tokens (take n tokens) true (drop (n + 1) tokens)
+StandAheadOfEnd tokens n =
+    (n < length tokens) × (ahead_of_end tokens ≡ take n tokens) × (after_end tokens ≡ drop (n + 1) tokens)
+
+-- the first statement has so many tokens
+abbrev pub IsCutAt : List Token → ℕ → Type 0
+IsCutAt tokens n = AreCutInto tokens (take n tokens) true (drop (n + 1) tokens)
+
+-- all tokens stand ahead of the first `;;`, and none after it
+abbrev pub HaveNoEnd : List Token → Type 0
+HaveNoEnd tokens = (ahead_of_end tokens ≡ tokens) × (after_end tokens ≡ [])
 
 -- the tokens, if there are any, are those of one statement that is not ended
-abbrev pub HaveNoEnd : List Token → Type 0
-HaveNoEnd tokens = tokens ≢ [] → pieces_of (toks tokens) ≡ piece (toks tokens) false ∷ []
+abbrev pub IsUncut : List Token → Type 0
+IsUncut tokens = tokens ≢ [] → pieces_of (toks tokens) ≡ piece (toks tokens) false ∷ []
 
 -- the fault tells why a statement of the tokens without a `;;` is none, whatever its number
 abbrev pub TellsUnended : List Tok → SyntaxFault → Type 0

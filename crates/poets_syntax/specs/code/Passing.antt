@@ -13,11 +13,11 @@ use Rattle.poets_syntax.specs.Typed.{in_use, check_new, scope_of, check_contract
 abbrev pub HasType : Declared → Scope → Expression → Ty → Type 0
 HasType declared scope e t = type_of declared scope e ≡ Passes t
 
--- no check finds a fault
+-- the checks find no fault in the contract
 abbrev pub ContractPasses : Book → (reports : List Name) → Scope → Contract → Type 0
 ContractPasses book reports scope c = check_contract book reports scope c ≡ Passes tt
 
--- the parameters of the template, and its body under them
+-- the checks find no fault in the template's parameters, nor in its body under them
 abbrev pub TemplatePasses : Book → (reports : List Name) → Template → Type 0
 TemplatePasses book reports t =
     (check_new (in_use book reports) [] (map (λ p. p.name) t.params) ≡ Passes tt)

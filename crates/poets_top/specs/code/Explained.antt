@@ -10,7 +10,7 @@ use Rattle.poets_open.specs.Next.{next_in}
 use Rattle.poets_lex.specs.Table.{Table}
 use Rattle.poets_command.specs.Plain.{Entry}
 use Rattle.poets_rules.specs.Rules.{book_of_rules, reports_of_rules}
-use Rattle.poets_history.specs.Histories.{InFrame}
+use Rattle.poets_history.specs.Frame.{frame_of}
 use Rattle.poets_history.specs.Ledger.{ledger_of}
 use Rattle.poets_engine.specs.State.{State}
 use Rattle.poets_engine.specs.declared.accounts.Account.{Account}
@@ -36,5 +36,4 @@ pub record ExplainsAccount (s : StudiedBook) (names : Table) (name : List ℕ) (
 abbrev pub ExplainsAfter : State → Table → (name : List ℕ) → String Global → Type 0
 ExplainsAfter e names name text =
     (h : List Entry) → AreNoted e h →
-    InFrame (book_of_rules e.rules) (reports_of_rules e.rules)
-    (λ f. Explains f names (ledger_of h) name (string_bytes text))
+    Explains (frame_of (book_of_rules e.rules) (reports_of_rules e.rules)) names (ledger_of h) name (string_bytes text)

@@ -21,7 +21,7 @@ loop-i-preserved g c = let i = c.loop-i.invariant in let m = c.in-Ok.ensures.mad
   longer = prefix_trans (front c.args.clerk.now) (front c.loop-i.clerk) (front c.answer.new.clerk) i.longer m.longer;
   long = let e = ap length more in let n = length-append c.loop-i.done.items (c.in-Ok.d ∷ []) in let o = i.long in omega arith;
   room = let r = i.room in let e = c.push.ensures.room in omega arith;
-  answered = answers_step _ arc_value (λ d. (d.place, d.reply)) xs c.loop-i.done.items c.push.new.self.items c.in-Ok.d c.index-script-i.result c.loop-i.i (number c.args.clerk.now) (number c.loop-i.clerk) _ (front c.loop-i.clerk) (front c.answer.new.clerk) _ _
-      i.answered i.long (omega arith) c.index-script-i.is more i.same m;
+  answered = answers_step _ arc_value (λ d. (d.place, d.reply)) xs (number c.args.clerk.now) _ (front c.loop-i.clerk) c.loop-i.done.items i.answered
+      c.push.new.self.items c.in-Ok.d c.index-script-i.result c.loop-i.i (number c.loop-i.clerk) i.long (omega arith) c.index-script-i.is more i.same m;
   made = calls_step arc_value xs c.loop-i.i c.loop-i.i c.index-script-i.result (calls c.args.clerk.now) (calls c.loop-i.clerk) (calls c.answer.new.clerk) (λ _. c.loop-i.i) (omega arith) c.index-script-i.is i.made m.calls;
 }

@@ -30,7 +30,7 @@ returns-clause-number t c =
     let new = c.insert.new.bags.keys in
     let fork = forked_at c.join-2.new.bags.keys c.in-Some.count c.in_ok-odd.odd c.in_ok-even.even in
     let both = both_joined c.args.bags.now.keys c.join.new.bags.keys c.join-2.new.bags.keys c.requires.bags c.in_ok-odd.ensures.grows c.in_ok-even.ensures.grows
-    c.args.a c.args.b c.row_at-first.result c.row_at-second.result (omega arith) (omega arith) c.row_at-first.ensures c.row_at-second.ensures
+    c.args.a c.args.b c.row_at-first.result c.row_at-second.result (omega arith, c.row_at-first.ensures) (omega arith, c.row_at-second.ensures)
     c.in-Some.count c.in_ok-odd.odd c.in_ok-even.even c.in-Some.ensures.1 c.in_ok-odd.ensures.number c.in_ok-even.ensures.number in
     IfOk-weaker c.insert.result (IsBagOf new fork) (IsBagOfBoth c.args.bags.now.keys c.args.a c.args.b new) (λ n h. (λ l. h.0, h.1, λ k. ap (times k) h.2 ∙ both k))
     c.insert.ensures.number

@@ -11,5 +11,5 @@ pub judge-requires : goal.judge-requires
 judge-requires g c =
     let book = book_of c.args.studied.now.book in
     subst (CountsFit book) (sym c.in_ok-next.ensures.residual)
-    (CountsFit-after_at book (marks_of c.args.studied.now) (IsStudied-book book c.args.studied.now.marks c.book-book.ensures.studied).fit c.args.event.now
+    (CountsFit-after_at book (marks_of c.args.studied.now) (IsStudied-book book c.args.studied.now.marks c.recall.ensures).fit c.args.event.now
     (length book.templates) (contract_of_rows c.args.owed.now) c.requires)

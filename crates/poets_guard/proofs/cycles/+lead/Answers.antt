@@ -61,6 +61,7 @@ loop-next-preserved t c = record {
 
 pub returns-clause-searched : goal.returns-clause-searched
 returns-clause-searched t c = λ _.
-    IsSearched-node c.args.graph.now c.args.goal c.args.from c.in-Some.node.now c.args.seen.now c.insert.new.self c.loop-next.seen c.as_slice-next-items.result.now
-    c.loop-next.next-index (sym c.in-Some.ensures.value) c.as_slice-next-items.ensures c.loop-next-test.false (rw c.if-not-branch.false at c.in_ok-insert.ensures.len)
-    c.in_ok-insert.ensures.updates.0 c.loop-next.invariant.searching c.loop-next.invariant.passed
+    IsSearched-node c.args.graph.now c.args.goal c.args.from c.args.seen.now c.insert.new.self c.loop-next.seen
+    (rw c.if-not-branch.false at c.in_ok-insert.ensures.len) c.in_ok-insert.ensures.updates.0 c.loop-next.invariant.searching c.in-Some.node.now
+    c.as_slice-next-items.result.now c.loop-next.next-index (sym c.in-Some.ensures.value) c.as_slice-next-items.ensures c.loop-next-test.false
+    c.loop-next.invariant.passed

@@ -5,7 +5,7 @@ use Rattle.poets_host.proofs.sharing.closed.Goals as goal
 
 pub close-requires-clause-all : goal.close-requires-clause-all
 close-requires-clause-all c =
-    let all = two_numbered (λ y. number y) c.args.clerks.items c.push.new.self.items c.push-2.new.self.items _ _ c.requires.room.0 c.in-Ok.ensures.ok c.in-Ok-push.ensures.ok
+    let all = two_numbered (λ y. number y) c.args.clerks.items c.push.new.self.items c.push-2.new.self.items c.requires.room.0 c.in-Ok.ensures.ok c.in-Ok-push.ensures.ok
     c.requires.one.1 c.requires.two.1 _ c.requires.count in
     numbered_are_all _ c.push-2.new.self.items all.0 all.1
 

@@ -12,8 +12,8 @@ returns-in_default-clause-damaged c =
 pub reading-preserved : goal.reading-preserved
 reading-preserved c =
     let inv = c.reading.invariant in
-    let m = one_more c.args.bytes.now c.reading.texts.items c.push.new.list.items c.in_ok-copied.field-0 c.in-Some.text.now c.reading.rest.now c.behind.result.now c.in-Some.more.now inv.records inv.few
-    (c.is_open.ensures.yes c.reading-test.true) c.behind.ensures c.in-Some.ensures.some.0 c.in_ok-push.ensures.items c.in_ok-copied.ensures in
+    let m = one_more c.in-Some.text.now c.reading.rest.now c.behind.result.now c.in-Some.more.now (c.is_open.ensures.yes c.reading-test.true) c.behind.ensures c.in-Some.ensures.some.0
+    c.args.bytes.now c.reading.texts.items c.push.new.list.items c.in_ok-copied.field-0 inv.records inv.few c.in_ok-push.ensures.items c.in_ok-copied.ensures in
     record { records = m.0; more = c.in-Some.ensures.some.1; few = m.1 }
 
 pub reading-smaller : goal.reading-smaller

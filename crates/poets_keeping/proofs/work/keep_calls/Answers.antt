@@ -75,7 +75,7 @@ returns-clause-made g c = λ p taken.
     c.attempt_kept-machine.ensures.replies in
     let ended : AreMade engine.rules names p (commands_in scripts) (seen disk) (seen machine.journal.disk) (faults disk) (faults machine.journal.disk) machine.stored whole =
     made_with engine.rules names p scripts (seen disk) (seen machine.journal.disk) (faults disk) (faults machine.journal.disk) machine.stored machine.journal.failed
-    engine refl taken calls (rw c.studied.ensures at c.book-book.ensures.studied) c.requires.taken kept c.attempt_kept-machine.ensures.part
+    engine refl taken calls (rw c.studied.ensures at c.recall.ensures) c.requires.taken kept c.attempt_kept-machine.ensures.part
     after same longer c.entries_with-history.ensures.legal whole replies
     (subst (λ cs. IfSome whole (AreEntriesWith cs replies)) later c.entries_with-history.ensures.entries) c.attempt_kept-machine.ensures.history right in
     subst (λ d. AreMade engine.rules names p (commands_in scripts) (seen disk) (seen d) (faults disk) (faults d) c.stored-stored.result whole) (sym c.end-onward.ensures.disk)

@@ -16,8 +16,8 @@ returns-in_err-push-clause-same g c =
 
 pub loop-place-preserved : goal.loop-place-preserved
 loop-place-preserved g c = record {
-  seen = place_more (IsSeen (declared_of c.args.decls.now.names) c.args.event.now) c.loop-place.place c.args.watches.now.items c.loop-place.watches.items c.loop-place.moves.items c.push.new.list.items
-      c.index_mut.result.now c.see.new.self c.in_ok-step.step c.loop-place.invariant.seen (search rules) c.index_mut.ensures.value
+  seen = place_more (IsSeen (declared_of c.args.decls.now.names) c.args.event.now) c.loop-place.place c.args.watches.now.items c.loop-place.watches.items c.loop-place.moves.items
+      c.loop-place.invariant.seen (search rules) c.push.new.list.items c.index_mut.result.now c.see.new.self c.in_ok-step.step c.index_mut.ensures.value
       (record { same = c.see.ensures.same; brought = c.in_ok-step.ensures.brings; room = c.in_ok-step.ensures.room }) c.in_ok-push.ensures.items;
   asks = let h = c.loop-place.invariant.asks in let k = c.see.ensures.asks in omega (arith, h, k);
   rises = let h = c.loop-place.invariant.rises in let k = c.see.ensures.rises in omega (arith, h, k);

@@ -38,7 +38,7 @@ loop-step-preserved c =
     let there = subst (λ n. c.index_mut.result.now ≡ slice_index_or ys n c.index_mut.result.now) c.loop-step.invariant.count c.index_mut.ensures.value in
     let next : length zs ≡ i + 1 = length-append c.loop-step.yielded (c.in-Some.step ∷ []) in
     let more : UpTo Took (i + 1) xs (slice_set ys i c.take.new.self) zs =
-    place_more Took i xs ys c.loop-step.yielded zs c.index_mut.result.now c.take.new.self c.in-Some.step c.loop-step.invariant.took lt there c.take.ensures refl in
+    place_more Took i xs ys c.loop-step.yielded c.loop-step.invariant.took lt zs c.index_mut.result.now c.take.new.self c.in-Some.step there c.take.ensures refl in
     let n = c.loop-step.invariant.count in
     record {
       count = omega (arith, next, n);

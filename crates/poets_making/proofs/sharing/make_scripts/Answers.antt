@@ -25,7 +25,7 @@ pub make_history-requires-sync-M-Call : goal.make_history-requires-sync-M-Call
 make_history-requires-sync-M-Call g c κs = search (command_sync, sendable)
 
 pub returns-then-is_empty-clause-right : goal.returns-then-is_empty-clause-right
-returns-then-is_empty-clause-right g c = right_none c.args.rules c.new.result.items c.new.ensures c.book-book.ensures.studied c.new-engine.ensures.legal
+returns-then-is_empty-clause-right g c = right_none c.args.rules c.new.result.items c.new.ensures c.recall.ensures c.new-engine.ensures.legal
 
 pub returns-then-is_empty-clause-scripts : goal.returns-then-is_empty-clause-scripts
 returns-then-is_empty-clause-scripts g c = no_scripts c.args.scripts.now.items c.new.result.items (c.is_empty.ensures.0 c.if-is_empty.true) c.new.ensures
@@ -34,7 +34,7 @@ pub returns-clause-right : goal.returns-clause-right
 returns-clause-right g c =
     IfOk-weaker _ _ _
     (λ (entries : Listed Entry) are. right_entered c.args.rules c.new-engine.result.rules c.args.scripts.now.items c.in_ok-engine.engine.calls (commands_of c.as_slice.result.now) c.in_ok-engine.replies.items entries.items
-    (ap commands_of c.as_slice.ensures ∙ c.history.ensures.calls) c.in_ok-engine.ensures.history c.in_ok-engine.ensures.replies are c.new-engine.ensures.rules c.book-book.ensures.studied c.new-engine.ensures.legal c.requires.taken)
+    (ap commands_of c.as_slice.ensures ∙ c.history.ensures.calls) c.in_ok-engine.ensures.history c.in_ok-engine.ensures.replies are c.new-engine.ensures.rules c.recall.ensures c.new-engine.ensures.legal c.requires.taken)
     c.entries_of.ensures
 
 pub returns-clause-scripts : goal.returns-clause-scripts

@@ -34,4 +34,4 @@ loop-numbered-preserved g c = record {
 pub returns-clause-right : goal.returns-clause-right
 returns-clause-right g c =
     right_made c.args.rules c.loop-numbered.engine.rules (history_of c.loop-numbered.entries.items) c.args.calls.now c.loop-numbered.numbered-index
-    (c.loop-numbered.invariant.rules ∙ c.new-engine.ensures.rules) c.book-book.ensures.studied c.loop-numbered.invariant.noted.legal c.requires.taken c.loop-numbered.invariant.calls
+    (c.loop-numbered.invariant.rules ∙ c.new-engine.ensures.rules) c.recall.ensures c.loop-numbered.invariant.noted.legal c.requires.taken c.loop-numbered.invariant.calls

@@ -8,4 +8,4 @@ use Rattle.poets_norm.proofs.widths.wide.Goals as goal
 pub returns : goal.returns
 returns c =
     let studied = c.args.studied.now in
-    c.measure.ensures.wide ∙ ap cut (sym (width-studied (book_of studied.book) studied.marks c.book-book.ensures.studied (contract_of c.args.term.now) c.requires))
+    c.measure.ensures.wide ∙ ap cut (sym (width-studied (book_of studied.book) studied.marks c.recall.ensures (contract_of c.args.term.now) c.requires))

@@ -8,7 +8,7 @@ use Rattle.poets_open.proofs.Listing.{listed_all}
 use Rattle.poets_open.proofs.opening.next.Goals as goal
 
 pub add_open-requires-clause-studied : goal.add_open-requires-clause-studied
-add_open-requires-clause-studied c = IsStudied-book (book_of c.args.studied.now.book) c.args.studied.now.marks c.book-book.ensures.studied
+add_open-requires-clause-studied c = IsStudied-book (book_of c.args.studied.now.book) c.args.studied.now.marks c.recall.ensures
 
 pub returns : goal.returns
 returns c =

@@ -32,7 +32,7 @@ pub derive-requires-clause-ready : goal.derive-requires-clause-ready
 derive-requires-clause-ready g c =
     let here = same_contract_at c.args.rows.now c.in_ok-arena.arena c.in_ok-arena.ensures c.root-start.result ∙ c.root-start.ensures.contract in
     record {
-      studied = IsStudied-book (book_of c.args.studied.now.book) c.args.studied.now.marks c.book-book.ensures.studied;
+      studied = IsStudied-book (book_of c.args.studied.now.book) c.args.studied.now.marks c.recall.ensures;
       fits = subst (CountsFit (book_of c.args.studied.now.book)) (sym here) c.requires;
       notes = λ k v h. (let none : noted [] k ≡ Some v = subst (λ m. noted m k ≡ Some v) c.new-memo.ensures h in absurd cc);
     }

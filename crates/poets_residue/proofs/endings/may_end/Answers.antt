@@ -11,7 +11,7 @@ returns c =
     let book = book_of c.args.studied.now.book in
     let marks = marks_of c.args.studied.now in
     let term = contract_of c.args.term.now in
-    let right = AreRight-studied book c.args.studied.now.marks c.book-book.ensures.studied in (
+    let right = AreRight-studied book c.args.studied.now.marks c.recall.ensures in (
       (λ h. nullable_performed book marks right [] term (EachExposed-fits book marks term c.requires) (sym c.nullable.ensures ∙ h)),
       (λ p. c.nullable.ensures ∙ nullable_in book marks right p refl),
     )

@@ -14,5 +14,5 @@ returns c =
     let here : contract_at c.nodes-nodes.result.now c.root-root.result ≡ contract_of_rows c.args.rows.now =
     ap (λ nodes. contract_at nodes c.root-root.result) c.nodes-nodes.ensures.nodes ∙ c.root-root.ensures.contract in
     let wide = ap (wide_by (λ f. body_in (template_in book.templates f) (width book marks)) marks) here in
-    let known = width-studied book studied.marks c.book-book.ensures.studied (contract_of_rows c.args.rows.now) c.requires in
+    let known = width-studied book studied.marks c.recall.ensures (contract_of_rows c.args.rows.now) c.requires in
     omega (arith, c.measure.ensures.left, wide, known)

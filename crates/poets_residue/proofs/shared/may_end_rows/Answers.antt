@@ -12,7 +12,7 @@ returns c =
     let book = book_of c.args.studied.now.book in
     let marks = marks_of c.args.studied.now in
     let term = contract_of_rows c.args.rows.now in
-    let right = AreRight-studied book c.args.studied.now.marks c.book-book.ensures.studied in
+    let right = AreRight-studied book c.args.studied.now.marks c.recall.ensures in
     let answer : c.may_end_at.result ≡ nullable marks term =
     (rw c.nodes-nodes.ensures.nodes at c.may_end_at.ensures) ∙ ap (nullable marks) c.root-root.ensures.contract in (
       (λ h. nullable_performed book marks right [] term (EachExposed-fits book marks term c.requires) (sym answer ∙ h)),

@@ -18,14 +18,14 @@ over-requires-clause-ready c =
     let marks = marks_of c.args.studied.now in
     subst (IsReady book marks) (sym c.in_ok-start.ensures)
     (ready_normal book marks (contract_of c.args.term.now)
-    (record { studied = IsStudied-book book c.args.studied.now.marks c.book-book.ensures.studied; formed = c.requires.formed; fits = c.requires.fits }))
+    (record { studied = IsStudied-book book c.args.studied.now.marks c.recall.ensures; formed = c.requires.formed; fits = c.requires.fits }))
 
 pub returns-in_default : goal.returns-in_default
 returns-in_default c =
     let s = c.args.studied.now in
     let book = book_of s.book in
     let marks = marks_of s in
-    let study = IsStudied-book book s.marks c.book-book.ensures.studied in
+    let study = IsStudied-book book s.marks c.recall.ensures in
     let term = contract_of c.args.term.now in
     let start = contract_of_rows c.in_ok-start.start in
     let events = c.args.events.now.items in

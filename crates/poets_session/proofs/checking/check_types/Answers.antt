@@ -1,6 +1,5 @@
 use Rattle.std.proofs.Common.{sym, subst}
 use Rattle.poets_command.specs.Statements.{statements_of}
-use Rattle.poets_command.specs.TypedStatements.{first_fault}
 use Rattle.poets_session.specs.code.Checking.{IsTypeRefusal}
 use Rattle.poets_session.specs.Causes.{IsCauseOf}
 use Rattle.poets_session.proofs.Typing.{type_told}
@@ -8,5 +7,5 @@ use Rattle.poets_session.proofs.checking.check_types.Goals as goal
 
 pub returns-in-Err-clause-fault : goal.returns-in-Err-clause-fault
 returns-in-Err-clause-fault c =
-    let found = first_fault (statements_of c.args.statements.now) in
-    subst (IsCauseOf (IsTypeRefusal found)) (sym c.cause_of.ensures) (type_told found c.in-Err.fault c.in-Err.ensures.fault)
+    let statements = statements_of c.args.statements.now in
+    subst (IsCauseOf (IsTypeRefusal statements)) (sym c.cause_of.ensures) (type_told statements c.in-Err.fault c.in-Err.ensures.fault)

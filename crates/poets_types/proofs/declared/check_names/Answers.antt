@@ -8,7 +8,7 @@ use Rattle.poets_syntax.specs.TypeOf.{Verdict, Passes}
 use Rattle.poets_syntax.specs.Typed.{is_among, check_new}
 use Rattle.poets_command.specs.Statements.{statement_of, statements_of}
 use Rattle.poets_command.specs.Declarations.{names_declared}
-use Rattle.poets_types.specs.Faults.{IsFaultOf}
+use Rattle.poets_types.specs.code.Answers.{IsToldBy}
 use Rattle.poets_types.proofs.Twice.{names_before, names_before-more, twice_from-more, check_new-same, first_here}
 use Rattle.poets_types.proofs.declared.check_names.Goals as goal
 
@@ -18,8 +18,8 @@ returns-in-Err-clause-fault c =
     let s = c.index-statements-place.result in
     let earlier = names_before (statements_of (take i c.args.statements.now)) [] in
     let same = check_new-same (contains name_cmp c.loop-place.seen) (is_among earlier) (names_declared (statement_of s)) c.loop-place.invariant.seen in
-    let fault : IsFaultOf (check_new (contains name_cmp c.loop-place.seen) [] (names_declared (statement_of s))) c.in-Err.cause = rw c.names_declared.ensures at c.in-Err.ensures.told in
-    first_here (check_new (is_among earlier) [] (names_declared (statement_of s))) c.in-Err.cause (i + 1) _ _ (subst (λ (r : Verdict (Unit {0})). IsFaultOf r c.in-Err.cause) same fault)
+    let fault : IsToldBy (check_new (contains name_cmp c.loop-place.seen) [] (names_declared (statement_of s))) c.in-Err.cause = rw c.names_declared.ensures at c.in-Err.ensures.told in
+    first_here (check_new (is_among earlier) [] (names_declared (statement_of s))) c.in-Err.cause (i + 1) _ _ (subst (λ (r : Verdict (Unit {0})). IsToldBy r c.in-Err.cause) same fault)
     (c.loop-place.invariant.rest ∙ twice_from-more c.args.statements.now i (i + 1) s earlier c.loop-place-test.true c.index-statements-place.is)
 
 pub loop-place-preserved : goal.loop-place-preserved

@@ -54,7 +54,7 @@ returns-in_ok-conclude-in-Par t c = elim c.in-Par.is [
         OnOk c.conclude-in-Par-2.result (AreAdded c.args.granted (get name_cmp c.args.facts.now) d c.args.given c.args.goal c.args.self.now c.conclude-in-Par-2.new.self)
     both d splits joins =
         on_ok_weaker c.conclude-in-Par-2.result
-        (λ b. AreAdded-both c.args.granted (get name_cmp c.args.facts.now) (contract_of c.in-Par.a.value) (contract_of c.in-Par.b.value) d c.args.given c.args.goal c.in_ok-first-in-Par.first
+        (λ b. AreAdded-both c.args.granted (get name_cmp c.args.facts.now) (contract_of c.in-Par.a.value) (contract_of c.in-Par.b.value) d splits joins c.args.given c.args.goal c.in_ok-first-in-Par.first
         c.args.self.now c.fresh.new.self c.conclude-in-Par.new.self c.conclude-in-Par-2.new.self c.in_ok-first-in-Par.ensures.fact c.in_ok-first-in-Par.ensures.count c.in_ok-first-in-Par.ensures.rules
-        splits joins (rw c.deref-in-Par.ensures at c.in_ok-conclude-in-Par.ensures) (rw c.deref-in-Par-2.ensures at b))
+        (rw c.deref-in-Par.ensures at c.in_ok-conclude-in-Par.ensures) (rw c.deref-in-Par-2.ensures at b))
         c.conclude-in-Par-2.ensures

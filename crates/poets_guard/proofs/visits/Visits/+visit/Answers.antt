@@ -68,8 +68,8 @@ pub loop-next-preserved : goal.loop-next-preserved
 loop-next-preserved t c = record {
   pushed = c.loop-next.invariant.pushed;
   opened = rw c.min-least.ensures (AreOpened-trans c.args.graph.now c.loop-next.least c.in_ok-visit.field-0 _ c.loop-next.self c.visit.new.self c.loop-next.invariant.opened c.in_ok-visit.ensures.opened);
-  seen = rw c.min-least.ensures (seen-more c.args.graph.now c.loop-next.self c.visit.new.self c.loop-next.least c.in_ok-visit.field-0 c.as_slice-next-items.result.now c.loop-next.next-index (record { id = 0 })
-      c.loop-next-test.true c.in_ok-visit.ensures.opened.grown c.loop-next.invariant.seen c.in_ok-visit.ensures.here);
+  seen = rw c.min-least.ensures (seen-more c.args.graph.now c.loop-next.self c.visit.new.self c.in_ok-visit.ensures.opened.grown c.loop-next.least c.in_ok-visit.field-0
+      c.as_slice-next-items.result.now c.loop-next.next-index (record { id = 0 }) c.loop-next-test.true c.loop-next.invariant.seen c.in_ok-visit.ensures.here);
   way = rw c.min-least.ensures (way-more c.args.graph.now _ c.loop-next.self c.loop-next.least c.in_ok-visit.field-0 c.args.name next c.loop-next.invariant.opened.grown edge
       c.loop-next.invariant.way c.in_ok-visit.ensures.way);
 }

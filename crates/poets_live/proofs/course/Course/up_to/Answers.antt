@@ -18,6 +18,6 @@ returns-clause-course g c =
     let front = c.in_ok-marks.ensures ∙ ap (take c.marks_until-count.result) c.as_slice.ensures in
     let answer = c.in_ok-fold.ensures.answer ∙ ap (carried_on c.in_ok-start.start.answer) c.as_slice-2.ensures in
     let within : c.args.place < length events = let len = length-events_of c.args.log.now in let lt = c.requires.place in omega (arith, len, lt) in
-    course_up_to d q c.args.args.now.items events c.args.place marks c.self.inside.since c.in_ok-start.start c.in_ok-fold.fold c.in_ok-marks.marks.items
-    (c.args.place - c.marks_until-count.result * apart) c.marks_until-count.result c.in_ok-marks.marks.room
-    count front refl c.in_ok-fold.ensures.env c.in_ok-fold.ensures.start answer c.in_ok-start.ensures.stands h.marks within
+    course_up_to d q c.args.args.now.items events c.args.place within marks c.self.inside.since h.marks c.in_ok-start.start c.in_ok-start.ensures.stands
+    c.in_ok-fold.fold c.in_ok-marks.marks.items (c.args.place - c.marks_until-count.result * apart) c.marks_until-count.result c.in_ok-marks.marks.room
+    count front refl (record { env = c.in_ok-fold.ensures.env; start = c.in_ok-fold.ensures.start; answer = answer })

@@ -19,5 +19,5 @@ returns-clause-leads g c =
     let last = c.in_ok-course-3.course in
     subst (λ s. Leads d rest s.watch (M.Other last)) c.self.view_is
     (course_leads d rest s.watch last
-    (course_without d q args c.args.log.now c.args.place c.in_ok-course.left c.in_ok-course.course c.in_ok-course-2.course last c.requires.place
+    (course_without d q args c.args.log.now c.args.place c.requires.place c.in_ok-course.left c.in_ok-course.course c.in_ok-course-2.course last
     c.in_ok-course.ensures.course c.in_ok-course-2.ensures.goes_on c.in_ok-course-3.ensures.goes_on))

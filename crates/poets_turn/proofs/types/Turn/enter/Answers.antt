@@ -10,12 +10,13 @@ pub store-requires : goal.store-requires
 store-requires g c = let e = c.exchange.ensures.3 in let x = c.args.machine in let n = c.requires.entry in (
   search rules,
   search rules,
-  enters g.M.Machine.history g.M.Machine.frame _ _ _ _ c.exchange.new.seat.me c.args.ticket _ n.0 x (arc_value c.args.call.now) _
+  enters g.M.Machine.history g.M.Machine.frame _ _ _ _ c.exchange.new.seat.me c.args.ticket _ n.0 x _
       (ap (λ m. m.0.stage) e ∙ n.1)
       (ap (λ m. m.1) e ∙ ap (λ (l : List (ℕ × Option g.row.M.Denot)). (0, Some x) ∷ rest l) c.requires.hand.0)
       refl
       (ap (λ m. m.0.setting) e ∙ c.requires.of.setting)
       c.requires.frame
+      (arc_value c.args.call.now)
       (n.2 ∙ ap (λ (k : ℕ). n.0 ++ (k, arc_value c.args.call.now) ∷ []) (sym (ap (λ m. m.0.number) e))),
 )
 

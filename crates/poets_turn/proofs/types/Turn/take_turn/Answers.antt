@@ -17,6 +17,6 @@ pub returns-then-is_ok-clause-call : goal.returns-then-is_ok-clause-call
 returns-then-is_ok-clause-call g c = let h = c.take_machine-ticket.ensures.served in let x = c.take_machine-ticket.result.1 in let f = turn_frame g.M.Machine.frame c.args.self.now in
     let framed : g.M.Machine.frame x ≡ f = (h.setting _ c.requires.of.setting).0 in
     match_ok c.turn-made.result _ _ _ _ c.if-is_ok.ensures.value c.turn-made.ensures.turn (λ kept p.
-    called g.M.Machine.history g.M.Machine.frame (g.M.Machine.owes f) c.args.seat.now.me.0 c.enter.new.seat.me.0 c.take_machine-ticket.result.0 x c.turn-made.new.self c.take_machine-ticket.new.seat.me c.args.number (arc_value c.args.call.now) kept _
-    c.take_machine-ticket.ensures.holds h c.requires.of.setting c.requires.idle.3 c.requires.idle.2 p.0
+    called g.M.Machine.history g.M.Machine.frame (g.M.Machine.owes f) c.args.seat.now.me.0 c.take_machine-ticket.result.0 x c.take_machine-ticket.new.seat.me _ c.take_machine-ticket.ensures.holds h
+    c.requires.of.setting c.enter.new.seat.me.0 c.turn-made.new.self c.args.number (arc_value c.args.call.now) kept c.requires.idle.3 c.requires.idle.2 p.0
     (subst (λ z. g.M.Machine.owes z (g.M.Machine.history x) c.args.number (arc_value c.args.call.now) kept) framed p.1) c.take_machine-ticket.ensures.fits (ap (λ m. m.0) c.enter.ensures.after))
