@@ -83,23 +83,23 @@ book_texts_are names declared ts qs =
     (reports_are names qs)
 
 -- what was added one after the other
-added :
-    (a b c d e : List (String Global)) (p q r s : List (List ℕ)) → a ≡ [] → Adds a b p → Adds b c q → Adds c d r →
-    Adds d e s → texts_of e ≡ p ++ q ++ r ++ s
-added a b c d e p q r s none ab bc cd de =
-    de ∙ ap (λ (us : List (List ℕ)). us ++ s)
-    (cd ∙ ap (λ (us : List (List ℕ)). us ++ r)
-    (bc ∙ ap (λ (us : List (List ℕ)). us ++ q)
-    (ab ∙ ap (λ (ts : List (String Global)). texts_of ts ++ p) none)))
+module _ (p q r s : List (List ℕ)) where
+  added :
+      (a b c d e : List (String Global)) → a ≡ [] → Adds a b p → Adds b c q → Adds c d r → Adds d e s →
+      texts_of e ≡ p ++ q ++ r ++ s
+  added a b c d e none ab bc cd de =
+      de ∙ ap (λ (us : List (List ℕ)). us ++ s)
+      (cd ∙ ap (λ (us : List (List ℕ)). us ++ r)
+      (bc ∙ ap (λ (us : List (List ℕ)). us ++ q)
+      (ab ∙ ap (λ (ts : List (String Global)). texts_of ts ++ p) none)))
 
 -- what was added is the texts of the book
-pub all_added :
-    (names : Table) (declared : List (Name × Ty)) (ts templates : List Template) (qs reports : List Report)
-    (agents kinds : List Name) (a b c d e : List (String Global)) →
-    a ≡ [] → agents ≡ names_with T.Agent declared → kinds ≡ names_with T.Kind declared → templates ≡ ts → reports ≡ qs →
-    Adds a b (listed_texts names (codes "agents ") agents) → Adds b c (listed_texts names (codes "kinds ") kinds) →
-    Adds c d (template_texts names templates) → Adds d e (report_texts names reports) →
-    texts_of e ≡ book_texts names declared (map template_of ts) (map report_of qs)
-all_added names declared ts templates qs reports agents kinds a b c d e none ea ek et eq ab bc cd de =
-    added a b c d e _ _ _ _ none (rw ea at ab) (rw ek at bc) (rw et at cd) (rw eq at de)
-    ∙ sym (book_texts_are names declared ts qs)
+module _ (names : Table) (declared : List (Name × Ty)) (ts templates : List Template) (qs reports : List Report)
+    (agents kinds : List Name) (ea : agents ≡ names_with T.Agent declared) (ek : kinds ≡ names_with T.Kind declared)
+    (et : templates ≡ ts) (eq : reports ≡ qs) where
+  pub all_added : (a b c d e : List (String Global)) → a ≡ [] →
+      Adds a b (listed_texts names (codes "agents ") agents) → Adds b c (listed_texts names (codes "kinds ") kinds) →
+      Adds c d (template_texts names templates) → Adds d e (report_texts names reports) →
+      texts_of e ≡ book_texts names declared (map template_of ts) (map report_of qs)
+  all_added a b c d e none ab bc cd de =
+      added _ _ _ _ a b c d e none (rw ea at ab) (rw ek at bc) (rw et at cd) (rw eq at de) ∙ sym (book_texts_are names declared ts qs)

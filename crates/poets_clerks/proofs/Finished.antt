@@ -6,13 +6,13 @@ use Rattle.std.proofs.lemmas.List.Elements.{All-head, All-tail, All-cons, All-ni
 use Rattle.std.proofs.lemmas.Option.{slice_get_within, get_or_from_slice_get}
 use mathlib.Core.Logic.{dite}
 use native.Mathlib.Decide.{ℕ_discrete}
-use Rattle.poets_machine.specs.Histories.{own_calls}
+use Rattle.poets_machine.specs.Histories.{calls_by}
 use Rattle.poets_turn.specs.declared.types.Turn.{Turn}
 use Rattle.poets_turn.specs.declared.types.ClerkOf.{ClerkOf}
 use Rattle.poets_turn.specs.Clerks.{front, calls, number, turn_frame, AreNumbered, IsClerkIn, IsFresh}
 use Rattle.poets_turn.specs.Settings.{OnlyClerks}
 use Rattle.poets_clerks.specs.Histories.{AreInOrder, AreReplies, FillPlaces, HasScripts}
-use Rattle.poets_clerks.specs.Scripts.{IsAnswer, AreAnswers, EachWorked, HaveWorked}
+use Rattle.poets_clerks.specs.Scripts.{IsAnswerAt, AreAnswers, EachWorked, HaveWorked}
 use Rattle.poets_clerks.proofs.Covering.{covers, right_there, dropped}
 use Rattle.poets_clerks.proofs.More.{answers_stay}
 
@@ -34,16 +34,16 @@ module _ {C : Type 0} where
   abbrev IsFrom : ℕ → ℕ → ℕ × C → Type 0
   IsFrom k count e = (k ≤ e.0) × (e.0 < k + count)
 
-  parted : (k : ℕ) (h : List (ℕ × C)) → length h ≡ length (own_calls k h) + length (others k h)
+  parted : (k : ℕ) (h : List (ℕ × C)) → length h ≡ length (calls_by k h) + length (others k h)
   parted k [] = refl
-  parted k (e ∷ es) = one_more (e.0 == k) e e.1 es (own_calls k es) (others k es) (parted k es)
+  parted k (e ∷ es) = one_more (e.0 == k) e e.1 es (calls_by k es) (others k es) (parted k es)
 
-  own_others : (k j : ℕ) (h : List (ℕ × C)) → j ≢ k → own_calls j (others k h) ≡ own_calls j h
+  own_others : (k j : ℕ) (h : List (ℕ × C)) → j ≢ k → calls_by j (others k h) ≡ calls_by j h
   own_others k j [] ne = refl
   own_others k j (e ∷ es) ne = dite (ℕ_discrete e.0 k)
-      (λ same. ap (λ (b : Bool). own_calls j (if b then others k es else e ∷ others k es)) (eq-eqb e.0 k same)
-      ∙ (own_others k j es ne ∙ sym (ap (λ (b : Bool). if b then e.1 ∷ own_calls j es else own_calls j es) (ne_eqb e.0 j (λ is. ne (sym is ∙ same))))))
-      (λ no. ap (λ (b : Bool). own_calls j (if b then others k es else e ∷ others k es)) (ne_eqb e.0 k no)
+      (λ same. ap (λ (b : Bool). calls_by j (if b then others k es else e ∷ others k es)) (eq-eqb e.0 k same)
+      ∙ (own_others k j es ne ∙ sym (ap (λ (b : Bool). if b then e.1 ∷ calls_by j es else calls_by j es) (ne_eqb e.0 j (λ is. ne (sym is ∙ same))))))
+      (λ no. ap (λ (b : Bool). calls_by j (if b then others k es else e ∷ others k es)) (ne_eqb e.0 k no)
       ∙ ap (λ l. if e.0 == j then e.1 ∷ l else l) (own_others k j es ne))
 
   from_next : (k count : ℕ) (h : List (ℕ × C)) → All (IsFrom k (suc count)) h → All (IsFrom (k + 1) count) (others k h)
@@ -55,14 +55,14 @@ module _ {C : Type 0} where
       (λ no. subst (λ (b : Bool). All Q (if b then others k es else e ∷ others k es)) (sym (ne_eqb e.0 k no)) (All-cons Q e (others k es) (omega arith, omega arith) rest))
 
   -- a history of clerks numbered from k on has as many entries as their scripts have calls
-  counted : (k : ℕ) (ss : List (List C)) (h : List (ℕ × C)) → All (IsFrom k (length ss)) h → ((j : ℕ) (s : List C) → slice_get ss j ≡ Some s → own_calls (k + j) h ≡ s)
+  counted : (k : ℕ) (ss : List (List C)) (h : List (ℕ × C)) → All (IsFrom k (length ss)) h → ((j : ℕ) (s : List C) → slice_get ss j ≡ Some s → calls_by (k + j) h ≡ s)
       → length h ≡ length (flat_map (λ s. s) ss)
   counted k [] [] all own = refl
   counted k [] (e ∷ es) all own = let none = All-head (IsFrom k 0) e es all in absurd (omega arith)
   counted k (s ∷ ss) h all own =
-      let mine : own_calls k h ≡ s = ap (λ j. own_calls j h) (omega arith) ∙ own 0 s refl in
+      let mine : calls_by k h ≡ s = ap (λ j. calls_by j h) (omega arith) ∙ own 0 s refl in
       let rest = counted (k + 1) ss (others k h) (from_next k (length ss) h all)
-      (λ j t at. ap (λ n. own_calls n (others k h)) (omega arith) ∙ (own_others k (k + suc j) h (λ e. omega arith) ∙ own (suc j) t at)) in
+      (λ j t at. ap (λ n. calls_by n (others k h)) (omega arith) ∙ (own_others k (k + suc j) h (λ e. omega arith) ∙ own (suc j) t at)) in
       let p = parted k h in let n = ap length mine in
       let t : length (flat_map (λ l. l) (s ∷ ss)) ≡ length s + length (flat_map (λ l. l) ss) = length-append s (flat_map (λ l. l) ss) in omega arith
 
@@ -72,13 +72,13 @@ module _ {C R : Type 0} (answers : List (ℕ × C) → ℕ → C → R → Type 
   AllDone k [] [] = Unit {0}
   AllDone k [] (d ∷ ds) = ⊥
   AllDone k (s ∷ ss) [] = ⊥
-  AllDone k (s ∷ ss) (d ∷ ds) = (own_calls k h ≡ s) × AreAnswers answers h k 0 s d × (length d ≡ length s) × AllDone (k + 1) ss ds
+  AllDone k (s ∷ ss) (d ∷ ds) = (calls_by k h ≡ s) × AreAnswers answers h k 0 s d × (length d ≡ length s) × AllDone (k + 1) ss ds
 
-  own_done : (k : ℕ) (ss : List (List C)) (ds : List (List (ℕ × R))) → AllDone k ss ds → (j : ℕ) (s : List C) → slice_get ss j ≡ Some s → own_calls (k + j) h ≡ s
+  own_done : (k : ℕ) (ss : List (List C)) (ds : List (List (ℕ × R))) → AllDone k ss ds → (j : ℕ) (s : List C) → slice_get ss j ≡ Some s → calls_by (k + j) h ≡ s
   own_done k [] ds done j s at = absurd (cc (at))
   own_done k (t ∷ ss) [] done j s at = absurd done
-  own_done k (t ∷ ss) (d ∷ ds) done zero s at = ap (λ n. own_calls n h) (omega arith) ∙ (done.0 ∙ cc (at))
-  own_done k (t ∷ ss) (d ∷ ds) done (suc j) s at = ap (λ n. own_calls n h) (omega arith) ∙ own_done (k + 1) ss ds done.3 j s at
+  own_done k (t ∷ ss) (d ∷ ds) done zero s at = ap (λ n. calls_by n h) (omega arith) ∙ (done.0 ∙ cc (at))
+  own_done k (t ∷ ss) (d ∷ ds) done (suc j) s at = ap (λ n. calls_by n h) (omega arith) ∙ own_done (k + 1) ss ds done.3 j s at
 
   long_done : (k : ℕ) (ss : List (List C)) (ds : List (List (ℕ × R))) → AllDone k ss ds → length (flat_map (λ d. d) ds) ≡ length (flat_map (λ s. s) ss)
   long_done k [] [] done = refl
@@ -92,16 +92,16 @@ module _ {C R : Type 0} (answers : List (ℕ × C) → ℕ → C → R → Type 
   abbrev pub IsPlaced : ℕ → R → Type 0
   IsPlaced place reply = (e : ℕ × C) × (slice_get h place ≡ Some e) × answers (take place h) e.0 e.1 reply
 
-  answer_in : (k low : ℕ) (cs : List C) (ds : List (ℕ × R)) → AreAnswers answers h k low cs ds → (place : ℕ) (reply : R) → Contains ds (place, reply) → (c : C) × IsAnswer answers h k c place reply
+  answer_in : (k low : ℕ) (cs : List C) (ds : List (ℕ × R)) → AreAnswers answers h k low cs ds → (place : ℕ) (reply : R) → Contains ds (place, reply) → (c : C) × IsAnswerAt answers h k c place reply
   answer_in k low cs [] a place reply held = let l = held.1 in absurd (omega arith)
   answer_in k low [] (d ∷ ds) a place reply held = absurd a
   answer_in k low (c ∷ cs) (d ∷ ds) a place reply held = ⊎_elim
       (λ first. ⊎_elim (λ (n : Contains [] (place, reply)). let l = n.1 in absurd (omega arith))
-      (λ is. (c, subst (λ (x : ℕ × R). IsAnswer answers h k c x.0 x.1) is a.0)) (Contains-push_cases [] d (place, reply) first))
+      (λ is. (c, subst (λ (x : ℕ × R). IsAnswerAt answers h k c x.0 x.1) is a.0)) (Contains-push_cases [] d (place, reply) first))
       (λ rest. answer_in k (d.0 + 1) cs ds a.2 place reply rest)
       (Contains-append_cases (d ∷ []) ds (place, reply) held)
 
-  placed : (k : ℕ) (c : C) (place : ℕ) (reply : R) → IsAnswer answers h k c place reply → IsPlaced place reply
+  placed : (k : ℕ) (c : C) (place : ℕ) (reply : R) → IsAnswerAt answers h k c place reply → IsPlaced place reply
   placed k c place reply a =
       let here : slice_get h place ≡ Some (k, c) = ap (λ l. slice_get l place) (sym a.here.1 ∙ append_assoc a.before ((k, c) ∷ []) a.here.0) ∙ (ap (slice_get (a.before ++ (k, c) ∷ a.here.0)) a.at ∙ at_end a.before (k, c) a.here.0) in
       ((k, c), here, right_there answers k h c c place reply a here)
@@ -148,7 +148,7 @@ module _ {C R : Type 0} (answers : List (ℕ × C) → ℕ → C → R → Type 
 
   pub scripts_made : (ss : List (List C)) (ds : List (List (ℕ × R))) → AllDone 1 ss ds → OnlyClerks (length ss) h → HasScripts ss h
   scripts_made ss ds done only = record {
-    own = λ place script at. ap (λ n. own_calls n h) (omega arith) ∙ own_done 1 ss ds done place script at;
+    own = λ place script at. ap (λ n. calls_by n h) (omega arith) ∙ own_done 1 ss ds done place script at;
     clerks = only;
   }
 
@@ -170,7 +170,7 @@ module _ {M C R K F : Type 0} (frame : M → F) (answers : F → List (ℕ × C)
       let mine = All-head (λ u. IsClerkIn h (number u) (front u) (calls u)) w ws' in_h in
       let is : number v ≡ k = numbers 0 v (omega arith) ∙ omega arith in
       let whole = hw.whole refl in (
-        ap (λ n. own_calls n h) (sym (hw.same ∙ is)) ∙ (mine.calls ∙ (whole.1 ∙ ap (λ l. l ++ script) new.calls)),
+        ap (λ n. calls_by n h) (sym (hw.same ∙ is)) ∙ (mine.calls ∙ (whole.1 ∙ ap (λ l. l ++ script) new.calls)),
         answers_stay (answers (turn_frame frame turn)) (front w) h k 0 script done mine.front
             (subst (λ (t : ℕ × ℕ). AreAnswers (answers (turn_frame frame turn)) (front w) t.0 t.1 script done) (λ i. (is i, ap length new.front i)) hw.answered),
         whole.0,

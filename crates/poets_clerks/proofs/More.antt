@@ -3,10 +3,10 @@ use Rattle.std.proofs.Common.{◌≡◌, ℕ, ◌+◌, ◌<◌, List, [], ◌∷
 use Rattle.std.proofs.lemmas.List.{map_more, map_push, get_or-map, length-map}
 use mathlib.Core.List.{IsPrefix}
 use Rattle.poets_turn.proofs.Fronts.{prefix_trans, prefix_length}
-use Rattle.poets_clerks.specs.Scripts.{IsAnswer, IsAnswered, AreAnswers}
+use Rattle.poets_clerks.specs.Scripts.{IsAnswerAt, IsAnswered, AreAnswers}
 
 module _ {C R : Type 0} (answers : List (ℕ × C) → ℕ → C → R → Type 0) where
-  answer_stays : (saw saw' : List (ℕ × C)) (k : ℕ) (c : C) (p : ℕ) (r : R) → IsPrefix saw saw' → IsAnswer answers saw k c p r → IsAnswer answers saw' k c p r
+  answer_stays : (saw saw' : List (ℕ × C)) (k : ℕ) (c : C) (p : ℕ) (r : R) → IsPrefix saw saw' → IsAnswerAt answers saw k c p r → IsAnswerAt answers saw' k c p r
   answer_stays saw saw' k c p r pre h = record { before = h.before; at = h.at; here = prefix_trans (h.before ++ (k, c) ∷ []) saw saw' h.here pre; right = h.right }
 
   -- the answers stand in all that is seen later
@@ -19,7 +19,7 @@ module _ {C R : Type 0} (answers : List (ℕ × C) → ℕ → C → R → Type 
     answers_more : (low : ℕ) (cs : List C) (ds : List (ℕ × R)) → AreAnswers answers saw k low cs ds → length ds < length cs → get_or cs (length ds) c ≡ c → AreAnswers answers saw' k low cs (ds ++ d ∷ [])
     answers_more low [] ds h inside is = absurd (omega arith)
     answers_more low (x ∷ cs) [] h inside is = let after = m.after in let within = m.within in
-        (subst (λ y. IsAnswer answers saw' k y d.0 d.1) (sym is) m.answer, omega arith, omega arith)
+        (subst (λ y. IsAnswerAt answers saw' k y d.0 d.1) (sym is) m.answer, omega arith, omega arith)
     answers_more low (x ∷ cs) (y ∷ ds) h inside is =
         (answer_stays saw saw' k x y.0 y.1 m.longer h.0, h.1, answers_more (y.0 + 1) cs ds h.2 (omega arith) is)
 

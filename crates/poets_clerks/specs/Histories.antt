@@ -2,21 +2,21 @@
 use Rattle.std.specs.Prelude.{◌≡◌, ℕ, ◌+◌, ◌<◌, List, length, take, All, Contains, Option, Some}
 use Rattle.std.specs.Prelude.{slice_get}
 use mathlib.Core.List.{IsPrefix}
-use Rattle.poets_machine.specs.Histories.{own_calls}
+use Rattle.poets_machine.specs.Histories.{calls_by}
 use Rattle.poets_turn.specs.Settings.{OnlyClerks}
 
 -- the calls of each clerk in the history are its script, in order, and there are no calls of other
 -- clerks
 pub record HasScripts {C : Type 0} (scripts : List (List C)) (history : List (ℕ × C)) : Type 0 where
   pub own : (place : ℕ) (script : List C) → slice_get scripts place ≡ Some script →
-      own_calls (place + 1) history ≡ script
+      calls_by (place + 1) history ≡ script
   pub clerks : OnlyClerks (length scripts) history
 
 -- the calls of each clerk in the history are a prefix of its script, and there are no calls of
 -- other clerks
 pub record HasScriptParts {C : Type 0} (scripts : List (List C)) (history : List (ℕ × C)) : Type 0 where
   pub own : (place : ℕ) (script : List C) → slice_get scripts place ≡ Some script →
-      IsPrefix (own_calls (place + 1) history) script
+      IsPrefix (calls_by (place + 1) history) script
   pub clerks : OnlyClerks (length scripts) history
 
 -- each call has a reply, which is right after the calls before it

@@ -14,12 +14,12 @@ use Rattle.poets_clerks.specs.declared.answers.DoneOf.{DoneOf}
 use Rattle.poets_clerks.specs.declared.answers.WorkedOf.{WorkedOf}
 
 -- the calls of a script
-abbrev pub calls_of : {C : Type 0} → Listed (Arc C Global) → List C
-calls_of script = map arc_value script.items
+abbrev pub script_calls : {C : Type 0} → Listed (Arc C Global) → List C
+script_calls script = map arc_value script.items
 
 -- the calls of each script
 abbrev pub calls_of_all : {C : Type 0} → Listed (Listed (Arc C Global)) → List (List C)
-calls_of_all scripts = map calls_of scripts.items
+calls_of_all scripts = map script_calls scripts.items
 
 -- each call of each script is one that is taken
 abbrev pub AreTaken : {C : Type 0} → (C → Type 0) → Listed (Listed (Arc C Global)) → Type 0
@@ -35,7 +35,7 @@ answers_of answers = pairs_of answers.items
 
 module _ {C R : Type 0} (answers : List (ℕ × C) → ℕ → C → R → Type 0) where
   -- the front has the clerk's call at the place, and the reply is right after the entries before it
-  pub record IsAnswer (front : List (ℕ × C)) (clerk : ℕ) (call : C) (place : ℕ) (reply : R) : Type 0 where
+  pub record IsAnswerAt (front : List (ℕ × C)) (clerk : ℕ) (call : C) (place : ℕ) (reply : R) : Type 0 where
     pub before : List (ℕ × C)
     pub at : place ≡ length before
     pub here : IsPrefix (before ++ (clerk, call) ∷ []) front
@@ -46,14 +46,14 @@ module _ {C R : Type 0} (answers : List (ℕ × C) → ℕ → C → R → Type 
   AreAnswers front clerk low calls [] = low ≤ length front
   AreAnswers front clerk low [] (d ∷ done) = ⊥
   AreAnswers front clerk low (c ∷ calls) (d ∷ done) =
-      IsAnswer front clerk c d.0 d.1 × (low ≤ d.0) × AreAnswers front clerk (d.0 + 1) calls done
+      IsAnswerAt front clerk c d.0 d.1 × (low ≤ d.0) × AreAnswers front clerk (d.0 + 1) calls done
 
   -- the next call has this answer; the clerk, which had seen `saw` and made `made`, has now seen
   -- `saw'` and made `made'`
   pub record IsAnswered (clerk : ℕ) (saw saw' : List (ℕ × C)) (made made' : List C) (call : C) (d : ℕ × R) :
       Type 0 where
     pub longer : IsPrefix saw saw'
-    pub answer : IsAnswer saw' clerk call d.0 d.1
+    pub answer : IsAnswerAt saw' clerk call d.0 d.1
     pub after : length saw ≤ d.0
     pub within : d.0 < length saw'
     pub calls : made' ≡ made ++ call ∷ []

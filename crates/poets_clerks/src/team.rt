@@ -3,7 +3,7 @@ ghost use Rattle.std.specs.Prelude.{ℕ, ◌<◌, length, All, slice_index_or};
 ghost use Rattle.std.specs.Thread.{IsSync};
 ghost use Rattle.std.specs.Arc.{arc_value};
 ghost use Rattle.poets_turn.specs.Clerks.{turn_frame, IsClerkOf};
-ghost use Rattle.poets_clerks.specs.Scripts.{HasWorked, answers_of, calls_of};
+ghost use Rattle.poets_clerks.specs.Scripts.{HasWorked, answers_of, script_calls};
 ghost use Rattle.poets_clerks.specs.code.Desks.{AtEach, AtEachOfTwo};
 
 use crate::answers::DoneOf;
@@ -68,7 +68,7 @@ impl<'a, M: Machine> Team for Crew<'a, M> {
         (slice_index_or t.scripts.now n s).items) };
 
     ghost did = { λ t n d e. (s : _) → HasWorked M.frame M.answers t.turn.now e.memory
-        (calls_of (slice_index_or t.scripts.now n s)) d.clerk e.clerk (answers_of e.answers) };
+        (script_calls (slice_index_or t.scripts.now n s)) d.clerk e.clerk (answers_of e.answers) };
 
     fn run<G: Gate, R: Threads + Wait + Sync>(
         &self,

@@ -196,17 +196,18 @@ keys_typed book reports q args key t (e ∷ events) typed fit h all =
     (key_typed book reports q args key t e typed fit h (All-head (IsDeclaredEvent book.declared) e events all))
     (keys_typed book reports q args key t events typed fit h (All-tail (IsDeclaredEvent book.declared) e events all))
 
-row_typed : (book : Book) (reports : List Name) (q : Report) (args : List Expression) (key : Expression) (t : Ty) (events : List Event) →
-    IsTypedReport book reports q → Fit book.declared [] q.params args → Has book.declared (types_bound q.binders ++ scope_of q.params) key t →
-    All (IsDeclaredEvent book.declared) events → (r : KeyRow) →
-    IsFoldOfKey book.declared q (map (val book.declared []) args) (key_on book.declared q (map (val book.declared []) args) key) events r.0 r.1 →
-    IsOfType r.0 t × IsOfType r.1 q.ty
-row_typed book reports q args key t events typed fit h all r row =
-    let of_key = key_on book.declared q (map (val book.declared []) args) key in
-    let of_rows = All-filter (λ e. same_key r.0 (of_key e)) (IsDeclaredEvent book.declared) events all in (
-      All-contains (λ k. IsOfType k t) (map of_key events) r.0 (keys_typed book reports q args key t events typed fit h all) row.0,
-      rw row.1 (folded_typed book reports q args (with_key of_key r.0 events) typed fit of_rows),
-    )
+module _ (book : Book) (reports : List Name) (q : Report) (args : List Expression) (key : Expression) (t : Ty) where
+  row_typed : (events : List Event) →
+      IsTypedReport book reports q → Fit book.declared [] q.params args → Has book.declared (types_bound q.binders ++ scope_of q.params) key t →
+      All (IsDeclaredEvent book.declared) events → (r : KeyRow) →
+      IsFoldOfKey book.declared q (map (val book.declared []) args) (key_on book.declared q (map (val book.declared []) args) key) events r.0 r.1 →
+      IsOfType r.0 t × IsOfType r.1 q.ty
+  row_typed events typed fit h all r row =
+      let of_key = key_on book.declared q (map (val book.declared []) args) key in
+      let of_rows = All-filter (λ e. same_key r.0 (of_key e)) (IsDeclaredEvent book.declared) events all in (
+        All-contains (λ k. IsOfType k t) (map of_key events) r.0 (keys_typed book reports q args key t events typed fit h all) row.0,
+        rw row.1 (folded_typed book reports q args (with_key of_key r.0 events) typed fit of_rows),
+      )
 
 -- by the report's key
 by_key : (book : Book) (reports : List Name) (q : Report) → IsTypedReport book reports q →

@@ -23,7 +23,8 @@ unfolding line_of
 whole_line sales h = refl
 
 -- where the numbers are those of a history, the line is its line
-pub line_of_history : (sales entries registered recorded ended refused : ℕ) (sum : ℤ) (h : List Entry) →
-    entries ≡ length h → registered ≡ count_replies is_registered h → recorded ≡ count_replies is_recorded h → ended ≡ count_replies is_ended h →
-    refused ≡ count_replies is_refused h → sum ≡ paid h → line_of sales entries registered recorded ended refused sum ≡ demo_line sales h
-line_of_history sales entries registered recorded ended refused sum h e₁ e₂ e₃ e₄ e₅ e₆ = rw (e₁, e₂, e₃, e₄, e₅, e₆) (whole_line sales h)
+module _ (sales : ℕ) (h : List Entry) where
+  pub line_of_history : (entries registered recorded ended refused : ℕ) (sum : ℤ) → entries ≡ length h → registered ≡ count_replies is_registered h →
+      recorded ≡ count_replies is_recorded h → ended ≡ count_replies is_ended h → refused ≡ count_replies is_refused h → sum ≡ paid h →
+      line_of sales entries registered recorded ended refused sum ≡ demo_line sales h
+  line_of_history entries registered recorded ended refused sum e₁ e₂ e₃ e₄ e₅ e₆ = rw (e₁, e₂, e₃, e₄, e₅, e₆) (whole_line sales h)

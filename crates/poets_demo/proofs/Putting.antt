@@ -8,9 +8,10 @@ pub three_more : (s₀ s₁ s₂ s₃ a b c : List ℕ) → s₁ ≡ s₀ ++ a �
 three_more s₀ s₁ s₂ s₃ a b c h₁ h₂ h₃ = h₃ ∙ ap (λ s. s ++ c) (h₂ ∙ ap (λ s. s ++ b) h₁) ∙ simp append_assoc
 
 -- five pieces
-pub five_more : (s₀ s₁ s₂ s₃ s₄ s₅ a b c d e : List ℕ) → s₁ ≡ s₀ ++ a → s₂ ≡ s₁ ++ b → s₃ ≡ s₂ ++ c → s₄ ≡ s₃ ++ d → s₅ ≡ s₄ ++ e → s₅ ≡ s₀ ++ (a ++ b ++ c ++ d ++ e)
-five_more s₀ s₁ s₂ s₃ s₄ s₅ a b c d e h₁ h₂ h₃ h₄ h₅ =
-    h₅ ∙ ap (λ s. s ++ e) (h₄ ∙ ap (λ s. s ++ d) (h₃ ∙ ap (λ s. s ++ c) (h₂ ∙ ap (λ s. s ++ b) h₁))) ∙ simp append_assoc
+module _ (s₀ a b c d e : List ℕ) where
+  pub five_more : (s₁ s₂ s₃ s₄ s₅ : List ℕ) → s₁ ≡ s₀ ++ a → s₂ ≡ s₁ ++ b → s₃ ≡ s₂ ++ c → s₄ ≡ s₃ ++ d → s₅ ≡ s₄ ++ e → s₅ ≡ s₀ ++ (a ++ b ++ c ++ d ++ e)
+  five_more s₁ s₂ s₃ s₄ s₅ h₁ h₂ h₃ h₄ h₅ =
+      h₅ ∙ ap (λ s. s ++ e) (h₄ ∙ ap (λ s. s ++ d) (h₃ ∙ ap (λ s. s ++ c) (h₂ ∙ ap (λ s. s ++ b) h₁))) ∙ simp append_assoc
 
 -- the pieces of one number more
 pub range_more : (f : ℕ → List ℕ) (a n : ℕ) → flat_map f (range_with_len a (suc n)) ≡ flat_map f (range_with_len a n) ++ f (a + n)

@@ -8,7 +8,7 @@ use Rattle.poets_disk.specs.Memory.{DiskCall, wrote, failed_write, synced, faile
 use Rattle.poets_disk.specs.MemoryLaws.{held_left}
 use Rattle.poets_disk.specs.declared.memory.Mark.{Mark}
 use Rattle.poets_disk.specs.declared.memory.Mark.TheVariants.{Wrote, FailedWrite, Synced, FailedSync}
-use Rattle.poets_disk.specs.Kept.{calls_of, file_of}
+use Rattle.poets_disk.specs.Kept.{disk_calls, file_of}
 use Rattle.poets_disk.specs.code.Marks.{marked, AreKept, AreSplitAt, HasRoom}
 use Rattle.poets_disk.specs.declared.memory.MemoryDisk.TheInside.{Inside}
 use Rattle.poets_disk.proofs.Recorded.{calls_synced, length_over, torn_same, torn_over}
@@ -47,10 +47,10 @@ drop_both : (a b : ℕ) (xs : List ℕ) → drop b (drop a xs) ≡ drop (a + b) 
 drop_both a b xs = drop-drop b a xs
 
 -- the calls of two runs of marks
-pub calls_append : (marks more : List Mark) (bytes : List ℕ) → calls_of (marks ++ more) bytes ≡ calls_of marks bytes ++ calls_of more (drop (marked marks) bytes)
+pub calls_append : (marks more : List Mark) (bytes : List ℕ) → disk_calls (marks ++ more) bytes ≡ disk_calls marks bytes ++ disk_calls more (drop (marked marks) bytes)
 calls_append [] more bytes = refl
 calls_append (Wrote at n ∷ marks) more bytes =
-    ap (λ l. wrote at (take n bytes) ∷ l) (calls_append marks more (drop n bytes) ∙ ap (λ (l : List ℕ). calls_of marks (drop n bytes) ++ calls_of more l) (drop_both n (marked marks) bytes))
+    ap (λ l. wrote at (take n bytes) ∷ l) (calls_append marks more (drop n bytes) ∙ ap (λ (l : List ℕ). disk_calls marks (drop n bytes) ++ disk_calls more l) (drop_both n (marked marks) bytes))
 calls_append (FailedWrite at n ∷ marks) more bytes = ap (λ l. failed_write at n ∷ l) (calls_append marks more bytes)
 calls_append (Synced ∷ marks) more bytes = ap (λ l. synced ∷ l) (calls_append marks more bytes)
 calls_append (FailedSync ∷ marks) more bytes = ap (λ l. failed_sync ∷ l) (calls_append marks more bytes)
@@ -106,7 +106,7 @@ kept_filled byte held file (synced ∷ calls) same k = kept_filled byte held fil
 kept_filled byte held file (failed_sync ∷ calls) same k = kept_filled byte held file calls same k
 
 -- marks whose bytes are one byte throughout
-pub calls_filled : (byte : ℕ) (marks : List Mark) (bytes : List ℕ) → marked marks ≤ length bytes → calls_of marks (replicate (length bytes) byte) ≡ map (filled byte) (calls_of marks bytes)
+pub calls_filled : (byte : ℕ) (marks : List Mark) (bytes : List ℕ) → marked marks ≤ length bytes → disk_calls marks (replicate (length bytes) byte) ≡ map (filled byte) (disk_calls marks bytes)
 calls_filled byte [] bytes le = refl
 calls_filled byte (Wrote at n ∷ marks) bytes le =
     let long : n ≤ length bytes = omega (arith, le) in
@@ -115,7 +115,7 @@ calls_filled byte (Wrote at n ∷ marks) bytes le =
     let rest : drop n (replicate (length bytes) byte) ≡ replicate (length (drop n bytes)) byte =
     drop-replicate n (length bytes) byte ∙ ap (λ (k : ℕ). replicate k byte) (sym (length-drop n bytes)) in
     let more = calls_filled byte marks (drop n bytes) (omega (arith, le, length-drop n bytes)) in
-    λ i. wrote at (piece i) ∷ (ap (λ (l : List ℕ). calls_of marks l) rest ∙ more) i
+    λ i. wrote at (piece i) ∷ (ap (λ (l : List ℕ). disk_calls marks l) rest ∙ more) i
 calls_filled byte (FailedWrite at n ∷ marks) bytes le = ap (λ l. failed_write at n ∷ l) (calls_filled byte marks bytes le)
 calls_filled byte (Synced ∷ marks) bytes le = ap (λ l. synced ∷ l) (calls_filled byte marks bytes le)
 calls_filled byte (FailedSync ∷ marks) bytes le = ap (λ l. failed_sync ∷ l) (calls_filled byte marks bytes le)
@@ -127,23 +127,23 @@ is_synced synced = Unit {0}
 is_synced failed_sync = ⊥
 
 -- the calls of marks none of which is a sync
-pub none_synced : (marks : List Mark) (bytes : List ℕ) → All (λ mark. mark ≢ Synced) marks → All (λ call. call ≢ synced) (calls_of marks bytes)
+pub none_synced : (marks : List Mark) (bytes : List ℕ) → All (λ mark. mark ≢ Synced) marks → All (λ call. call ≢ synced) (disk_calls marks bytes)
 none_synced [] bytes all = All-nil (λ call. call ≢ synced)
 none_synced (Wrote at n ∷ marks) bytes all =
-    All-cons (λ call. call ≢ synced) (wrote at (take n bytes)) (calls_of marks (drop n bytes)) (λ e. subst is_synced (sym e) tt) (none_synced marks (drop n bytes) (All-tail (λ mark. mark ≢ Synced) (Wrote at n) marks all))
+    All-cons (λ call. call ≢ synced) (wrote at (take n bytes)) (disk_calls marks (drop n bytes)) (λ e. subst is_synced (sym e) tt) (none_synced marks (drop n bytes) (All-tail (λ mark. mark ≢ Synced) (Wrote at n) marks all))
 none_synced (FailedWrite at n ∷ marks) bytes all =
-    All-cons (λ call. call ≢ synced) (failed_write at n) (calls_of marks bytes) (λ e. subst is_synced (sym e) tt) (none_synced marks bytes (All-tail (λ mark. mark ≢ Synced) (FailedWrite at n) marks all))
+    All-cons (λ call. call ≢ synced) (failed_write at n) (disk_calls marks bytes) (λ e. subst is_synced (sym e) tt) (none_synced marks bytes (All-tail (λ mark. mark ≢ Synced) (FailedWrite at n) marks all))
 none_synced (Synced ∷ marks) bytes all = absurd (All-head (λ mark. mark ≢ Synced) Synced marks all refl)
 none_synced (FailedSync ∷ marks) bytes all =
-    All-cons (λ call. call ≢ synced) failed_sync (calls_of marks bytes) (λ e. subst is_synced (sym e) tt) (none_synced marks bytes (All-tail (λ mark. mark ≢ Synced) FailedSync marks all))
+    All-cons (λ call. call ≢ synced) failed_sync (disk_calls marks bytes) (λ e. subst is_synced (sym e) tt) (none_synced marks bytes (All-tail (λ mark. mark ≢ Synced) FailedSync marks all))
 
 -- the marks up to the last sync, as calls
-pub split_calls : (marks : List Mark) (count : ℕ) (bytes : List ℕ) → AreSplitAt count marks → AreSplit (calls_of marks bytes) (calls_of (take count marks) bytes) (calls_of (drop count marks) (drop (marked (take count marks)) bytes))
+pub split_calls : (marks : List Mark) (count : ℕ) (bytes : List ℕ) → AreSplitAt count marks → AreSplit (disk_calls marks bytes) (disk_calls (take count marks) bytes) (disk_calls (drop count marks) (drop (marked (take count marks)) bytes))
 split_calls marks count bytes s = record {
-  whole = ap (λ l. calls_of l bytes) (sym (take-append-drop count marks)) ∙ calls_append (take count marks) (drop count marks) bytes;
+  whole = ap (λ l. disk_calls l bytes) (sym (take-append-drop count marks)) ∙ calls_append (take count marks) (drop count marks) bytes;
   sync = ⊎_elim
-      (λ none. inl (ap (λ n. calls_of (take n marks) bytes) none))
-      (λ some. inr (calls_of some.0 bytes, ap (λ l. calls_of l bytes) some.1 ∙ calls_synced some.0 bytes))
+      (λ none. inl (ap (λ n. disk_calls (take n marks) bytes) none))
+      (λ some. inr (disk_calls some.0 bytes, ap (λ l. disk_calls l bytes) some.1 ∙ calls_synced some.0 bytes))
       s.sync;
   last = none_synced (drop count marks) (drop (marked (take count marks)) bytes) s.last;
 }
@@ -201,60 +201,61 @@ filled_left byte m image kept w =
 
 -- the first of some marks
 first_calls : (marks : List Mark) (i : ℕ) (d : Mark) (bytes : List ℕ) → i < length marks
-    → calls_of (drop i marks) bytes ≡ calls_of (get_or marks i d ∷ []) bytes ++ calls_of (drop (i + 1) marks) (drop (marked (get_or marks i d ∷ [])) bytes)
-first_calls marks i d bytes lt = ap (λ l. calls_of l bytes) (drop_more marks i d lt) ∙ calls_append (get_or marks i d ∷ []) (drop (i + 1) marks) bytes
+    → disk_calls (drop i marks) bytes ≡ disk_calls (get_or marks i d ∷ []) bytes ++ disk_calls (drop (i + 1) marks) (drop (marked (get_or marks i d ∷ [])) bytes)
+first_calls marks i d bytes lt = ap (λ l. disk_calls l bytes) (drop_more marks i d lt) ∙ calls_append (get_or marks i d ∷ []) (drop (i + 1) marks) bytes
 
 first_marked : (marks : List Mark) (i : ℕ) (d : Mark) → i < length marks → marked (drop i marks) ≡ marked (get_or marks i d ∷ []) + marked (drop (i + 1) marks)
 first_marked marks i d lt = ap marked (drop_more marks i d lt) ∙ marked_append (get_or marks i d ∷ []) (drop (i + 1) marks)
 
-pub first_kept : (file : List ℕ) (marks : List Mark) (i : ℕ) (d : Mark) (bytes : List ℕ) → i < length marks → AreKept file (calls_of (drop i marks) bytes) → AreKept file (calls_of (get_or marks i d ∷ []) bytes)
+pub first_kept : (file : List ℕ) (marks : List Mark) (i : ℕ) (d : Mark) (bytes : List ℕ) → i < length marks → AreKept file (disk_calls (drop i marks) bytes) → AreKept file (disk_calls (get_or marks i d ∷ []) bytes)
 first_kept file marks i d bytes lt k =
-    kept_front file (calls_of (get_or marks i d ∷ []) bytes) (calls_of (drop (i + 1) marks) (drop (marked (get_or marks i d ∷ [])) bytes)) (subst (AreKept file) (first_calls marks i d bytes lt) k)
+    kept_front file (disk_calls (get_or marks i d ∷ []) bytes) (disk_calls (drop (i + 1) marks) (drop (marked (get_or marks i d ∷ [])) bytes)) (subst (AreKept file) (first_calls marks i d bytes lt) k)
 
 pub first_enough : (marks : List Mark) (i : ℕ) (d : Mark) (bytes : List ℕ) → i < length marks → marked (drop i marks) ≤ length bytes → marked (get_or marks i d ∷ []) ≤ length bytes
 first_enough marks i d bytes lt le = omega (arith, le, first_marked marks i d lt)
 
 -- one mark more was made good
-pub redone : (file new : List ℕ) (marks : List Mark) (i : ℕ) (d : Mark) (bytes rest : List ℕ) → i < length marks → AreKept file (calls_of (drop i marks) bytes) → marked (drop i marks) ≤ length bytes
-    → new ≡ held_by file (calls_of (get_or marks i d ∷ []) bytes) → rest ≡ drop (marked (get_or marks i d ∷ [])) bytes
-    → (held_by new (calls_of (drop (i + 1) marks) rest) ≡ held_by file (calls_of (drop i marks) bytes)) × AreKept new (calls_of (drop (i + 1) marks) rest) × (marked (drop (i + 1) marks) ≤ length rest)
+pub redone : (file new : List ℕ) (marks : List Mark) (i : ℕ) (d : Mark) (bytes rest : List ℕ) → i < length marks → AreKept file (disk_calls (drop i marks) bytes) → marked (drop i marks) ≤ length bytes
+    → new ≡ held_by file (disk_calls (get_or marks i d ∷ []) bytes) → rest ≡ drop (marked (get_or marks i d ∷ [])) bytes
+    → (held_by new (disk_calls (drop (i + 1) marks) rest) ≡ held_by file (disk_calls (drop i marks) bytes)) × AreKept new (disk_calls (drop (i + 1) marks) rest) × (marked (drop (i + 1) marks) ≤ length rest)
     × (drop (marked (drop (i + 1) marks)) rest ≡ drop (marked (drop i marks)) bytes)
 redone file new marks i d bytes rest lt k le is left =
     let n : ℕ = marked (get_or marks i d ∷ []) in
-    let more = calls_of (drop (i + 1) marks) (drop n bytes) in
-    let one = calls_of (get_or marks i d ∷ []) bytes in
-    let same : calls_of (drop (i + 1) marks) rest ≡ more = ap (λ (l : List ℕ). calls_of (drop (i + 1) marks) l) left in
+    let more = disk_calls (drop (i + 1) marks) (drop n bytes) in
+    let one = disk_calls (get_or marks i d ∷ []) bytes in
+    let same : disk_calls (drop (i + 1) marks) rest ≡ more = ap (λ (l : List ℕ). disk_calls (drop (i + 1) marks) l) left in
     let count = first_marked marks i d lt in (
       (λ j. held_by (is j) (same j)) ∙ sym (held_append file one more) ∙ ap (held_by file) (sym (first_calls marks i d bytes lt)),
-      subst (λ (l : List ℕ). AreKept l (calls_of (drop (i + 1) marks) rest)) (sym is) (subst (AreKept (held_by file one)) (sym same) (kept_rest file one more (subst (AreKept file) (first_calls marks i d bytes lt) k))),
+      subst (λ (l : List ℕ). AreKept l (disk_calls (drop (i + 1) marks) rest)) (sym is) (subst (AreKept (held_by file one)) (sym same) (kept_rest file one more (subst (AreKept file) (first_calls marks i d bytes lt) k))),
       omega (arith, le, count, ap length left, length-drop n bytes),
       ap (λ (l : List ℕ). drop (marked (drop (i + 1) marks)) l) left ∙ drop_both n (marked (drop (i + 1) marks)) bytes ∙ ap (λ (k : ℕ). drop k bytes) (sym count),
     )
 
 -- the first so many marks of those that are kept, by parts that were split off
-two_parts : (marks : List Mark) (bytes : List ℕ) (n : ℕ) → calls_of marks bytes ≡ calls_of (take n marks) bytes ++ calls_of (drop n marks) (drop (marked (take n marks)) bytes)
-two_parts marks bytes n = ap (λ l. calls_of l bytes) (sym (take-append-drop n marks)) ∙ calls_append (take n marks) (drop n marks) bytes
+two_parts : (marks : List Mark) (bytes : List ℕ) (n : ℕ) → disk_calls marks bytes ≡ disk_calls (take n marks) bytes ++ disk_calls (drop n marks) (drop (marked (take n marks)) bytes)
+two_parts marks bytes n = ap (λ l. disk_calls l bytes) (sym (take-append-drop n marks)) ∙ calls_append (take n marks) (drop n marks) bytes
 
 two_marked : (marks : List Mark) (n : ℕ) → marked marks ≡ marked (take n marks) + marked (drop n marks)
 two_marked marks n = ap marked (sym (take-append-drop n marks)) ∙ marked_append (take n marks) (drop n marks)
 
-pub front_kept : (first file : List ℕ) (marks front : List Mark) (bytes : List ℕ) (n : ℕ) → file ≡ first → front ≡ take n marks → AreKept first (calls_of marks bytes) → AreKept file (calls_of front bytes)
+pub front_kept : (first file : List ℕ) (marks front : List Mark) (bytes : List ℕ) (n : ℕ) → file ≡ first → front ≡ take n marks → AreKept first (disk_calls marks bytes) → AreKept file (disk_calls front bytes)
 front_kept first file marks front bytes n is part k =
-    subst (λ (l : List ℕ). AreKept l (calls_of front bytes)) (sym is) (subst (λ l. AreKept first (calls_of l bytes)) (sym part)
-    (kept_front first (calls_of (take n marks) bytes) (calls_of (drop n marks) (drop (marked (take n marks)) bytes)) (subst (AreKept first) (two_parts marks bytes n) k)))
+    subst (λ (l : List ℕ). AreKept l (disk_calls front bytes)) (sym is) (subst (λ l. AreKept first (disk_calls l bytes)) (sym part)
+    (kept_front first (disk_calls (take n marks) bytes) (disk_calls (drop n marks) (drop (marked (take n marks)) bytes)) (subst (AreKept first) (two_parts marks bytes n) k)))
 
 pub front_enough : (marks front : List Mark) (bytes : List ℕ) (n : ℕ) → front ≡ take n marks → marked marks ≤ length bytes → marked front ≤ length bytes
 front_enough marks front bytes n part le = omega (arith, ap marked part, le, two_marked marks n)
 
 -- what was made of the first marks, and the calls of the others
-pub was_synced : (first file new : List ℕ) (marks front : List Mark) (bytes : List ℕ) (n : ℕ) → AreSplitAt n marks → front ≡ take n marks → file ≡ first → new ≡ held_by file (calls_of front bytes)
-    → (image : List ℕ) → image ≡ new → WasSynced first (calls_of marks bytes) image
-was_synced first file new marks front bytes n s part is made image same = record {
-  before = calls_of (take n marks) bytes;
-  after = calls_of (drop n marks) (drop (marked (take n marks)) bytes);
-  split = split_calls marks n bytes s;
-  is = same ∙ made ∙ (λ j. held_by (is j) (calls_of (part j) bytes));
-}
+module _ (marks front : List Mark) (bytes : List ℕ) (n : ℕ) (s : AreSplitAt n marks) (part : front ≡ take n marks) where
+  pub was_synced : (first file new : List ℕ) → file ≡ first → new ≡ held_by file (disk_calls front bytes) → (image : List ℕ) → image ≡ new
+      → WasSynced first (disk_calls marks bytes) image
+  was_synced first file new is made image same = record {
+    before = disk_calls (take n marks) bytes;
+    after = disk_calls (drop n marks) (drop (marked (take n marks)) bytes);
+    split = split_calls marks n bytes s;
+    is = same ∙ made ∙ (λ j. held_by (is j) (disk_calls (part j) bytes));
+  }
 
 module _ (byte : ℕ) (marks front back : List Mark) (bytes rest filling : List ℕ) (n : ℕ) (part : front ≡ take n marks) (other : back ≡ drop n marks) (left : rest ≡ drop (marked front) bytes) (fills : filling ≡ replicate (length rest) byte) (le : marked marks ≤ length bytes) where
   left_is : rest ≡ drop (marked (take n marks)) bytes
@@ -263,27 +264,27 @@ module _ (byte : ℕ) (marks front back : List Mark) (bytes rest filling : List 
   back_long : marked (drop n marks) ≤ length rest
   back_long = omega (arith, le, two_marked marks n, ap length left_is, length-drop (marked (take n marks)) bytes)
 
-  filled_calls : calls_of back filling ≡ map (filled byte) (calls_of (drop n marks) (drop (marked (take n marks)) bytes))
-  filled_calls = (λ j. calls_of (other j) (fills j)) ∙ calls_filled byte (drop n marks) rest back_long ∙ ap (λ (l : List ℕ). map (filled byte) (calls_of (drop n marks) l)) left_is
+  filled_calls : disk_calls back filling ≡ map (filled byte) (disk_calls (drop n marks) (drop (marked (take n marks)) bytes))
+  filled_calls = (λ j. disk_calls (other j) (fills j)) ∙ calls_filled byte (drop n marks) rest back_long ∙ ap (λ (l : List ℕ). map (filled byte) (disk_calls (drop n marks) l)) left_is
 
   pub back_enough : marked back ≤ length filling
   back_enough = omega (arith, ap marked other, ap length fills, length-replicate (length rest) byte, back_long)
 
-  module _ (first file new : List ℕ) (is : file ≡ first) (made : new ≡ held_by file (calls_of front bytes)) where
-    made_is : new ≡ held_by first (calls_of (take n marks) bytes)
-    made_is = made ∙ (λ j. held_by (is j) (calls_of (part j) bytes))
+  module _ (first file new : List ℕ) (is : file ≡ first) (made : new ≡ held_by file (disk_calls front bytes)) where
+    made_is : new ≡ held_by first (disk_calls (take n marks) bytes)
+    made_is = made ∙ (λ j. held_by (is j) (disk_calls (part j) bytes))
 
-    pub back_kept : AreKept first (calls_of marks bytes) → AreKept new (calls_of back filling)
+    pub back_kept : AreKept first (disk_calls marks bytes) → AreKept new (disk_calls back filling)
     back_kept k =
-        let sure = held_by first (calls_of (take n marks) bytes) in
-        let after = calls_of (drop n marks) (drop (marked (take n marks)) bytes) in
+        let sure = held_by first (disk_calls (take n marks) bytes) in
+        let after = disk_calls (drop n marks) (drop (marked (take n marks)) bytes) in
         subst (AreKept new) (sym filled_calls)
-        (kept_filled byte sure new after (ap length made_is) (kept_rest first (calls_of (take n marks) bytes) after (subst (AreKept first) (two_parts marks bytes n) k)))
+        (kept_filled byte sure new after (ap length made_is) (kept_rest first (disk_calls (take n marks) bytes) after (subst (AreKept first) (two_parts marks bytes n) k)))
 
-    pub is_filled : AreSplitAt n marks → (last image : List ℕ) → last ≡ held_by new (calls_of back filling) → image ≡ last → IsFilled byte first (calls_of marks bytes) image
+    pub is_filled : AreSplitAt n marks → (last image : List ℕ) → last ≡ held_by new (disk_calls back filling) → image ≡ last → IsFilled byte first (disk_calls marks bytes) image
     is_filled s last image ends same = record {
-      before = calls_of (take n marks) bytes;
-      after = calls_of (drop n marks) (drop (marked (take n marks)) bytes);
+      before = disk_calls (take n marks) bytes;
+      after = disk_calls (drop n marks) (drop (marked (take n marks)) bytes);
       split = split_calls marks n bytes s;
       is = same ∙ ends ∙ (λ j. held_by (made_is j) (filled_calls j));
     }
@@ -293,16 +294,16 @@ module _ (i : Inside) (m : MemoryFile) (first written : List ℕ) (marks : List 
   first_is : first ≡ m.first
   first_is = f ∙ ap (λ v. v.first) view
 
-  calls_are : calls_of marks written ≡ m.calls
-  calls_are = (λ j. calls_of (k j) (w j)) ∙ ap (λ v. v.calls) view
+  calls_are : disk_calls marks written ≡ m.calls
+  calls_are = (λ j. disk_calls (k j) (w j)) ∙ ap (λ v. v.calls) view
 
-  pub kept_slices : HasRoom i → AreKept first (calls_of marks written)
-  kept_slices r = subst (λ (l : List ℕ). AreKept l (calls_of marks written)) (sym f) (subst (AreKept i.first.items) (sym (λ j. calls_of (k j) (w j))) r.kept)
+  pub kept_slices : HasRoom i → AreKept first (disk_calls marks written)
+  kept_slices r = subst (λ (l : List ℕ). AreKept l (disk_calls marks written)) (sym f) (subst (AreKept i.first.items) (sym (λ j. disk_calls (k j) (w j))) r.kept)
 
-  pub synced_slices : (image : List ℕ) → WasSynced first (calls_of marks written) image → WasSynced m.first m.calls image
+  pub synced_slices : (image : List ℕ) → WasSynced first (disk_calls marks written) image → WasSynced m.first m.calls image
   synced_slices image is = subst (λ (l : List ℕ). WasSynced l m.calls image) first_is (subst (λ cs. WasSynced first cs image) calls_are is)
 
-  pub filled_slices : (byte : ℕ) (image : List ℕ) → IsFilled byte first (calls_of marks written) image → IsFilled byte m.first m.calls image
+  pub filled_slices : (byte : ℕ) (image : List ℕ) → IsFilled byte first (disk_calls marks written) image → IsFilled byte m.first m.calls image
   filled_slices byte image is = subst (λ (l : List ℕ). IsFilled byte l m.calls image) first_is (subst (λ cs. IsFilled byte first cs image) calls_are is)
 
   pub kept_now : HasRoom i → AreKept m.first m.calls

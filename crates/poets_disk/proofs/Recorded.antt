@@ -9,7 +9,7 @@ use Rattle.poets_disk.specs.MemoryLaws.{held_is_left}
 use Rattle.poets_disk.proofs.Moments.{stands, only_now, rests_same}
 use Rattle.poets_disk.specs.declared.memory.Mark.{Mark}
 use Rattle.poets_disk.specs.declared.memory.Mark.TheVariants.{Wrote, FailedWrite, Synced, FailedSync}
-use Rattle.poets_disk.specs.Kept.{calls_of}
+use Rattle.poets_disk.specs.Kept.{disk_calls}
 use Rattle.poets_disk.specs.code.Marks.{marked}
 
 pub held_push : (held : List ℕ) (calls : List DiskCall) (call : DiskCall) → held_by held (calls ++ call ∷ []) ≡ held_after (held_by held calls) call
@@ -126,7 +126,7 @@ failed_rests m faults = record {
 }
 
 -- the calls that are kept, one more
-pub calls_wrote : (marks : List Mark) (bytes : List ℕ) (at : ℕ) (piece : List ℕ) → marked marks ≡ length bytes → calls_of (marks ++ Wrote at (length piece) ∷ []) (bytes ++ piece) ≡ calls_of marks bytes ++ wrote at piece ∷ []
+pub calls_wrote : (marks : List Mark) (bytes : List ℕ) (at : ℕ) (piece : List ℕ) → marked marks ≡ length bytes → disk_calls (marks ++ Wrote at (length piece) ∷ []) (bytes ++ piece) ≡ disk_calls marks bytes ++ wrote at piece ∷ []
 calls_wrote [] bytes at piece all =
     let none : bytes ≡ [] = nil_from_length bytes (sym all) in
     ap (λ (l : List ℕ). wrote at (take (length piece) (l ++ piece)) ∷ []) none ∙ ap (λ (l : List ℕ). wrote at l ∷ []) (take_all (length piece) piece (le_refl (length piece)))
@@ -134,33 +134,33 @@ calls_wrote (Wrote a n ∷ marks) bytes at piece all =
     let more = calls_wrote marks (drop n bytes) at piece (omega (arith, all, length-drop n bytes)) in
     let front : take n (bytes ++ piece) ≡ take n bytes = take-append-le n bytes piece (omega (arith, all)) in
     let rest : drop n (bytes ++ piece) ≡ drop n bytes ++ piece = drop-append-le n bytes piece (omega (arith, all)) in
-    λ i. wrote a (front i) ∷ (ap (λ (l : List ℕ). calls_of (marks ++ Wrote at (length piece) ∷ []) l) rest ∙ more) i
+    λ i. wrote a (front i) ∷ (ap (λ (l : List ℕ). disk_calls (marks ++ Wrote at (length piece) ∷ []) l) rest ∙ more) i
 calls_wrote (FailedWrite a n ∷ marks) bytes at piece all = ap (λ l. failed_write a n ∷ l) (calls_wrote marks bytes at piece all)
 calls_wrote (Synced ∷ marks) bytes at piece all = ap (λ l. synced ∷ l) (calls_wrote marks bytes at piece all)
 calls_wrote (FailedSync ∷ marks) bytes at piece all = ap (λ l. failed_sync ∷ l) (calls_wrote marks bytes at piece all)
 
-pub calls_failed_write : (marks : List Mark) (bytes : List ℕ) (at count : ℕ) → calls_of (marks ++ FailedWrite at count ∷ []) bytes ≡ calls_of marks bytes ++ failed_write at count ∷ []
+pub calls_failed_write : (marks : List Mark) (bytes : List ℕ) (at count : ℕ) → disk_calls (marks ++ FailedWrite at count ∷ []) bytes ≡ disk_calls marks bytes ++ failed_write at count ∷ []
 calls_failed_write [] bytes at count = refl
 calls_failed_write (Wrote a n ∷ marks) bytes at count = ap (λ l. wrote a (take n bytes) ∷ l) (calls_failed_write marks (drop n bytes) at count)
 calls_failed_write (FailedWrite a n ∷ marks) bytes at count = ap (λ l. failed_write a n ∷ l) (calls_failed_write marks bytes at count)
 calls_failed_write (Synced ∷ marks) bytes at count = ap (λ l. synced ∷ l) (calls_failed_write marks bytes at count)
 calls_failed_write (FailedSync ∷ marks) bytes at count = ap (λ l. failed_sync ∷ l) (calls_failed_write marks bytes at count)
 
-pub calls_synced : (marks : List Mark) (bytes : List ℕ) → calls_of (marks ++ Synced ∷ []) bytes ≡ calls_of marks bytes ++ synced ∷ []
+pub calls_synced : (marks : List Mark) (bytes : List ℕ) → disk_calls (marks ++ Synced ∷ []) bytes ≡ disk_calls marks bytes ++ synced ∷ []
 calls_synced [] bytes = refl
 calls_synced (Wrote a n ∷ marks) bytes = ap (λ l. wrote a (take n bytes) ∷ l) (calls_synced marks (drop n bytes))
 calls_synced (FailedWrite a n ∷ marks) bytes = ap (λ l. failed_write a n ∷ l) (calls_synced marks bytes)
 calls_synced (Synced ∷ marks) bytes = ap (λ l. synced ∷ l) (calls_synced marks bytes)
 calls_synced (FailedSync ∷ marks) bytes = ap (λ l. failed_sync ∷ l) (calls_synced marks bytes)
 
-pub calls_failed_sync : (marks : List Mark) (bytes : List ℕ) → calls_of (marks ++ FailedSync ∷ []) bytes ≡ calls_of marks bytes ++ failed_sync ∷ []
+pub calls_failed_sync : (marks : List Mark) (bytes : List ℕ) → disk_calls (marks ++ FailedSync ∷ []) bytes ≡ disk_calls marks bytes ++ failed_sync ∷ []
 calls_failed_sync [] bytes = refl
 calls_failed_sync (Wrote a n ∷ marks) bytes = ap (λ l. wrote a (take n bytes) ∷ l) (calls_failed_sync marks (drop n bytes))
 calls_failed_sync (FailedWrite a n ∷ marks) bytes = ap (λ l. failed_write a n ∷ l) (calls_failed_sync marks bytes)
 calls_failed_sync (Synced ∷ marks) bytes = ap (λ l. synced ∷ l) (calls_failed_sync marks bytes)
 calls_failed_sync (FailedSync ∷ marks) bytes = ap (λ l. failed_sync ∷ l) (calls_failed_sync marks bytes)
 
-pub length_calls : (marks : List Mark) (bytes : List ℕ) → length (calls_of marks bytes) ≡ length marks
+pub length_calls : (marks : List Mark) (bytes : List ℕ) → length (disk_calls marks bytes) ≡ length marks
 length_calls [] bytes = refl
 length_calls (Wrote a n ∷ marks) bytes = ap suc (length_calls marks (drop n bytes))
 length_calls (FailedWrite a n ∷ marks) bytes = ap suc (length_calls marks bytes)
@@ -205,13 +205,13 @@ refused_held m call same = by (nat_lt (length m.calls) most_calls)
 
 -- the marks stand for the calls that are kept
 pub calls_refused : (n : ℕ) (marks new : List Mark) (bytes : List ℕ) (mark : Mark) (call : DiskCall) → n ≡ length marks → (n < most_calls → new ≡ marks ++ mark ∷ []) → (most_calls ≤ n → new ≡ marks)
-    → calls_of (marks ++ mark ∷ []) bytes ≡ calls_of marks bytes ++ call ∷ [] → calls_of new bytes ≡ kept_with (calls_of marks bytes) call
+    → disk_calls (marks ++ mark ∷ []) bytes ≡ disk_calls marks bytes ++ call ∷ [] → disk_calls new bytes ≡ kept_with (disk_calls marks bytes) call
 calls_refused n marks new bytes mark call same noted full is = ⊎_elim
-    (λ lt. ap (λ l. calls_of l bytes) (noted lt) ∙ is ∙ sym (ap (λ b. if b then calls_of marks bytes ++ call ∷ [] else calls_of marks bytes) (lt-ltb (length (calls_of marks bytes)) most_calls (omega (arith, lt, same, length_calls marks bytes)))))
-    (λ le. ap (λ l. calls_of l bytes) (full le) ∙ sym (ap (λ b. if b then calls_of marks bytes ++ call ∷ [] else calls_of marks bytes) (le-ltb (length (calls_of marks bytes)) most_calls (omega (arith, le, same, length_calls marks bytes)))))
+    (λ lt. ap (λ l. disk_calls l bytes) (noted lt) ∙ is ∙ sym (ap (λ b. if b then disk_calls marks bytes ++ call ∷ [] else disk_calls marks bytes) (lt-ltb (length (disk_calls marks bytes)) most_calls (omega (arith, lt, same, length_calls marks bytes)))))
+    (λ le. ap (λ l. disk_calls l bytes) (full le) ∙ sym (ap (λ b. if b then disk_calls marks bytes ++ call ∷ [] else disk_calls marks bytes) (le-ltb (length (disk_calls marks bytes)) most_calls (omega (arith, le, same, length_calls marks bytes)))))
     (cases_lt n most_calls)
 
-pub written_marked : (marks : List Mark) (bytes : List ℕ) → marked marks ≤ length bytes → written_by (calls_of marks bytes) ≡ marked marks
+pub written_marked : (marks : List Mark) (bytes : List ℕ) → marked marks ≤ length bytes → written_by (disk_calls marks bytes) ≡ marked marks
 written_marked [] bytes le = refl
 written_marked (Wrote at n ∷ marks) bytes le =
     omega (arith, length-take-le n bytes (omega (arith, le)), written_marked marks (drop n bytes) (omega (arith, le, length-drop n bytes)))

@@ -8,7 +8,7 @@ use Rattle.poets_disk.specs.Memory.{DiskCall, wrote, failed_write, synced, faile
 use Rattle.poets_disk.specs.declared.memory.Mark.{Mark}
 use Rattle.poets_disk.specs.declared.memory.Mark.TheVariants.{Wrote, FailedWrite, Synced, FailedSync}
 use Rattle.poets_disk.specs.declared.memory.MemoryDisk.TheInside.{Inside}
-use Rattle.poets_disk.specs.Kept.{calls_of}
+use Rattle.poets_disk.specs.Kept.{disk_calls}
 use Rattle.poets_disk.specs.code.Marks.{marked, AreKept, HasRoom}
 use Rattle.poets_disk.proofs.Recorded.{held_push, calls_wrote, marked_push, length_over}
 
@@ -27,13 +27,13 @@ kept_end held (synced ∷ calls) a = kept_end held calls a
 kept_end held (failed_sync ∷ calls) a = kept_end held calls a
 
 -- a call that is no successful write is kept
-pub room_other : (i : Inside) (m : Vec Mark Global) (f : ℕ) (call : DiskCall) → HasRoom i → calls_of m.items i.written.items ≡ calls_of i.marks.items i.written.items ++ call ∷ []
-    → held_after (held_by i.first.items (calls_of i.marks.items i.written.items)) call ≡ held_by i.first.items (calls_of i.marks.items i.written.items)
-    → (length (held_by i.first.items (calls_of i.marks.items i.written.items)) ≤ longest_text → AreKept (held_by i.first.items (calls_of i.marks.items i.written.items)) (call ∷ []))
+pub room_other : (i : Inside) (m : Vec Mark Global) (f : ℕ) (call : DiskCall) → HasRoom i → disk_calls m.items i.written.items ≡ disk_calls i.marks.items i.written.items ++ call ∷ []
+    → held_after (held_by i.first.items (disk_calls i.marks.items i.written.items)) call ≡ held_by i.first.items (disk_calls i.marks.items i.written.items)
+    → (length (held_by i.first.items (disk_calls i.marks.items i.written.items)) ≤ longest_text → AreKept (held_by i.first.items (disk_calls i.marks.items i.written.items)) (call ∷ []))
     → marked m.items ≡ marked i.marks.items → vec_len m ≤ most_calls → most_calls ≤ vec_capacity m → HasRoom (record i { marks = m; faults = f })
 room_other i m f call h calls same one bytes few room =
     let first = i.first.items in
-    let before = calls_of i.marks.items i.written.items in
+    let before = disk_calls i.marks.items i.written.items in
     record {
       kept = subst (AreKept first) (sym calls) (kept_push first before call h.kept (one (kept_end first before h.kept)));
       held = h.held ∙ sym same ∙ sym (held_push first before call) ∙ ap (held_by first) (sym calls);
@@ -49,8 +49,8 @@ room_other i m f call h calls same one bytes few room =
 -- a call for which there was no room is not kept
 pub room_full : (i : Inside) (m : Vec Mark Global) (f : ℕ) → HasRoom i → m.items ≡ i.marks.items → vec_len m ≤ most_calls → most_calls ≤ vec_capacity m → HasRoom (record i { marks = m; faults = f })
 room_full i m f h is few room = record {
-  kept = subst (λ l. AreKept i.first.items (calls_of l i.written.items)) (sym is) h.kept;
-  held = h.held ∙ ap (λ l. held_by i.first.items (calls_of l i.written.items)) (sym is);
+  kept = subst (λ l. AreKept i.first.items (disk_calls l i.written.items)) (sym is) h.kept;
+  held = h.held ∙ ap (λ l. held_by i.first.items (disk_calls l i.written.items)) (sym is);
   pieces = ap marked is ∙ h.pieces;
   held_short = h.held_short;
   held_room = h.held_room;
@@ -82,32 +82,33 @@ marked_failed_write (Synced ∷ marks) at count = marked_failed_write marks at c
 marked_failed_write (FailedSync ∷ marks) at count = marked_failed_write marks at count
 
 -- the calls with one that was written
-pub wrote_calls : (i : Inside) (w : Vec ℕ Global) (m : Vec Mark Global) (at : ℕ) (piece : List ℕ) → HasRoom i → vec_len i.written ≡ length i.written.items → m.items ≡ i.marks.items ++ Wrote at (length piece) ∷ [] → w.items ≡ i.written.items ++ piece
-    → calls_of m.items w.items ≡ calls_of i.marks.items i.written.items ++ wrote at piece ∷ []
-wrote_calls i w m at piece r i_long m_is w_is = (λ k. calls_of (m_is k) (w_is k)) ∙ calls_wrote i.marks.items i.written.items at piece (r.pieces ∙ i_long)
+module _ (i : Inside) (r : HasRoom i) (i_long : vec_len i.written ≡ length i.written.items) (w : Vec ℕ Global) (m : Vec Mark Global) (at : ℕ) (piece : List ℕ)
+    (m_is : m.items ≡ i.marks.items ++ Wrote at (length piece) ∷ []) (w_is : w.items ≡ i.written.items ++ piece) where
+  pub wrote_calls : disk_calls m.items w.items ≡ disk_calls i.marks.items i.written.items ++ wrote at piece ∷ []
+  wrote_calls = (λ k. disk_calls (m_is k) (w_is k)) ∙ calls_wrote i.marks.items i.written.items at piece (r.pieces ∙ i_long)
 
--- a successful write is kept
-pub room_wrote : (i : Inside) (h w : Vec ℕ Global) (m : Vec Mark Global) (at : ℕ) (piece : List ℕ) → HasRoom i → at ≤ length (held_by i.first.items (calls_of i.marks.items i.written.items)) → at + length piece ≤ longest_text
-    → vec_len i.written + length piece ≤ longest_text → m.items ≡ i.marks.items ++ Wrote at (length piece) ∷ [] → w.items ≡ i.written.items ++ piece → h.items ≡ over at piece i.held.items
-    → vec_len h ≡ length h.items → vec_len w ≡ length w.items → vec_len i.written ≡ length i.written.items → longest_text ≤ vec_capacity h → longest_text ≤ vec_capacity w → vec_len m ≤ most_calls → most_calls ≤ vec_capacity m
-    → HasRoom (record i { held = h; written = w; marks = m })
-room_wrote i h w m at piece r le fits short m_is w_is h_is h_long w_long i_long h_room w_room few room =
-    let first = i.first.items in
-    let before = calls_of i.marks.items i.written.items in
-    let long : length (over at piece (held_by first before)) ≡ max (length (held_by first before)) (at + length piece) = length_over at piece (held_by first before) le in
-    let calls : calls_of m.items w.items ≡ before ++ wrote at piece ∷ [] = wrote_calls i w m at piece r i_long m_is w_is in
-    let held_is : h.items ≡ over at piece (held_by first before) = h_is ∙ ap (over at piece) r.held in
-    record {
-      kept = subst (AreKept first) (sym calls) (kept_push first before (wrote at piece) r.kept (le, fits, omega (arith, long, fits, kept_end first before r.kept)));
-      held = held_is ∙ sym (held_push first before (wrote at piece)) ∙ ap (held_by first) (sym calls);
-      pieces = omega (arith, ap marked m_is, marked_push i.marks.items at (length piece), r.pieces, w_long, ap length w_is, length-append i.written.items piece, i_long);
-      held_short = omega (arith, h_long, ap length held_is, long, fits, kept_end first before r.kept);
-      held_room = h_room;
-      written_short = omega (arith, w_long, ap length w_is, length-append i.written.items piece, i_long, short);
-      written_room = w_room;
-      few = few;
-      marks_room = room;
-    }
+  -- a successful write is kept
+  pub room_wrote : (h : Vec ℕ Global) → at ≤ length (held_by i.first.items (disk_calls i.marks.items i.written.items)) → at + length piece ≤ longest_text
+      → vec_len i.written + length piece ≤ longest_text → h.items ≡ over at piece i.held.items → vec_len h ≡ length h.items → vec_len w ≡ length w.items
+      → longest_text ≤ vec_capacity h → longest_text ≤ vec_capacity w → vec_len m ≤ most_calls → most_calls ≤ vec_capacity m
+      → HasRoom (record i { held = h; written = w; marks = m })
+  room_wrote h le fits short h_is h_long w_long h_room w_room few room =
+      let first = i.first.items in
+      let before = disk_calls i.marks.items i.written.items in
+      let long : length (over at piece (held_by first before)) ≡ max (length (held_by first before)) (at + length piece) = length_over at piece (held_by first before) le in
+      let calls : disk_calls m.items w.items ≡ before ++ wrote at piece ∷ [] = wrote_calls in
+      let held_is : h.items ≡ over at piece (held_by first before) = h_is ∙ ap (over at piece) r.held in
+      record {
+        kept = subst (AreKept first) (sym calls) (kept_push first before (wrote at piece) r.kept (le, fits, omega (arith, long, fits, kept_end first before r.kept)));
+        held = held_is ∙ sym (held_push first before (wrote at piece)) ∙ ap (held_by first) (sym calls);
+        pieces = omega (arith, ap marked m_is, marked_push i.marks.items at (length piece), r.pieces, w_long, ap length w_is, length-append i.written.items piece, i_long);
+        held_short = omega (arith, h_long, ap length held_is, long, fits, kept_end first before r.kept);
+        held_room = h_room;
+        written_short = omega (arith, w_long, ap length w_is, length-append i.written.items piece, i_long, short);
+        written_room = w_room;
+        few = few;
+        marks_room = room;
+      }
 
 -- what holds of a call that does not fail
 pub accepted_call : (m : MemoryFile) → ¬ (NextFails m) → length m.calls < most_calls

@@ -2,7 +2,7 @@
 ghost use Rattle.std.specs.Prelude.{◌≡◌, ◌≤◌, [], ◌∷◌, length, drop, IfOk, replicate, vec_capacity};
 ghost use Rattle.poets_value.specs.Limits.{longest_text};
 ghost use Rattle.poets_disk.specs.Memory.{held_by, WasSynced, IsFilled};
-ghost use Rattle.poets_disk.specs.Kept.{calls_of};
+ghost use Rattle.poets_disk.specs.Kept.{disk_calls};
 ghost use Rattle.poets_disk.specs.code.Marks.{AreKept, AreSplitAt, marked};
 
 use crate::memory::{Mark, overwrite};
@@ -17,9 +17,9 @@ pub(crate) fn synced_image(
     marks: &[Mark],
     written: &[u8],
 ) -> Result<List<u8>, Memory>
-    requires kept { AreKept first.now (calls_of marks.now written.now) }
+    requires kept { AreKept first.now (disk_calls marks.now written.now) }
     requires enough { marked marks.now ≤ length written.now }
-    ensures { IfOk result (λ image. WasSynced first.now (calls_of marks.now written.now) image.items) }
+    ensures { IfOk result (λ image. WasSynced first.now (disk_calls marks.now written.now) image.items) }
 {
     let (before, _) = marks.split_at(synced(marks));
     let mut file = with_room(alloc, first)?;
@@ -36,9 +36,9 @@ pub(crate) fn filled_image(
     marks: &[Mark],
     written: &[u8],
 ) -> Result<List<u8>, Memory>
-    requires kept { AreKept first.now (calls_of marks.now written.now) }
+    requires kept { AreKept first.now (disk_calls marks.now written.now) }
     requires enough { marked marks.now ≤ length written.now }
-    ensures { IfOk result (λ image. IsFilled byte first.now (calls_of marks.now written.now) image.items) }
+    ensures { IfOk result (λ image. IsFilled byte first.now (disk_calls marks.now written.now) image.items) }
 {
     let (before, after) = marks.split_at(synced(marks));
     let mut file = with_room(alloc, first)?;
@@ -64,10 +64,10 @@ fn synced(marks: &[Mark]) -> usize
 
 // Makes the writes that the marks stand for, with these bytes, and gives the bytes that are left.
 fn replay<'a>(file: &mut Vec<u8>, marks: &[Mark], written: &'a [u8]) -> &'a [u8]
-    requires kept { AreKept file.old.items (calls_of marks.now written.now) }
+    requires kept { AreKept file.old.items (disk_calls marks.now written.now) }
     requires enough { marked marks.now ≤ length written.now }
     requires room { longest_text ≤ vec_capacity file.old }
-    ensures file { file.new.items ≡ held_by file.old.items (calls_of marks.now written.now) }
+    ensures file { file.new.items ≡ held_by file.old.items (disk_calls marks.now written.now) }
     ensures room { longest_text ≤ vec_capacity file.new }
     ensures left { result.now ≡ drop (marked marks.now) written.now }
 {
@@ -80,10 +80,10 @@ fn replay<'a>(file: &mut Vec<u8>, marks: &[Mark], written: &'a [u8]) -> &'a [u8]
 
 // Makes the write that the mark stands for, if it does, with the first bytes, and gives the bytes that are left.
 fn redo<'a>(file: &mut Vec<u8>, mark: Mark, written: &'a [u8]) -> &'a [u8]
-    requires kept { AreKept file.old.items (calls_of (mark ∷ []) written.now) }
+    requires kept { AreKept file.old.items (disk_calls (mark ∷ []) written.now) }
     requires enough { marked (mark ∷ []) ≤ length written.now }
     requires room { longest_text ≤ vec_capacity file.old }
-    ensures file { file.new.items ≡ held_by file.old.items (calls_of (mark ∷ []) written.now) }
+    ensures file { file.new.items ≡ held_by file.old.items (disk_calls (mark ∷ []) written.now) }
     ensures room { longest_text ≤ vec_capacity file.new }
     ensures left { result.now ≡ drop (marked (mark ∷ [])) written.now }
 {

@@ -22,7 +22,7 @@ use Rattle.poets_history.specs.Frame.{frame_of}
 use Rattle.poets_history.specs.Histories.{IsLegal}
 use Rattle.poets_history.proofs.Histories.{one_history}
 use Rattle.poets_engine.specs.Accounts.{Accounts}
-use Rattle.poets_engine.specs.Rows.{Stands}
+use Rattle.poets_engine.specs.Rows.{IsStoreOf}
 use Rattle.poets_engine.specs.Store.{StoreView}
 use Rattle.poets_engine.specs.code.Accounted.{AccountsInStore, IsAccountOfRow}
 use Rattle.poets_engine.specs.code.Withdrawals.{IsKeptStore}
@@ -71,7 +71,7 @@ module _ (rules : Rules) (x : Name) (store : StoreView) where
       }
 
 -- so it is after each legal history of the calls
-pub accounted_after : (rules : Rules) (calls : List Call) (store : StoreView) (x : Name) (found : Option Account) → Stands rules calls store →
+pub accounted_after : (rules : Rules) (calls : List Call) (store : StoreView) (x : Name) (found : Option Account) → IsStoreOf rules calls store →
     AccountsInStore rules store x found → (h : List Entry) → IsLegal (book_of_rules rules) (reports_of_rules rules) h → calls_of h ≡ calls →
     Accounts rules.studied (ledger_of h) x found
 accounted_after rules calls store x found stands is h legal same =

@@ -31,7 +31,7 @@ use Rattle.poets_history.specs.Ledger.{Ledger, ledger_of, contract_named, number
 use Rattle.poets_history.specs.Replies.{argument_values, AreFolioRows, Replies}
 use Rattle.poets_engine.specs.Store.{StoreView}
 use Rattle.poets_engine.specs.code.Parts.{absent_or_later, absent_from, IsPart}
-use Rattle.poets_engine.specs.Rows.{IsLedger, Stands}
+use Rattle.poets_engine.specs.Rows.{IsLedger, IsStoreOf}
 use Rattle.poets_engine.specs.Accepted.{has_changed}
 use Rattle.poets_engine.specs.code.Makes.{Makes, Prepares, MakesBody}
 use Rattle.poets_engine.specs.State.{Fulfils}
@@ -174,7 +174,7 @@ module _ (rules : Rules) (command : Command) (old new : StoreView) where
   body_refused (Folio work) m refusal = m.0
 
   -- and the body owes it
-  pub body_owes : (calls : List Call) (body : Body) → Stands rules calls old → MakesBody rules command old new body →
+  pub body_owes : (calls : List Call) (body : Body) → IsStoreOf rules calls old → MakesBody rules command old new body →
       OwesReply (book_of_rules rules) (reports_of_rules rules) calls command body
   body_owes calls (Done reply) h m = answered rules calls command (reply_of reply) old new h m
   body_owes calls (Folio work) h m = record {

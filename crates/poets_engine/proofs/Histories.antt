@@ -21,12 +21,12 @@ use Rattle.poets_history.specs.Replies.{Legal}
 use Rattle.poets_history.proofs.Histories.{ledger_last, calls_last}
 use Rattle.poets_engine.specs.Store.{StoreView}
 use Rattle.poets_engine.specs.State.{commands_of, plain_calls}
-use Rattle.poets_engine.specs.Rows.{IsLedger, RowsAre, WatchIs, Stands}
+use Rattle.poets_engine.specs.Rows.{IsLedger, RowsAre, WatchIs, IsStoreOf}
 use Rattle.poets_engine.specs.code.Makes.{Makes}
 
 -- nothing kept is the empty ledger
 pub empty_stands : (rules : Rules) (calls : List Call) (store : StoreView) → IsStudiedBook (book_of_rules rules) rules.studied.marks → IsWholeBook (book_of_rules rules) →
-    calls ≡ [] → store.rows ≡ [] → store.log ≡ [] → store.watches ≡ [] → Stands rules calls store
+    calls ≡ [] → store.rows ≡ [] → store.log ≡ [] → store.watches ≡ [] → IsStoreOf rules calls store
 empty_stands rules calls store studied whole c r l w = record {
   history = [];
   legal = Legal.Empty;
@@ -44,12 +44,12 @@ empty_stands rules calls store studied whole c r l w = record {
 }
 
 module _ (rules : Rules) (calls : List Call) (command : plain.Command) (given_reply : Reply) (old new : StoreView)
-    (h : Stands rules calls old) (makes : Makes rules command old new given_reply) where
+    (h : IsStoreOf rules calls old) (makes : Makes rules command old new given_reply) where
   reply : RepliesIn (book_of_rules rules) (reports_of_rules rules) (ledger_of h.history) command given_reply
   reply = makes.reply (ledger_of h.history) h.ledger
 
   -- with one more entry what is kept is the ledger of a legal history again
-  pub stands_more : (clerk : ℕ) → Stands rules (calls ++ (clerk, command) ∷ []) new
+  pub stands_more : (clerk : ℕ) → IsStoreOf rules (calls ++ (clerk, command) ∷ []) new
   stands_more clerk =
       let e : Entry = record { clerk = clerk; command = command; reply = given_reply } in
       record {

@@ -99,26 +99,27 @@ rows_added s l x c i (q ∷ rows) r h k = (
 )
 
 -- the new row of a contract
-pub new_row_is : (s : StudiedBook) (l : Ledger) (x : Name) (c : Contract) (n : ℕ) (original : Term) (current : List Node) →
-    All (λ p. p.0 ≤ n) l.log → All (λ m. m ≤ n) l.ends → IsWellFormed (book_in s).declared (contract_of original) → CountsFit (book_in s) (contract_of original) →
-    contract_of_rows current ≡ normal (book_in s) (marks_of s) (contract_of original) → Hopeful (book_in s) (contract_of_rows current) →
-    is_past_limit_in s (contract_of_rows current) ≡ false → IsWholeContract (contract_of original) → RowIs s (with_contract l x c) (1 + n) (new_row x original current)
-new_row_is s l x c n original current logged ended formed fit e hopeful within_limit whole = record {
-  events = sym (ap (map (λ p. p.1)) (numbered-past n (1 + n) l.log logged (omega arith)));
-  ended = sym (ended-past n (1 + n) l.ends ended (omega arith));
-  formed = formed;
-  fit = fit;
-  declared = All-nil (IsDeclaredEvent (book_in s).declared);
-  days = tt;
-  current = e;
-  hopeful = hopeful;
-  within_limit = λ n. subst (λ c. is_past_limit_in s c ≡ false) (e ∙ ap (owed_after s (new_row x original current)) (sym (take_all n [] (omega arith)))) within_limit;
-  starts = new-starts x original current;
-  points = (e, tt);
-  whole_original = whole;
-  whole_events = All-nil IsWholeEvent;
-  whole_current = subst IsWholeContract (sym e) (IsWhole-normal (book_in s) (marks_of s) (contract_of original) whole);
-}
+module _ (s : StudiedBook) (l : Ledger) (x : Name) (c : Contract) where
+  pub new_row_is : (n : ℕ) (original : Term) (current : List Node) →
+      All (λ p. p.0 ≤ n) l.log → All (λ m. m ≤ n) l.ends → IsWellFormed (book_in s).declared (contract_of original) → CountsFit (book_in s) (contract_of original) →
+      contract_of_rows current ≡ normal (book_in s) (marks_of s) (contract_of original) → Hopeful (book_in s) (contract_of_rows current) →
+      is_past_limit_in s (contract_of_rows current) ≡ false → IsWholeContract (contract_of original) → RowIs s (with_contract l x c) (1 + n) (new_row x original current)
+  new_row_is n original current logged ended formed fit e hopeful within_limit whole = record {
+    events = sym (ap (map (λ p. p.1)) (numbered-past n (1 + n) l.log logged (omega arith)));
+    ended = sym (ended-past n (1 + n) l.ends ended (omega arith));
+    formed = formed;
+    fit = fit;
+    declared = All-nil (IsDeclaredEvent (book_in s).declared);
+    days = tt;
+    current = e;
+    hopeful = hopeful;
+    within_limit = λ n. subst (λ c. is_past_limit_in s c ≡ false) (e ∙ ap (owed_after s (new_row x original current)) (sym (take_all n [] (omega arith)))) within_limit;
+    starts = new-starts x original current;
+    points = (e, tt);
+    whole_original = whole;
+    whole_events = All-nil IsWholeEvent;
+    whole_current = subst IsWholeContract (sym e) (IsWhole-normal (book_in s) (marks_of s) (contract_of original) whole);
+  }
 
 -- one more event of a contract
 abbrev pub with_log : Ledger → ℕ → Event → Ledger

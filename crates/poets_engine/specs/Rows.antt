@@ -87,7 +87,7 @@ pub record IsLedger (rules : Rules) (l : Ledger) (store : StoreView) : Type 0 wh
   pub ended : All (λ n. n ≤ length store.rows) l.ends
 
 -- what is kept is the ledger of a legal history with these calls
-pub record Stands (rules : Rules) (calls : List Call) (store : StoreView) : Type 0 where
+pub record IsStoreOf (rules : Rules) (calls : List Call) (store : StoreView) : Type 0 where
   pub history : List Entry
   pub legal : IsLegal (book_of_rules rules) (reports_of_rules rules) history
   pub same : calls_of history ≡ calls

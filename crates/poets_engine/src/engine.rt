@@ -53,7 +53,7 @@ impl Model for Engine {
         (codes, t.the_row.coded, b.the_row.coded, c.the_row.coded, r.the_row.coded, x.the_row.coded) };
 
     ghost use Rattle.poets_engine.specs.State.{commands_of, plain_calls};
-    ghost use Rattle.poets_engine.specs.Rows.{Stands};
+    ghost use Rattle.poets_engine.specs.Rows.{IsStoreOf};
     ghost use Rattle.poets_engine.specs.Copies.{AreCopies};
 
     ghost view = { λ e. record {
@@ -62,7 +62,7 @@ impl Model for Engine {
       store = e.store;
     } };
 
-    ghost invariant = { λ e. Stands e.rules (plain_calls (commands_of e.history.items)) e.store
+    ghost invariant = { λ e. IsStoreOf e.rules (plain_calls (commands_of e.history.items)) e.store
         × AreCopies e.rules e.copies };
 }
 

@@ -1,6 +1,5 @@
 -- What is an expression is read.
-use Rattle.std.proofs.Common.{◌≡◌, ℕ, zero, suc, ◌<◌, ◌≤◌, false, List, [], ◌∷◌, length, Some, None, refl, sym, ap, ◌∙◌, arith}
-use Rattle.std.specs.Prelude.{IfSome}
+use Rattle.std.proofs.Common.{◌≡◌, ℕ, zero, suc, ◌<◌, ◌≤◌, false, List, [], ◌∷◌, length, Some, Ok, Err, refl, sym, ap, ◌∙◌, arith}
 use Rattle.poets_expr.specs.declared.expr.Op.{Op}
 use Rattle.poets_expr.specs.Expression.{Minus, Expression, Binary}
 use Rattle.poets_lex.specs.declared.token.Word.TheVariants as W
@@ -9,54 +8,25 @@ use Rattle.poets_lex.specs.declared.token.Tok.{Tok}
 use Rattle.poets_lex.specs.declared.token.Tok.TheVariants as K
 use Rattle.poets_grammar.specs.Tokens.{infix_operator}
 use Rattle.poets_grammar.specs.Expressions.{Rule, Disjunction, Conjunction, Negation, Comparison, Sum, Product, Prefixed, Primary, begins_number, ReadsExpression, IsExpression}
-use Rattle.poets_grammar.specs.Reading.{Reading, Reader, operator, joined, closed, applied, made, conditional, amount, credit, debt, resource, undefined_of, literal, primary, under, negative, prefixed, product, sum, comparison, negation, conjunction, disjunction, expression_at, expression, whole_expression}
-use Rattle.poets_grammar.proofs.Steps.{steps, at_some, ended}
+use Rattle.poets_grammar.specs.Reading.{Reader, operator, joined, closed, applied, made, conditional, amount, credit, debt, resource, undefined_of, literal, primary, under, negative, prefixed, product, sum, comparison, negation, conjunction, disjunction, expression, whole_expression}
 use Rattle.poets_grammar.proofs.Levels.{tight, tight_is, an_operator, no_operator}
 use Rattle.poets_grammar.proofs.Joined.{Goes, begins, goes_on, ends}
-use Rattle.poets_grammar.proofs.Sound.{IsFront, Sound, disjunction_sound}
-
-pub shorter : {L : Rule} {ts rest : List Tok} {e : Expression} → ReadsExpression L ts e rest → length rest < length ts
-shorter (ReadsExpression.OneConjunction r) = shorter r
-shorter (ReadsExpression.MoreConjunctions j r q) = omega (arith, shorter r, shorter q)
-shorter (ReadsExpression.OneNegation r) = shorter r
-shorter (ReadsExpression.MoreNegations j r q) = omega (arith, shorter r, shorter q)
-shorter (ReadsExpression.Not r) = omega (arith, shorter r)
-shorter (ReadsExpression.OneComparison r) = shorter r
-shorter (ReadsExpression.OneSum r) = shorter r
-shorter (ReadsExpression.TwoSums j r q) = omega (arith, shorter r, shorter q)
-shorter (ReadsExpression.OneProduct r) = shorter r
-shorter (ReadsExpression.MoreProducts j r q) = omega (arith, shorter r, shorter q)
-shorter (ReadsExpression.OnePrefixed r) = shorter r
-shorter (ReadsExpression.MorePrefixed j r q) = omega (arith, shorter r, shorter q)
-shorter ReadsExpression.NegativeNumber = omega arith
-shorter (ReadsExpression.Minus e r) = omega (arith, shorter r)
-shorter (ReadsExpression.OnePrimary r) = shorter r
-shorter ReadsExpression.Number = omega arith
-shorter ReadsExpression.ADay = omega arith
-shorter ReadsExpression.True = omega arith
-shorter ReadsExpression.False = omega arith
-shorter ReadsExpression.AName = omega arith
-shorter (ReadsExpression.Undefined j) = omega arith
-shorter ReadsExpression.Resource = omega arith
-shorter ReadsExpression.NegativeResource = omega arith
-shorter (ReadsExpression.AmountOf r) = omega (arith, shorter r)
-shorter (ReadsExpression.KindOf r) = omega (arith, shorter r)
-shorter (ReadsExpression.Make r q) = omega (arith, shorter r, shorter q)
-shorter (ReadsExpression.If r q p) = omega (arith, shorter r, shorter q, shorter p)
-shorter (ReadsExpression.Brackets r) = omega (arith, shorter r)
+use Rattle.poets_grammar.proofs.Readers.{Fuel, no_fuel, wholes, IsReader, followed, is_whole}
+use Rattle.poets_grammar.proofs.TokenReaders.{ended}
+use Rattle.poets_grammar.proofs.ExpressionReaders.{shorter, expression_reader, expression_again}
 
 -- ---- the first token
 
 -- what begins with `not` is no comparison
-negation_else : (f : Reader) (ts : List Tok) (p : Expression × List Tok) → comparison f ts ≡ Some p → negation f ts ≡ Some p
+negation_else : (f : Reader) (ts : List Tok) (p : Expression × List Tok) → comparison f ts ≡ Ok p → negation f ts ≡ Ok p
 unfolding negation comparison sum product prefixed joined primary
 negation_else f (K.Word W.Not ∷ ts) p e =
-    let none : comparison f (K.Word W.Not ∷ ts) ≡ None = refl in
+    let none : comparison f (K.Word W.Not ∷ ts) ≡ Err (suc (length ts)) = refl in
     absurd cc
 negation_else f ts p e = e
 
 -- what begins with `-` is no primary
-prefixed_else : (f : Reader) (ts : List Tok) (p : Expression × List Tok) → primary f ts ≡ Some p → prefixed f ts ≡ Some p
+prefixed_else : (f : Reader) (ts : List Tok) (p : Expression × List Tok) → primary f ts ≡ Ok p → prefixed f ts ≡ Ok p
 unfolding prefixed primary
 prefixed_else f (K.Sign S.Minus ∷ ts) p e = absurd cc
 prefixed_else f ts p e = e
@@ -87,22 +57,22 @@ need Primary = 7
 Claim : Reader → Rule → List Tok → Expression → List Tok → Type 0
 Claim f Disjunction ts e rest = Goes (operator 1) Binary (conjunction f) (disjunction f) ts e rest
 Claim f Conjunction ts e rest = Goes (operator 2) Binary (negation f) (conjunction f) ts e rest
-Claim f Negation ts e rest = negation f ts ≡ Some (e, rest)
-Claim f Comparison ts e rest = comparison f ts ≡ Some (e, rest)
+Claim f Negation ts e rest = negation f ts ≡ Ok (e, rest)
+Claim f Comparison ts e rest = comparison f ts ≡ Ok (e, rest)
 Claim f Sum ts e rest = Goes (operator 5) Binary (product f) (sum f) ts e rest
 Claim f Product ts e rest = Goes (operator 6) Binary (prefixed f) (product f) ts e rest
-Claim f Prefixed ts e rest = prefixed f ts ≡ Some (e, rest)
-Claim f Primary ts e rest = primary f ts ≡ Some (e, rest)
+Claim f Prefixed ts e rest = prefixed f ts ≡ Ok (e, rest)
+Claim f Primary ts e rest = primary f ts ≡ Ok (e, rest)
 
 -- the reader finds each whole expression of fewer tokens
 abbrev FindsBelow : Reader → ℕ → Type 0
-FindsBelow f n = (ts : List Tok) (e : Expression) (rest : List Tok) → length ts < n → ReadsExpression Disjunction ts e rest → tight rest < 1 → f ts ≡ Some (e, rest)
+FindsBelow f n = (ts : List Tok) (e : Expression) (rest : List Tok) → length ts < n → ReadsExpression Disjunction ts e rest → tight rest < 1 → f ts ≡ Ok (e, rest)
 
-stop : {level : ℕ} {operand f : Reader} {ts rest : List Tok} {e : Expression} → Goes (operator level) Binary operand f ts e rest → tight rest < level → f ts ≡ Some (e, rest)
+stop : {level : ℕ} {operand f : Reader} {ts rest : List Tok} {e : Expression} → Goes (operator level) Binary operand f ts e rest → tight rest < level → f ts ≡ Ok (e, rest)
 stop {level} {operand} {f} {ts} {rest} {e} g l = ends (operator level) Binary operand g (no_operator level rest l)
 
 step : {level : ℕ} {operand f : Reader} {ts mid rest : List Tok} {a b : Expression} {t : Tok} {o : Op} → Goes (operator level) Binary operand f ts a (t ∷ mid) → infix_operator t ≡ Some (level, o) →
-    operand mid ≡ Some (b, rest) → length rest < length mid → Goes (operator level) Binary operand f ts (Binary o a b) rest
+    operand mid ≡ Ok (b, rest) → length rest < length mid → Goes (operator level) Binary operand f ts (Binary o a b) rest
 step {level} {operand} {f} {ts} {mid} {rest} {a} {b} {t} {o} g j q l = goes_on (operator level) Binary operand g (an_operator level t o mid j) q (omega (arith, l))
 
 full : (f : Reader) (n : ℕ) → FindsBelow f n → {L : Rule} {ts rest : List Tok} {e : Expression} → ReadsExpression L ts e rest → tight rest < need L → length ts ≤ n → Claim f L ts e rest
@@ -143,63 +113,30 @@ full f n h (ReadsExpression.Brackets r) s l = rw (h _ _ _ (omega arith) r (omega
 
 -- ---- whole expressions
 
--- a reader that finds each expression that no operator follows
-abbrev Complete : Reader → Type 0
-Complete f = (ts : List Tok) (e : Expression) (rest : List Tok) → ReadsExpression Disjunction ts e rest → tight rest < 1 → f ts ≡ Some (e, rest)
-
-disjunction_finds : (f : Reader) (n : ℕ) → FindsBelow f n → (ts : List Tok) (e : Expression) (rest : List Tok) → length ts ≤ n → ReadsExpression Disjunction ts e rest → tight rest < 1 →
-    disjunction f ts ≡ Some (e, rest)
+expression_finds : (n : ℕ) → FindsBelow expression n
 unfolding need Claim
-disjunction_finds f n h ts e rest l r s = stop (full f n h r (omega arith) l) s
+expression_finds zero ts e rest l r s = absurd (omega arith)
+expression_finds (suc n) ts e rest l r s = expression_again ts ∙ stop (full expression n (expression_finds n) r (omega arith) (omega arith)) s
 
-expression_at_sound : (n : ℕ) → Sound Disjunction (expression_at n)
-unfolding expression_at
-expression_at_sound zero ts = tt
-expression_at_sound (suc n) ts = disjunction_sound (expression_at n) (expression_at_sound n) ts
+pub expression_complete : (ts : List Tok) (e : Expression) (rest : List Tok) → ReadsExpression Disjunction ts e rest → tight rest < 1 → expression ts ≡ Ok (e, rest)
+expression_complete ts e rest r s = expression_finds (suc (length ts)) ts e rest (omega arith) r s
 
-expression_at_finds : (n : ℕ) → FindsBelow (expression_at n) (suc n)
-unfolding expression_at
-expression_at_finds zero ts e rest l r s = absurd (omega (arith, shorter r))
-expression_at_finds (suc n) ts e rest l r s = disjunction_finds (expression_at n) (suc n) (expression_at_finds n) ts e rest (omega arith) r s
+-- ---- the law
 
-pub expression_sound : Sound Disjunction expression
-unfolding expression
-expression_sound ts = expression_at_sound (length ts) ts
-
-pub expression_complete : (ts : List Tok) (e : Expression) (rest : List Tok) → ReadsExpression Disjunction ts e rest → tight rest < 1 → expression ts ≡ Some (e, rest)
-unfolding expression
-expression_complete ts e rest r s = expression_at_finds (length ts) ts e rest (omega arith) r s
-
-disjunction_complete : Complete (disjunction expression)
-disjunction_complete ts e rest r s =
-    disjunction_finds expression (length ts) (λ us d more l q t. expression_complete us d more q t) ts e rest (omega arith) r s
-
--- two readers that are right give the same
-agree : (f g : Reader) → Complete f → Complete g → (ts : List Tok) (r q : Reading Expression) → f ts ≡ r → g ts ≡ q → IfSome r (IsFront Disjunction ts) → IfSome q (IsFront Disjunction ts) → r ≡ q
-agree f g hf hg ts None None e d p o = refl
-agree f g hf hg ts (Some x) q e d p o = sym (hg ts x.0 x.1 p.0 p.1) ∙ d
-agree f g hf hg ts None (Some y) e d p o = sym e ∙ hf ts y.0 y.1 o.0 o.1
-
--- reading is by the rules, with itself for the parts
-pub expression_again : (ts : List Tok) → expression ts ≡ disjunction expression ts
-expression_again ts =
-    agree expression (disjunction expression) expression_complete disjunction_complete ts (expression ts) (disjunction expression ts) refl refl
-    (expression_sound ts) (disjunction_sound expression expression_sound ts)
-
--- ---- the laws
-
-pub whole_expression_sound : (ts : List Tok) → IfSome (whole_expression ts) (IsExpression ts)
-unfolding whole_expression
-whole_expression_sound ts = steps _ _ (expression ts) _ (expression_sound ts) (λ e front. ended (λ e rest. ReadsExpression Disjunction ts e rest) e.0 e.1 front.0)
-
-pub whole_expression_complete : (ts : List Tok) (e : Expression) → IsExpression ts e → whole_expression ts ≡ Some e
+pub whole_expression_complete : (ts : List Tok) (e : Expression) → IsExpression ts e → whole_expression ts ≡ Ok e
 unfolding whole_expression
 whole_expression_complete ts e r = rw (expression_complete ts e [] r (omega arith)) refl
 
-pub expression_found : (ts : List Tok) (e : Expression) → whole_expression ts ≡ Some e → IsExpression ts e
-expression_found ts e q = at_some (IsExpression ts) (whole_expression ts) e (whole_expression_sound ts) q
+pub whole_expression_reader : {I : Type 0} {fuel : Fuel I} (n : ℕ) → IsReader n fuel wholes (λ us e rest. IsExpression us e) (λ i us. whole_expression us)
+unfolding whole_expression
+whole_expression_reader n = followed _ (expression_reader n) (λ e. ended e (λ us r. r))
 
-pub no_expression : (ts : List Tok) → whole_expression ts ≡ None → (e : Expression) → IsExpression ts e → ⊥
-no_expression ts q e is =
-    let clash : None ≡ Some e = sym q ∙ whole_expression_complete ts e is in
+pub expression_found : (ts : List Tok) (e : Expression) → whole_expression ts ≡ Ok e → IsExpression ts e
+expression_found ts e q =
+    let reader : IsReader (suc (length ts)) no_fuel wholes (λ us e rest. IsExpression us e) (λ i us. whole_expression us) = whole_expression_reader (suc (length ts)) in
+    is_whole (reader.reads ts (omega arith)) q
+
+pub no_expression : (ts : List Tok) (left : ℕ) → whole_expression ts ≡ Err left → (e : Expression) → IsExpression ts e → ⊥
+no_expression ts left q e is =
+    let clash : Err left ≡ Ok e = sym q ∙ whole_expression_complete ts e is in
     absurd cc

@@ -1,6 +1,5 @@
 -- What is a contract is read.
-use Rattle.std.proofs.Common.{◌≡◌, ℕ, zero, suc, ◌<◌, ◌≤◌, List, [], ◌∷◌, length, Some, None, refl, sym, ◌∙◌, arith}
-use Rattle.std.specs.Prelude.{IfSome}
+use Rattle.std.proofs.Common.{◌≡◌, ℕ, zero, suc, ◌<◌, ◌≤◌, List, [], ◌∷◌, length, Some, None, Ok, refl, ◌∙◌, arith}
 use Rattle.poets_expr.specs.Expression.{Expression}
 use Rattle.poets_syntax.specs.declared.term.Binders.{Binders}
 use Rattle.poets_syntax.specs.Contract.{Contract}
@@ -10,14 +9,31 @@ use Rattle.poets_lex.specs.declared.token.Tok.{Tok}
 use Rattle.poets_lex.specs.declared.token.Tok.TheVariants as K
 use Rattle.poets_grammar.specs.Expressions.{ReadsArguments}
 use Rattle.poets_grammar.specs.ContractGrammar.{ReadsBinders, ContractRule, Choice, Parallel, Sequence, Simple, ReadsContract, IsContract}
-use Rattle.poets_grammar.specs.Reading.{Reading, arguments}
-use Rattle.poets_grammar.specs.ContractReading.{ContractReader, mark, either, beside, followed, binders, transmit, application, sequence, parallel, choice, closed_contract, simple_step, simple_at, simple, contract, whole_contract}
-use Rattle.poets_grammar.proofs.Steps.{steps, at_some, ended}
+use Rattle.poets_grammar.specs.Reading.{arguments}
+use Rattle.poets_grammar.specs.ContractReading.{ContractReader, mark, either, beside, followed, binders, transmit, application, sequence, parallel, choice, closed_contract, simple_step, simple, contract, whole_contract}
+use Rattle.poets_grammar.proofs.Readers as readers
+use Rattle.poets_grammar.proofs.Readers.{Fuel, no_fuel, wholes, IsReader, is_whole}
+use Rattle.poets_grammar.proofs.TokenReaders.{ended}
 use Rattle.poets_grammar.proofs.Joined.{Goes, begins, goes_on, ends}
 use Rattle.poets_grammar.proofs.Listed.{bracketed_complete, bracketed_shorter}
-use Rattle.poets_grammar.proofs.Complete.{shorter, expression_complete}
+use Rattle.poets_grammar.proofs.ExpressionReaders.{shorter}
+use Rattle.poets_grammar.proofs.Complete.{expression_complete}
 use Rattle.poets_grammar.proofs.Items.{expressions}
-use Rattle.poets_grammar.proofs.ContractSound.{grip, grip_bound, IsFrontContract, simple_step_sound, simple_sound, contract_sound}
+use Rattle.poets_grammar.proofs.ContractReaders.{contract_reader, simple_again}
+
+-- how tightly the next token joins contracts: `+` 1, `||` 2, `;` 3, and 0 where it does not
+abbrev grip : List Tok → ℕ
+grip (K.Sign S.Plus ∷ ts) = 1
+grip (K.Sign S.DoubleBar ∷ ts) = 2
+grip (K.Sign S.Semicolon ∷ ts) = 3
+grip _ = 0
+
+-- what stands after the longest front of a rule is looser than this
+abbrev grip_bound : ContractRule → ℕ
+grip_bound Choice = 1
+grip_bound Parallel = 2
+grip_bound Sequence = 3
+grip_bound Simple = 4
 
 binders_shorter : {ts rest : List Tok} {b : Binders} → ReadsBinders ts b rest → length rest < length ts
 binders_shorter ReadsBinders.Four = omega arith
@@ -39,7 +55,7 @@ contract_shorter (ReadsContract.Brackets r) = omega (arith, contract_shorter r)
 
 -- the reader finds each simple contract of fewer tokens
 abbrev FindsBelow : ContractReader → ℕ → Type 0
-FindsBelow f n = (ts : List Tok) (c : Contract) (rest : List Tok) → length ts < n → ReadsContract Simple ts c rest → f ts ≡ Some (c, rest)
+FindsBelow f n = (ts : List Tok) (c : Contract) (rest : List Tok) → length ts < n → ReadsContract Simple ts c rest → f ts ≡ Ok (c, rest)
 
 plus_none : (ts : List Tok) → grip ts < 1 → mark S.Plus ts ≡ None
 plus_none (K.Sign S.Plus ∷ ts) lt = absurd (omega arith)
@@ -58,14 +74,14 @@ Claim : ContractReader → ContractRule → List Tok → Contract → List Tok �
 Claim f Choice ts c rest = Goes (mark S.Plus) either (parallel f) (choice f) ts c rest
 Claim f Parallel ts c rest = Goes (mark S.DoubleBar) beside (sequence f) (parallel f) ts c rest
 Claim f Sequence ts c rest = Goes (mark S.Semicolon) followed f (sequence f) ts c rest
-Claim f Simple ts c rest = f ts ≡ Some (c, rest)
+Claim f Simple ts c rest = f ts ≡ Ok (c, rest)
 
 stop : (sign : Sign) {join : Unit {0} → Contract → Contract → Contract} {operand f : ContractReader} {ts rest : List Tok} {c : Contract} →
-    Goes (mark sign) join operand f ts c rest → mark sign rest ≡ None → f ts ≡ Some (c, rest)
+    Goes (mark sign) join operand f ts c rest → mark sign rest ≡ None → f ts ≡ Ok (c, rest)
 stop sign {join} {operand} g e = ends (mark sign) join operand g e
 
 step : {sign : Sign} {join : Unit {0} → Contract → Contract → Contract} {operand f : ContractReader} {ts mid rest : List Tok} {a b : Contract} →
-    Goes (mark sign) join operand f ts a (K.Sign sign ∷ mid) → mark sign (K.Sign sign ∷ mid) ≡ Some (tt, mid) → operand mid ≡ Some (b, rest) → length rest < length mid →
+    Goes (mark sign) join operand f ts a (K.Sign sign ∷ mid) → mark sign (K.Sign sign ∷ mid) ≡ Some (tt, mid) → operand mid ≡ Ok (b, rest) → length rest < length mid →
     Goes (mark sign) join operand f ts (join tt a b) rest
 step {sign} {join} {operand} g e q l = goes_on (mark sign) join operand g e q (omega (arith, l))
 
@@ -87,19 +103,19 @@ full f n h (ReadsContract.Application a) s l = h _ _ _ l (ReadsContract.Applicat
 full f n h (ReadsContract.Brackets r) s l = h _ _ _ l (ReadsContract.Brackets r)
 
 choice_finds : (f : ContractReader) (n : ℕ) → FindsBelow f n → (ts : List Tok) (c : Contract) (rest : List Tok) → ReadsContract Choice ts c rest → grip rest < 1 → length ts < n →
-    choice f ts ≡ Some (c, rest)
+    choice f ts ≡ Ok (c, rest)
 unfolding Claim
 choice_finds f n h ts c rest r s l = stop S.Plus (full f n h r (omega arith) l) (plus_none rest s)
 
-pub binders_complete : {ts rest : List Tok} {b : Binders} → ReadsBinders ts b rest → binders ts ≡ Some (b, rest)
+pub binders_complete : {ts rest : List Tok} {b : Binders} → ReadsBinders ts b rest → binders ts ≡ Ok (b, rest)
 unfolding binders
 binders_complete ReadsBinders.Four = refl
 
-pub arguments_complete : {ts rest : List Tok} {args : List Expression} → ReadsArguments ts args rest → arguments ts ≡ Some (args, rest)
+pub arguments_complete : {ts rest : List Tok} {args : List Expression} → ReadsArguments ts args rest → arguments ts ≡ Ok (args, rest)
 unfolding arguments
 arguments_complete a = bracketed_complete expressions a
 
-step_finds : (f : ContractReader) (n : ℕ) → FindsBelow f n → {ts rest : List Tok} {c : Contract} → ReadsContract Simple ts c rest → length ts ≤ n → simple_step f ts ≡ Some (c, rest)
+step_finds : (f : ContractReader) (n : ℕ) → FindsBelow f n → {ts rest : List Tok} {c : Contract} → ReadsContract Simple ts c rest → length ts ≤ n → simple_step f ts ≡ Ok (c, rest)
 unfolding simple_step transmit application closed_contract
 step_finds f n h (ReadsContract.Transmit b r q) l =
     rw (binders_complete b, expression_complete _ _ _ r (omega arith), h _ _ _ (omega (arith, binders_shorter b, shorter r)) q) refl
@@ -110,37 +126,28 @@ step_finds f n h (ReadsContract.Brackets r) l = rw (choice_finds f n h _ _ _ r (
 
 -- ---- whole contracts
 
-simple_at_finds : (n : ℕ) → FindsBelow (simple_at n) (suc n)
-unfolding simple_at
-simple_at_finds zero ts c rest l r = absurd (omega (arith, contract_shorter r))
-simple_at_finds (suc n) ts c rest l r = step_finds (simple_at n) (suc n) (simple_at_finds n) r (omega arith)
+simple_finds : (n : ℕ) → FindsBelow simple n
+simple_finds zero ts c rest l r = absurd (omega arith)
+simple_finds (suc n) ts c rest l r = simple_again ts ∙ step_finds simple n (simple_finds n) r (omega arith)
 
-pub simple_complete : (ts : List Tok) (c : Contract) (rest : List Tok) → ReadsContract Simple ts c rest → simple ts ≡ Some (c, rest)
-unfolding simple
-simple_complete ts c rest r = simple_at_finds (length ts) ts c rest (omega arith) r
+simple_complete : (ts : List Tok) (c : Contract) (rest : List Tok) → ReadsContract Simple ts c rest → simple ts ≡ Ok (c, rest)
+simple_complete ts c rest r = simple_finds (suc (length ts)) ts c rest (omega arith) r
 
-pub contract_complete : (ts : List Tok) (c : Contract) (rest : List Tok) → ReadsContract Choice ts c rest → grip rest < 1 → contract ts ≡ Some (c, rest)
+pub contract_complete : (ts : List Tok) (c : Contract) (rest : List Tok) → ReadsContract Choice ts c rest → grip rest < 1 → contract ts ≡ Ok (c, rest)
 unfolding contract
 contract_complete ts c rest r s = choice_finds simple (suc (length ts)) (λ us d more l q. simple_complete us d more q) ts c rest r s (omega arith)
 
-agree : (ts : List Tok) (r q : Reading Contract) → simple ts ≡ r → simple_step simple ts ≡ q → IfSome r (IsFrontContract Simple ts) → IfSome q (IsFrontContract Simple ts) → r ≡ q
-agree ts None None e d p o = refl
-agree ts (Some x) q e d p o = sym (step_finds simple (suc (length ts)) (λ us c more l r. simple_complete us c more r) p.0 (omega arith)) ∙ d
-agree ts None (Some y) e d p o = sym e ∙ simple_complete ts y.0 y.1 o.0
+-- ---- the law
 
--- reading is by the rules, with itself for the parts
-pub simple_again : (ts : List Tok) → simple ts ≡ simple_step simple ts
-simple_again ts = agree ts (simple ts) (simple_step simple ts) refl refl (simple_sound ts) (simple_step_sound simple simple_sound ts)
-
--- ---- the laws
-
-pub whole_contract_sound : (ts : List Tok) → IfSome (whole_contract ts) (IsContract ts)
-unfolding whole_contract
-whole_contract_sound ts = steps _ _ (contract ts) _ (contract_sound ts) (λ c front. ended (λ c rest. ReadsContract Choice ts c rest) c.0 c.1 front.0)
-
-pub whole_contract_complete : (ts : List Tok) (c : Contract) → IsContract ts c → whole_contract ts ≡ Some c
+pub whole_contract_complete : (ts : List Tok) (c : Contract) → IsContract ts c → whole_contract ts ≡ Ok c
 unfolding whole_contract
 whole_contract_complete ts c r = rw (contract_complete ts c [] r (omega arith)) refl
 
-pub contract_found : (ts : List Tok) (c : Contract) → whole_contract ts ≡ Some c → IsContract ts c
-contract_found ts c q = at_some (IsContract ts) (whole_contract ts) c (whole_contract_sound ts) q
+pub whole_contract_reader : {I : Type 0} {fuel : Fuel I} (n : ℕ) → IsReader n fuel wholes (λ us c rest. IsContract us c) (λ i us. whole_contract us)
+unfolding whole_contract
+whole_contract_reader n = readers.followed _ (contract_reader n) (λ c. ended c (λ us r. r))
+
+pub contract_found : (ts : List Tok) (c : Contract) → whole_contract ts ≡ Ok c → IsContract ts c
+contract_found ts c q =
+    let reader : IsReader (suc (length ts)) no_fuel wholes (λ us c rest. IsContract us c) (λ i us. whole_contract us) = whole_contract_reader (suc (length ts)) in
+    is_whole (reader.reads ts (omega arith)) q

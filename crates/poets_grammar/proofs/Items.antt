@@ -1,6 +1,5 @@
 -- Names and expressions as items of lists.
-use Rattle.std.proofs.Common.{◌≡◌, ◌<◌, List, ◌∷◌, length, Some, None, refl, arith}
-use Rattle.std.specs.Prelude.{IfSome}
+use Rattle.std.proofs.Common.{◌≡◌, suc, ◌<◌, List, ◌∷◌, length, Ok, Err, refl, arith}
 use Rattle.poets_value.specs.declared.value.Name.{Name}
 use Rattle.poets_lex.specs.declared.token.Sign.TheVariants as S
 use Rattle.poets_lex.specs.declared.token.Tok.{Tok}
@@ -8,9 +7,10 @@ use Rattle.poets_lex.specs.declared.token.Tok.TheVariants as K
 use Rattle.poets_grammar.specs.Lists.{ReadsName}
 use Rattle.poets_grammar.specs.Expressions.{ReadsExpression, Disjunction}
 use Rattle.poets_grammar.specs.Reading.{name, joined, primary, prefixed, product, sum, comparison, negation, conjunction, disjunction, expression_at, expression}
-use Rattle.poets_grammar.proofs.Steps.{weaker}
+use Rattle.poets_grammar.proofs.TokenReaders.{name_reader}
 use Rattle.poets_grammar.proofs.Levels.{tight}
-use Rattle.poets_grammar.proofs.Complete.{shorter, expression_sound, expression_complete}
+use Rattle.poets_grammar.proofs.ExpressionReaders.{shorter, expression_reader}
+use Rattle.poets_grammar.proofs.Complete.{expression_complete}
 use Rattle.poets_grammar.proofs.Listed.{IsItem}
 
 abbrev pub Anything : List Tok → Type 0
@@ -19,13 +19,13 @@ Anything rest = Unit {0}
 abbrev pub Loose : List Tok → Type 0
 Loose rest = tight rest < 1
 
-no_expression : (ts : List Tok) → expression (K.Sign S.RightParen ∷ ts) ≡ None
+no_expression : (ts : List Tok) → expression (K.Sign S.RightParen ∷ ts) ≡ Err (suc (length ts))
 unfolding joined primary prefixed product sum comparison negation conjunction disjunction expression_at expression
 no_expression ts = refl
 
 pub expressions : IsItem expression (ReadsExpression Disjunction) Loose
 expressions = record {
-  sound = λ ts. weaker _ _ (expression ts) (expression_sound ts) (λ p front. front.0);
+  reads = expression_reader;
   complete = λ ts rest e r s. expression_complete ts e rest r s;
   shorter = λ ts rest e r. shorter r;
   no_paren = no_expression;
@@ -33,11 +33,7 @@ expressions = record {
   at_paren = λ ts. omega arith;
 }
 
-name_sound : (ts : List Tok) → IfSome (name ts) (λ p. ReadsName ts p.0 p.1)
-name_sound (K.Name x ∷ ts) = ReadsName.AName
-name_sound _ = tt
-
-name_complete : {ts rest : List Tok} {x : Name} → ReadsName ts x rest → name ts ≡ Some (x, rest)
+name_complete : {ts rest : List Tok} {x : Name} → ReadsName ts x rest → name ts ≡ Ok (x, rest)
 name_complete ReadsName.AName = refl
 
 name_shorter : {ts rest : List Tok} {x : Name} → ReadsName ts x rest → length rest < length ts
@@ -45,7 +41,7 @@ name_shorter ReadsName.AName = omega arith
 
 pub names : IsItem name ReadsName Anything
 names = record {
-  sound = name_sound;
+  reads = λ n. name_reader;
   complete = λ ts rest x r s. name_complete r;
   shorter = λ ts rest x r. name_shorter r;
   no_paren = λ ts. refl;

@@ -1,5 +1,5 @@
 -- How tightly the next token joins what stands before it.
-use Rattle.std.proofs.Common.{◌≡◌, ◌≢◌, ℕ, ◌<◌, Bool, true, false, List, [], ◌∷◌, Option, Some, None, if◌then◌else◌, nat_eq, refl, ap, ◌∙◌, arith}
+use Rattle.std.proofs.Common.{◌≡◌, ◌≢◌, ◌⊎◌, inl, inr, ℕ, ◌<◌, Bool, true, false, List, [], ◌∷◌, Option, Some, None, if◌then◌else◌, nat_eq, refl, ap, ◌∙◌, arith}
 use Rattle.std.specs.Prelude.{IfSome}
 use Rattle.std.proofs.lemmas.Bool.{eqb-true, eq-eqb}
 use Rattle.poets_expr.specs.declared.expr.Op.{Op}
@@ -12,6 +12,7 @@ use Rattle.poets_lex.specs.declared.token.Tok.TheVariants as K
 use Rattle.poets_grammar.specs.Tokens.{infix_operator}
 use Rattle.poets_grammar.specs.Expressions.{Rule, Disjunction, Conjunction, Negation, Comparison, Sum, Product, Prefixed, Primary}
 use Rattle.poets_grammar.specs.Reading.{of_level, operator}
+use Rattle.poets_grammar.proofs.Joined.{IsLink}
 
 abbrev pub level_of : Option (ℕ × Op) → ℕ
 level_of None = 0
@@ -21,47 +22,6 @@ level_of (Some p) = p.0
 abbrev pub tight : List Tok → ℕ
 tight [] = 0
 tight (t ∷ ts) = level_of (infix_operator t)
-
--- what stands after the longest front of a rule is looser than this
-abbrev pub bound : Rule → ℕ
-bound Disjunction = 1
-bound Conjunction = 2
-bound Negation = 4
-bound Comparison = 4
-bound Sum = 5
-bound Product = 6
-bound Prefixed = 7
-bound Primary = 7
-
-abbrev pub IsLevelOf : ℕ → Type 0
-IsLevelOf n = (n < 7) × (n ≢ 3)
-
-level_is : (n : ℕ) → n < 7 → n ≢ 3 → IsLevelOf n
-level_is n l q = (l, q)
-
-word_level : (w : Word) → IsLevelOf (level_of (infix_operator (K.Word w)))
-word_level W.Or = (omega arith, λ e. omega (arith, e))
-word_level W.And = (omega arith, λ e. omega (arith, e))
-word_level _ = (omega arith, λ e. omega (arith, e))
-
-sign_level : (s : Sign) → IsLevelOf (level_of (infix_operator (K.Sign s)))
-sign_level S.Equal = (omega arith, λ e. omega (arith, e))
-sign_level S.NotEqual = (omega arith, λ e. omega (arith, e))
-sign_level S.Less = (omega arith, λ e. omega (arith, e))
-sign_level S.LessEqual = (omega arith, λ e. omega (arith, e))
-sign_level S.Greater = (omega arith, λ e. omega (arith, e))
-sign_level S.GreaterEqual = (omega arith, λ e. omega (arith, e))
-sign_level S.Plus = (omega arith, λ e. omega (arith, e))
-sign_level S.Minus = (omega arith, λ e. omega (arith, e))
-sign_level S.Star = (omega arith, λ e. omega (arith, e))
-sign_level S.Slash = (omega arith, λ e. omega (arith, e))
-sign_level S.Percent = (omega arith, λ e. omega (arith, e))
-sign_level _ = (omega arith, λ e. omega (arith, e))
-
-pub tight_level : (ts : List Tok) → IsLevelOf (tight ts)
-tight_level (K.Word w ∷ ts) = word_level w
-tight_level (K.Sign s ∷ ts) = sign_level s
-tight_level _ = (omega arith, λ e. omega (arith, e))
 
 -- ---- operators
 
@@ -103,13 +63,18 @@ pub no_operator : (level : ℕ) (ts : List Tok) → tight ts < level → operato
 no_operator level [] lt = refl
 no_operator level (t ∷ ts) lt = none_of_level level (infix_operator t) ts lt
 
-not_of_level : (level : ℕ) (o : Option (ℕ × Op)) (ts : List Tok) → 0 < level → level_of o ≡ level → of_level level o ts ≡ None → ⊥
-not_of_level level None ts lt q e = omega arith
-not_of_level level (Some p) ts lt q e =
-    let some : of_level level (Some p) ts ≡ Some (p.1, ts) = ap (λ b. if b then Some (p.1, ts) else None) (eq-eqb p.0 level q) in
-    absurd cc
+-- ---- operators as links
 
--- a token that is no operator of the level has another
-pub not_level : (level : ℕ) (ts : List Tok) → 0 < level → operator level ts ≡ None → tight ts ≢ level
-not_level level [] lt e q = omega arith
-not_level level (t ∷ ts) lt e q = not_of_level level (infix_operator t) ts lt q e
+abbrev IsNoneOrOne : ℕ → Tok → Type 0
+IsNoneOrOne level t = ((us : List Tok) → operator level (t ∷ us) ≡ None) ⊎ ((o : Op) × ((us : List Tok) → operator level (t ∷ us) ≡ Some (o, us)))
+
+of_that : (level : ℕ) (t : Tok) (p : ℕ × Op) (b : Bool) → infix_operator t ≡ Some p → nat_eq p.0 level ≡ b → IsNoneOrOne level t
+of_that level t p false e q = inl (λ us. ap (λ x. of_level level x us) e ∙ ap (λ b. if b then Some (p.1, us) else None) q)
+of_that level t p true e q = inr (p.1, λ us. ap (λ x. of_level level x us) e ∙ ap (λ b. if b then Some (p.1, us) else None) q)
+
+of_token : (level : ℕ) (t : Tok) (o : Option (ℕ × Op)) → infix_operator t ≡ o → IsNoneOrOne level t
+of_token level t None e = inl (λ us. ap (λ x. of_level level x us) e)
+of_token level t (Some p) e = of_that level t p (nat_eq p.0 level) e refl
+
+pub operator_link : (level : ℕ) → IsLink (operator level)
+operator_link level = record { never_at_end = refl; by_token = λ t. of_token level t (infix_operator t) refl }

@@ -82,6 +82,10 @@ registered_said = Command (Register (name 0) Success)
 abbrev pub cut_off : List Tok
 cut_off = K.Word W.Agents ∷ K.Name (name 0) ∷ K.Sign S.Comma ∷ []
 
+-- agents ann,,
+abbrev pub two_commas : List Tok
+two_commas = K.Word W.Agents ∷ K.Name (name 0) ∷ K.Sign S.Comma ∷ K.Sign S.Comma ∷ []
+
 -- that many `(`
 abbrev pub nested : ℕ → List Tok
 nested n = replicate n (K.Sign S.LeftParen)

@@ -1,5 +1,5 @@
 -- The laws of the grammar, as statements.
-use Rattle.std.specs.Prelude.{◌≡◌, ◌↔◌, List, Some}
+use Rattle.std.specs.Prelude.{◌≡◌, ◌↔◌, ℕ, ◌-◌, List, length, Ok, Err}
 use Rattle.poets_expr.specs.Expression.{Expression}
 use Rattle.poets_syntax.specs.Contract.{Contract}
 use Rattle.poets_command.specs.Said.{Statement}
@@ -7,6 +7,7 @@ use Rattle.poets_lex.specs.declared.token.Tok.{Tok}
 use Rattle.poets_grammar.specs.Expressions.{IsExpression}
 use Rattle.poets_grammar.specs.ContractGrammar.{IsContract}
 use Rattle.poets_grammar.specs.Statements.{IsStatement}
+use Rattle.poets_grammar.specs.Begins.{IsBegun}
 use Rattle.poets_grammar.specs.Reading.{whole_expression}
 use Rattle.poets_grammar.specs.ContractReading.{whole_contract}
 use Rattle.poets_grammar.specs.StatementReading.{statement}
@@ -25,12 +26,16 @@ OneStatement = (ts : List Tok) (a b : Statement) → IsStatement ts a → IsStat
 
 -- the expression that is read is the one that the tokens are
 abbrev pub ExpressionRead : Type 0
-ExpressionRead = (ts : List Tok) (e : Expression) → IsExpression ts e ↔ whole_expression ts ≡ Some e
+ExpressionRead = (ts : List Tok) (e : Expression) → IsExpression ts e ↔ whole_expression ts ≡ Ok e
 
 -- the contract that is read is the one that the tokens are
 abbrev pub ContractRead : Type 0
-ContractRead = (ts : List Tok) (c : Contract) → IsContract ts c ↔ whole_contract ts ≡ Some c
+ContractRead = (ts : List Tok) (c : Contract) → IsContract ts c ↔ whole_contract ts ≡ Ok c
 
 -- the statement that is read is the one that the tokens are
 abbrev pub StatementRead : Type 0
-StatementRead = (ts : List Tok) (s : Statement) → IsStatement ts s ↔ statement ts ≡ Some s
+StatementRead = (ts : List Tok) (s : Statement) → IsStatement ts s ↔ statement ts ≡ Ok s
+
+-- where nothing is read, the tokens ahead of the place that is told begin a sentence, and no more of them do
+abbrev pub StatementBegun : Type 0
+StatementBegun = (ts : List Tok) (left : ℕ) → statement ts ≡ Err left → IsBegun ts (length ts - left)

@@ -4,6 +4,7 @@ pub mod Lists
 pub mod Expressions
 pub mod ContractGrammar
 pub mod Statements
+pub mod Begins
 pub mod TooDeep
 pub mod Reading
 pub mod ContractReading

@@ -7,10 +7,12 @@ ghost use Rattle.poets_lex.specs.declared.token.Tok.TheVariants as K;
 ghost use Rattle.poets_grammar.specs.Expressions.{IsExpression};
 ghost use Rattle.poets_grammar.specs.ContractGrammar.{IsContract};
 ghost use Rattle.poets_grammar.specs.Statements.{IsStatement};
+ghost use Rattle.poets_grammar.specs.Begins.{IsBegun};
 ghost use Rattle.poets_grammar.specs.TooDeep.{IsTooDeep};
 ghost use Rattle.poets_grammar.specs.Examples.{mixed, mixed_tree, less, less_tree, chained, negative, negative_tree};
 ghost use Rattle.poets_grammar.specs.Examples.{negated, negated_tree, joint, joint_tree, agents, agents_said};
-ghost use Rattle.poets_grammar.specs.Examples.{registered, registered_said, cut_off, nested, added};
+ghost use Rattle.poets_grammar.specs.Examples.{registered, registered_said, cut_off, two_commas};
+ghost use Rattle.poets_grammar.specs.Examples.{nested, added};
 
 /// `1 or 2 and not 3 = 4` goes by levels, `1 - 2 - 3` to the left, and `1 = 2 = 3` is no expression.
 pub fn levels()
@@ -30,11 +32,13 @@ pub fn contracts()
     ensures { IsContract joint joint_tree }
 {}
 
-/// `agents ann, bob` and `register x = Success` are statements, and `agents ann,` is none.
+/// `agents ann, bob` and `register x = Success` are statements, and `agents ann,` is none. Of the tokens `agents ann,,`
+/// three begin a sentence.
 pub fn statements()
     ensures names { IsStatement agents agents_said }
     ensures command { IsStatement registered registered_said }
     ensures cut_off { (s : Statement) → ¬ (IsStatement cut_off s) }
+    ensures begun { IsBegun two_commas 3 }
 {}
 
 /// 201 brackets are too deep, also after a `)`, and 200 are not; 1,001 operators are too deep, and 1,000 are not.

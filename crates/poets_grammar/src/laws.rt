@@ -1,6 +1,6 @@
 //! The laws of the grammar, each carried by a function that does nothing.
 ghost use Rattle.poets_grammar.specs.Laws.{OneExpression, OneContract, OneStatement, ExpressionRead, ContractRead};
-ghost use Rattle.poets_grammar.specs.Laws.{StatementRead};
+ghost use Rattle.poets_grammar.specs.Laws.{StatementRead, StatementBegun};
 
 /// Tokens have one tree at most as an expression.
 pub fn one_expression()
@@ -30,4 +30,9 @@ pub fn contract_read()
 /// Reading finds what the tokens say as a statement, and nothing where they are none.
 pub fn statement_read()
     ensures { StatementRead }
+{}
+
+/// Reading that finds nothing tells how many tokens are left from the first one on with which no sentence begins.
+pub fn statement_begun()
+    ensures { StatementBegun }
 {}

@@ -8,7 +8,7 @@ use Rattle.std.proofs.lemmas.List.Elements.{All-head, All-tail}
 use mathlib.Core.List.{IsPrefix}
 use mathlib.Core.Logic.{dite}
 use native.Mathlib.Decide.{ℕ_discrete}
-use Rattle.poets_machine.specs.Histories.{own_calls}
+use Rattle.poets_machine.specs.Histories.{calls_by}
 use Rattle.poets_turn.specs.Settings.{OnlyClerks}
 use Rattle.poets_turn.specs.declared.types.Turn.{Turn}
 use Rattle.poets_turn.specs.Clerks.{AreClerksIn, AreNumbered, IsClerkIn, IsFresh, SawNoMore, calls, front, number}
@@ -28,7 +28,7 @@ module _ {A : Type 0} where
 
 module _ {C : Type 0} where
   -- the entries of a history of two clerks are their own calls
-  counted : (h : List (ℕ × C)) → OnlyClerks 2 h → length h ≡ length (own_calls 1 h) + length (own_calls 2 h)
+  counted : (h : List (ℕ × C)) → OnlyClerks 2 h → length h ≡ length (calls_by 1 h) + length (calls_by 2 h)
   counted [] only = refl
   counted (e ∷ es) only =
       let P : ℕ × C → Type 0 = λ e. (0 < e.0) × (e.0 ≤ 2) in
@@ -38,11 +38,11 @@ module _ {C : Type 0} where
       (λ one. let a = eq-eqb e.0 1 one in let b = ne_eqb e.0 2 (λ two. omega (arith, one, two)) in rw a (rw b (omega (arith, rest))))
       (λ no. let two : e.0 ≡ 2 = omega (arith, here.0, here.1, no) in let a = ne_eqb e.0 1 no in let b = eq-eqb e.0 2 two in rw a (rw b (omega (arith, rest))))
 
-  no_call : (h : List (ℕ × C)) → OnlyClerks 2 h → own_calls 1 h ≡ [] → own_calls 2 h ≡ [] → h ≡ []
+  no_call : (h : List (ℕ × C)) → OnlyClerks 2 h → calls_by 1 h ≡ [] → calls_by 2 h ≡ [] → h ≡ []
   no_call h only one two = none_left h (omega (arith, counted h only, ap length one, ap length two))
 
   -- the first call alone
-  one_call : (h b : List (ℕ × C)) (a : C) → OnlyClerks 2 h → own_calls 1 h ≡ a ∷ [] → own_calls 2 h ≡ [] → IsPrefix (b ++ (1, a) ∷ []) h → h ≡ (1, a) ∷ []
+  one_call : (h b : List (ℕ × C)) (a : C) → OnlyClerks 2 h → calls_by 1 h ≡ a ∷ [] → calls_by 2 h ≡ [] → IsPrefix (b ++ (1, a) ∷ []) h → h ≡ (1, a) ∷ []
   one_call h b a only one two begins =
       let long = ap length begins.1 in
       let parts = length-append (b ++ (1, a) ∷ []) begins.0 in
@@ -58,7 +58,7 @@ module _ {C : Type 0} where
     pub none_before : b ≡ []
     pub one_before : d ≡ (1, a) ∷ []
 
-  two_calls : (h b d : List (ℕ × C)) (a c : C) → OnlyClerks 2 h → own_calls 1 h ≡ a ∷ [] → own_calls 2 h ≡ c ∷ [] → IsPrefix (b ++ (1, a) ∷ []) d → IsPrefix (d ++ (2, c) ∷ []) h → AreTwo h b d a c
+  two_calls : (h b d : List (ℕ × C)) (a c : C) → OnlyClerks 2 h → calls_by 1 h ≡ a ∷ [] → calls_by 2 h ≡ c ∷ [] → IsPrefix (b ++ (1, a) ∷ []) d → IsPrefix (d ++ (2, c) ∷ []) h → AreTwo h b d a c
   two_calls h b d a c only one two begins goes =
       let parts = length-append (b ++ (1, a) ∷ []) begins.0 in
       let part = length-append b ((1, a) ∷ []) in
@@ -110,17 +110,18 @@ both_part first second one two w v saw = λ h of.
     subst (λ l. IsPrefix l (pair_of first second)) (sym (both_made first second one two w v saw h of).history) (prefix_self (pair_of first second))
 
 -- the engine that comes back has a history of the two clerks alone
-pub two_closed : (one two : Desk) (h : List (ℕ × Command)) (xs ys zs : List Desk) → xs ≡ [] → ys ≡ xs ++ one ∷ [] → zs ≡ ys ++ two ∷ [] → number one ≡ 1 → number two ≡ 2 →
-    (count : ℕ) → count ≡ 2 → AreClerksIn h zs → OnlyClerks count h → IsHistoryOf one two h
-two_closed one two h xs ys zs none push push' first second count is clerks only =
-    let both : zs ≡ one ∷ two ∷ [] = push' ∙ ap (λ l. l ++ two ∷ []) push ∙ ap (λ l. (l ++ one ∷ []) ++ two ∷ []) none in
-    let P : Desk → Type 0 = λ d. IsClerkIn h (number d) (front d) (calls d) in
-    let all = subst (All P) both clerks in
-    record {
-      one = subst (λ k. IsClerkIn h k (front one) (calls one)) first (All-head P one (two ∷ []) all);
-      two = subst (λ k. IsClerkIn h k (front two) (calls two)) second (All-head P two [] (All-tail P one (two ∷ []) all));
-      only = subst (λ k. OnlyClerks k h) is only;
-    }
+module _ (one two : Desk) (h : List (ℕ × Command)) where
+  pub two_closed : (xs ys zs : List Desk) → xs ≡ [] → ys ≡ xs ++ one ∷ [] → zs ≡ ys ++ two ∷ [] → number one ≡ 1 → number two ≡ 2 →
+      (count : ℕ) → count ≡ 2 → AreClerksIn h zs → OnlyClerks count h → IsHistoryOf one two h
+  two_closed xs ys zs none push push' first second count is clerks only =
+      let both : zs ≡ one ∷ two ∷ [] = push' ∙ ap (λ l. l ++ two ∷ []) push ∙ ap (λ l. (l ++ one ∷ []) ++ two ∷ []) none in
+      let P : Desk → Type 0 = λ d. IsClerkIn h (number d) (front d) (calls d) in
+      let all = subst (All P) both clerks in
+      record {
+        one = subst (λ k. IsClerkIn h k (front one) (calls one)) first (All-head P one (two ∷ []) all);
+        two = subst (λ k. IsClerkIn h k (front two) (calls two)) second (All-head P two [] (All-tail P one (two ∷ []) all));
+        only = subst (λ k. OnlyClerks k h) is only;
+      }
 
 -- clerk 1 went from v to w and u, and clerk 2 heard of it and is x
 module _ (first second : Arc Command Global) (v w u x : Desk) (one : number v ≡ 1) (two : number x ≡ 2) (none : calls v ≡ []) (none' : calls x ≡ []) (same : SawNoMore w u)

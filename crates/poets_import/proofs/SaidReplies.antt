@@ -185,15 +185,16 @@ no_contract_phrases names before named listed after x y more low says rows resid
 same_contract : (o : Option Contract) (c d : Contract) → o ≡ Some c → o ≡ Some d → d ≡ c
 same_contract o c d e f = cc
 
-shown_phrases :
-    (names before named listed after : Table) (c d : Contract) (owed : Option Contract) → owed ≡ Some c →
-    before ≡ named → named ≡ listed → owed ≡ Some d → Says listed (contract_text names c) (Owed d) after →
-    AreSaid names before (Owed c ∷ []) after
-shown_phrases names before named listed after c d owed shows name rows is says =
-    Next
-    (subst (λ (t : Table). Says t (contract_text names c) (Owed c) after) (sym (name ∙ rows))
-    (subst (λ (e : Contract). Says listed (contract_text names c) (Owed e) after) (same_contract owed c d shows is) says))
-    Nothing
+module _ (names before named listed after : Table) where
+  shown_phrases :
+      (c d : Contract) (owed : Option Contract) → owed ≡ Some c →
+      before ≡ named → named ≡ listed → owed ≡ Some d → Says listed (contract_text names c) (Owed d) after →
+      AreSaid names before (Owed c ∷ []) after
+  shown_phrases c d owed shows name rows is says =
+      Next
+      (subst (λ (t : Table). Says t (contract_text names c) (Owed c) after) (sym (name ∙ rows))
+      (subst (λ (e : Contract). Says listed (contract_text names c) (Owed e) after) (same_contract owed c d shows is) says))
+      Nothing
 
 pub reply_phrases_said :
     (names before after : Table) (declared : Declared) (r : Reply) (owed : Option Contract) →

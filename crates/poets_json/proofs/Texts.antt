@@ -53,26 +53,26 @@ document_text names x =
     ∙ append_assoc (list_text (entry_data names) x.history) (93 ∷ []) (125 ∷ []))
 
 -- five pieces, put one after the other
-five_pieces :
-    (p q r s t : List ℕ) (none a b c d e : String Global) →
-    string_bytes none ≡ [] → Puts none a p → Puts a b q → Puts b c r → Puts c d s → Puts d e t →
-    string_bytes e ≡ p ++ (q ++ (r ++ (s ++ t)))
-five_pieces p q r s t none a b c d e en ea eb ec ed ee =
-    rw ee (rw ed (rw ec (rw eb (rw ea (rw en (simp append_assoc refl))))))
+module _ (p q r s t : List ℕ) (none : String Global) (en : string_bytes none ≡ []) where
+  five_pieces : (a b c d e : String Global) → Puts none a p → Puts a b q → Puts b c r → Puts c d s → Puts d e t →
+      string_bytes e ≡ p ++ (q ++ (r ++ (s ++ t)))
+  five_pieces a b c d e ea eb ec ed ee =
+      rw ee (rw ed (rw ec (rw eb (rw ea (rw en (simp append_assoc refl))))))
 
 -- what was put is the document
-pub put_document :
-    (names : Table) (x : Exported) (book : List (List ℕ)) (history : List Entry) (none a b c d e : String Global) →
-    book ≡ book_texts names x.declared x.templates x.reports → history ≡ x.history → string_bytes none ≡ [] →
-    Puts none a (codes "{\"book\":") → Puts a b (compact_text (list_data string book)) →
-    Puts b c (codes ",\"format\":\"poets 1\",\"history\":[") → Puts c d (list_text (entry_data names) history) →
-    Puts d e (codes "]}") → string_bytes e ≡ compact_text (document names x)
-put_document names x book history none a b c d e same_book same_history en ea eb ec ed ee =
-    five_pieces (codes "{\"book\":") (compact_text (list_data string book))
-    (codes ",\"format\":\"poets 1\",\"history\":[") (list_text (entry_data names) history) (codes "]}")
-    none a b c d e en ea eb ec ed ee
-    ∙ (ap (λ (texts : List (List ℕ)). around texts (list_text (entry_data names) history)) same_book
-    ∙ (ap
-    (λ (entries : List Entry). around (book_texts names x.declared x.templates x.reports)
-    (list_text (entry_data names) entries)) same_history
-    ∙ sym (document_text names x)))
+module _ (names : Table) (x : Exported) (book : List (List ℕ)) (history : List Entry)
+    (same_book : book ≡ book_texts names x.declared x.templates x.reports) (same_history : history ≡ x.history)
+    (none : String Global) (en : string_bytes none ≡ []) where
+  pub put_document : (a b c d e : String Global) →
+      Puts none a (codes "{\"book\":") → Puts a b (compact_text (list_data string book)) →
+      Puts b c (codes ",\"format\":\"poets 1\",\"history\":[") → Puts c d (list_text (entry_data names) history) →
+      Puts d e (codes "]}") → string_bytes e ≡ compact_text (document names x)
+  put_document a b c d e ea eb ec ed ee =
+      five_pieces (codes "{\"book\":") (compact_text (list_data string book))
+      (codes ",\"format\":\"poets 1\",\"history\":[") (list_text (entry_data names) history) (codes "]}")
+      none en a b c d e ea eb ec ed ee
+      ∙ (ap (λ (texts : List (List ℕ)). around texts (list_text (entry_data names) history)) same_book
+      ∙ (ap
+      (λ (entries : List Entry). around (book_texts names x.declared x.templates x.reports)
+      (list_text (entry_data names) entries)) same_history
+      ∙ sym (document_text names x)))

@@ -80,8 +80,9 @@ module _ {D : Type 0} (seen : D → Seen) (faults : D → ℕ) (disk : D) where
   only_started result now at time during = subst (λ d. OnlyStarted (seen disk) (seen d)) at (record { time = time; during = during })
 
   -- there was no session
-  pub ends_unread : (source source' sink sink' : Stream) (given : D) (status answer : ℕ) (h g : List Entry) (n : ℕ) → given ≡ disk → status ≡ answer → g ≡ h → n ≡ 0 →
-      EndsUnread F.Clerks source source' sink sink' answer h → EndsKeeping seen faults source source' sink sink' disk given status g n
-  ends_unread source source' sink sink' given status answer h g n at same held none ends =
-      subst (EndsKeeping seen faults source source' sink sink' disk given status g) (sym none)
-      (EndsKeeping.Unread (subst (λ s. EndsUnread F.Clerks source source' sink sink' s g) (sym same) (subst (EndsUnread F.Clerks source source' sink sink' answer) (sym held) ends)) at)
+  module _ (source source' sink sink' : Stream) where
+    pub ends_unread : (given : D) (status answer : ℕ) (h g : List Entry) (n : ℕ) → given ≡ disk → status ≡ answer → g ≡ h → n ≡ 0 →
+        EndsUnread F.Clerks source source' sink sink' answer h → EndsKeeping seen faults source source' sink sink' disk given status g n
+    ends_unread given status answer h g n at same held none ends =
+        subst (EndsKeeping seen faults source source' sink sink' disk given status g) (sym none)
+        (EndsKeeping.Unread (subst (λ s. EndsUnread F.Clerks source source' sink sink' s g) (sym same) (subst (EndsUnread F.Clerks source source' sink sink' answer) (sym held) ends)) at)

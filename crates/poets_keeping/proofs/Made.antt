@@ -22,7 +22,7 @@ use Rattle.poets_rules.specs.Rules.{book_of_rules, reports_of_rules}
 use Rattle.poets_history.specs.Histories.{IsLegal, IsRightHistory}
 use Rattle.poets_history.proofs.Histories.{calls_append}
 use Rattle.poets_clerks.specs.Histories.{AreReplies, HasScriptParts, HasScripts}
-use Rattle.poets_clerks.specs.Scripts.{calls_of as calls_of_script}
+use Rattle.poets_clerks.specs.Scripts.{script_calls as calls_of_script}
 use Rattle.poets_clerks.proofs.Scripted.{parts_hold, parts_mapped}
 use Rattle.poets_disk.specs.Disks.{Seen}
 use Rattle.poets_engine.specs.State.{HasLegalHistory, State, commands_of, plain_calls}

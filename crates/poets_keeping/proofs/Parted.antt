@@ -6,7 +6,7 @@ use Rattle.poets_command.specs.Said.{Statement}
 use Rattle.poets_rules.specs.Rules as R
 use Rattle.poets_history.specs.Histories.{IsRightHistory}
 use Rattle.poets_clerks.specs.Histories.{HasScriptParts}
-use Rattle.poets_machine.specs.Histories.{own_calls as machine_calls}
+use Rattle.poets_machine.specs.Histories.{calls_by as machine_calls}
 use Rattle.poets_making.proofs.Taking.{All-of_map}
 use Rattle.poets_session.specs.Sessions.{Represents, commands_in, scripts_of}
 use Rattle.poets_session.specs.declared.session.Session.{Session}

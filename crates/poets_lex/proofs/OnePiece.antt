@@ -58,34 +58,36 @@ same-name : (a b : Name) → a.id ≡ b.id → a ≡ b
 same-name a b e = let made : ℕ → Name = λ i. record { id = i } in ap made e
 
 -- one token at most begins a text
-one-token : (before a b : Table) (what other : Tok) (x y r s : List ℕ) → class_of_token what ≡ class_of_token other → x ++ r ≡ y ++ s → IsTextOf a what x → IsLongest what r → a ≡ table_with what x before → IsTextOf b other y → IsLongest other s → b ≡ table_with other y before → (x ≡ y) × (what ≡ other)
-one-token before a b (K.Word w) (K.Word v) x y r s class e is long table was far row =
-    let same = same-front is_in_name x y r s e (rw is (shape-passes (word_text w) (word-shape w))) long (rw was (shape-passes (word_text v) (word-shape v))) far in
-    (same, ap K.Word (word-is w v (sym is ∙ same ∙ was)))
-one-token before a b (K.Word w) (K.Name n) x y r s class e is long table was far row =
-    let same = same-front is_in_name x y r s e (rw is (shape-passes (word_text w) (word-shape w))) long (shape-passes y was.0.shape) far in
-    absurd (was.0.not_reserved w (sym same ∙ is))
-one-token before a b (K.Name n) (K.Word v) x y r s class e is long table was far row =
-    let same = same-front is_in_name x y r s e (shape-passes x is.0.shape) long (rw was (shape-passes (word_text v) (word-shape v))) far in
-    absurd (is.0.not_reserved v (same ∙ was))
-one-token before a b (K.Name n) (K.Name m) x y r s class e is long table was far row =
-    let same : x ≡ y = same-front is_in_name x y r s e (shape-passes x is.0.shape) long (shape-passes y was.0.shape) far in
-    let tables : a ≡ b = table ∙ ap (λ t. with_text t before) same ∙ sym row in
-    let ids : Some n.id ≡ Some m.id = sym is.1 ∙ ap (λ t. place_of t a) same ∙ ap (place_of y) tables ∙ was.1 in
-    (same, ap K.Name (same-name n m cc))
-one-token before a b (K.Number n) (K.Number m) x y r s class e is long table was far row =
-    let same : x ≡ y = same-front is_ascii_digit x y r s e is.0.1 long was.0.1 far in
-    (same, ap K.Number (is.2 ∙ ap (λ t. pos (decimal t)) same ∙ sym was.2))
-one-token before a b (K.Day d) (K.Day c) x y r s class e is long table was far row =
-    let lengths : length x ≡ length y = ap length is.1 ∙ ap suc (day-length is.2) ∙ sym (ap suc (day-length was.2)) ∙ sym (ap length was.1) in
-    let same : x ≡ y = same-length x y r s e lengths in
-    let whole : 64 ∷ is.0 ≡ 64 ∷ was.0 = sym is.1 ∙ same ∙ was.1 in
-    let texts : is.0 ≡ was.0 = cc in
-    (same, ap K.Day (day_of_text_is was.0 d c (subst (λ t. IsDayText t d) texts is.2) was.2))
-one-token before a b (K.Sign p) (K.Sign q) x y r s class e is long table was far row =
-    let signs = one-sign p q r s (ap (λ t. t ++ r) (sym is) ∙ e ∙ ap (λ t. t ++ s) was) long far in
-    (is ∙ ap sign_text signs ∙ sym was, ap K.Sign signs)
-one-token before a b what other x y r s class e is long table was far row = absurd (omega arith)
+module _ (before a b : Table) (x y r s : List ℕ) (e : x ++ r ≡ y ++ s) where
+  one-token : (what other : Tok) → class_of_token what ≡ class_of_token other → IsTextOf a what x → IsLongest what r → a ≡ table_with what x before →
+      IsTextOf b other y → IsLongest other s → b ≡ table_with other y before → (x ≡ y) × (what ≡ other)
+  one-token (K.Word w) (K.Word v) class is long table was far row =
+      let same = same-front is_in_name x y r s e (rw is (shape-passes (word_text w) (word-shape w))) long (rw was (shape-passes (word_text v) (word-shape v))) far in
+      (same, ap K.Word (word-is w v (sym is ∙ same ∙ was)))
+  one-token (K.Word w) (K.Name n) class is long table was far row =
+      let same = same-front is_in_name x y r s e (rw is (shape-passes (word_text w) (word-shape w))) long (shape-passes y was.0.shape) far in
+      absurd (was.0.not_reserved w (sym same ∙ is))
+  one-token (K.Name n) (K.Word v) class is long table was far row =
+      let same = same-front is_in_name x y r s e (shape-passes x is.0.shape) long (rw was (shape-passes (word_text v) (word-shape v))) far in
+      absurd (is.0.not_reserved v (same ∙ was))
+  one-token (K.Name n) (K.Name m) class is long table was far row =
+      let same : x ≡ y = same-front is_in_name x y r s e (shape-passes x is.0.shape) long (shape-passes y was.0.shape) far in
+      let tables : a ≡ b = table ∙ ap (λ t. with_text t before) same ∙ sym row in
+      let ids : Some n.id ≡ Some m.id = sym is.1 ∙ ap (λ t. place_of t a) same ∙ ap (place_of y) tables ∙ was.1 in
+      (same, ap K.Name (same-name n m cc))
+  one-token (K.Number n) (K.Number m) class is long table was far row =
+      let same : x ≡ y = same-front is_ascii_digit x y r s e is.0.1 long was.0.1 far in
+      (same, ap K.Number (is.2 ∙ ap (λ t. pos (decimal t)) same ∙ sym was.2))
+  one-token (K.Day d) (K.Day c) class is long table was far row =
+      let lengths : length x ≡ length y = ap length is.1 ∙ ap suc (day-length is.2) ∙ sym (ap suc (day-length was.2)) ∙ sym (ap length was.1) in
+      let same : x ≡ y = same-length x y r s e lengths in
+      let whole : 64 ∷ is.0 ≡ 64 ∷ was.0 = sym is.1 ∙ same ∙ was.1 in
+      let texts : is.0 ≡ was.0 = cc in
+      (same, ap K.Day (day_of_text_is was.0 d c (subst (λ t. IsDayText t d) texts is.2) was.2))
+  one-token (K.Sign p) (K.Sign q) class is long table was far row =
+      let signs = one-sign p q r s (ap (λ t. t ++ r) (sym is) ∙ e ∙ ap (λ t. t ++ s) was) long far in
+      (is ∙ ap sign_text signs ∙ sym was, ap K.Sign signs)
+  one-token what other class is long table was far row = absurd (omega arith)
 
 abbrev class_of_piece : {before after : Table} {place : ℕ} {bytes rest : List ℕ} {here : List Token} → Piece before place bytes rest here after → ℕ
 class_of_piece (Piece.Blank byte blank) = 0
@@ -122,7 +124,7 @@ by-class (Piece.Comment x h m) (Piece.Lexeme t is) class e = absurd (omega (arit
 by-class (Piece.Lexeme t is) (Piece.Blank d k) class e = absurd (omega (arith, token-class-high t.what))
 by-class (Piece.Lexeme t is) (Piece.Comment y k n) class e = absurd (omega (arith, token-class-high t.what))
 by-class (Piece.Lexeme {before = before} {after = a} {place = place} {bytes = x} {rest = r} t is) (Piece.Lexeme {after = b} {bytes = y} {rest = s} u was) class e =
-    let one = one-token before a b t.what u.what x y r s class e is.text is.longest is.table was.text was.longest was.table in
+    let one = one-token before a b x y r s e t.what u.what class is.text is.longest is.table was.text was.longest was.table in
     let to : t.to ≡ u.to = is.to ∙ ap (λ z. place + length z) one.0 ∙ sym was.to in
     (one.0, ap (λ v. v ∷ []) (same-token t u one.1 (is.from ∙ sym was.from) to), is.table ∙ ap (λ w. table_with w x before) one.1 ∙ ap (λ z. table_with u.what z before) one.0 ∙ sym was.table)
 

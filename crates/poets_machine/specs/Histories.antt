@@ -3,6 +3,6 @@ use Rattle.std.specs.Prelude.{ℕ, ◌==◌, List, [], ◌∷◌, if◌then◌el
 
 module _ {C : Type 0} where
   -- the calls of one clerk in a history, in order
-  abbrev pub own_calls : ℕ → List (ℕ × C) → List C
-  own_calls clerk [] = []
-  own_calls clerk (e ∷ es) = if e.0 == clerk then e.1 ∷ own_calls clerk es else own_calls clerk es
+  abbrev pub calls_by : ℕ → List (ℕ × C) → List C
+  calls_by clerk [] = []
+  calls_by clerk (e ∷ es) = if e.0 == clerk then e.1 ∷ calls_by clerk es else calls_by clerk es

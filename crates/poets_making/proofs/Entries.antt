@@ -27,7 +27,7 @@ use Rattle.poets_history.specs.Histories.{AnswersIn, IsLegal, IsRightHistory}
 use Rattle.poets_history.specs.Replies.{Legal}
 use Rattle.poets_history.proofs.Histories.{calls_last, legal_prefix, one_history}
 use Rattle.poets_clerks.specs.Histories.{AreReplies, HasScripts}
-use Rattle.poets_clerks.specs.Scripts.{calls_of as calls_of_script}
+use Rattle.poets_clerks.specs.Scripts.{script_calls as calls_of_script}
 use Rattle.poets_clerks.proofs.Scripted.{scripts_hold, scripts_mapped}
 use Rattle.poets_engine.specs.State.{commands_of, plain_calls}
 use Rattle.poets_session.specs.Sessions.{commands_in}

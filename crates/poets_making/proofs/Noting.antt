@@ -30,25 +30,26 @@ IsLegal-more book reports h entry legal answers =
 pub AreNoted-none : (e : State) → IsLegal (book_of_rules e.rules) (reports_of_rules e.rules) [] → e.calls ≡ [] → AreNoted e []
 AreNoted-none e legal calls = record { legal = legal; calls = sym (ap plain_calls calls) }
 
--- one entry more among the entries of the code
-pub AreNoted-entry : (e e' : State) (clerk : ℕ) (entries new : List Entry) (command : Command) (entry : Entry) (kept : Kept) →
-    AreNoted e (history_of entries) → OwesNext e command kept → Fulfils kept (reply_of entry.reply) → entry.clerk ≡ clerk → arc_value entry.command ≡ command →
-    e'.calls ≡ e.calls ++ (clerk, command) ∷ [] → e'.rules ≡ e.rules → new ≡ entries ++ entry ∷ [] → AreNoted e' (history_of new)
-AreNoted-entry e e' clerk entries new command entry kept noted owes reply own same calls frame pushed =
-    let h = history_of entries in
-    let answers = reply (book_of_rules e.rules) (reports_of_rules e.rules) (plain_calls e.calls) (command_of command) owes in
-    let after = subst (λ cs. AnswersIn (book_of_rules e.rules) (reports_of_rules e.rules) cs (command_of command) (reply_of entry.reply)) (sym noted.calls) answers in
-    let asked = subst (λ c. AnswersIn (book_of_rules e.rules) (reports_of_rules e.rules) (calls_of h) (command_of c) (reply_of entry.reply)) (sym same) after in
-    let legal = IsLegal-more (book_of_rules e.rules) (reports_of_rules e.rules) h (entry_of entry) noted.legal asked in
-    subst (AreNoted e') (sym (ap history_of pushed ∙ map-append entry_of entries (entry ∷ []))) (record {
-      legal = subst (λ r. IsLegal (book_of_rules r) (reports_of_rules r) (h ++ entry_of entry ∷ [])) (sym frame) legal;
-      calls =
-          calls_last h (entry_of entry) ∙ ap (λ cs. cs ++ (entry.clerk, command_of (arc_value entry.command)) ∷ []) noted.calls
-          ∙ ap (λ k. plain_calls e.calls ++ (k, command_of (arc_value entry.command)) ∷ []) own
-          ∙ ap (λ c. plain_calls e.calls ++ (clerk, command_of c) ∷ []) same
-          ∙ sym (map-append (λ p. (p.0, command_of p.1)) e.calls ((clerk, command) ∷ []))
-          ∙ sym (ap plain_calls calls);
-    })
+-- one entry more among the entries of the code, where the engine owes this
+module _ (e : State) (entries : List Entry) (noted : AreNoted e (history_of entries)) (command : Command) (kept : Kept) (owes : OwesNext e command kept) where
+  pub AreNoted-entry : (e' : State) (clerk : ℕ) (new : List Entry) (entry : Entry) → Fulfils kept (reply_of entry.reply) → entry.clerk ≡ clerk →
+      arc_value entry.command ≡ command → e'.calls ≡ e.calls ++ (clerk, command) ∷ [] → e'.rules ≡ e.rules → new ≡ entries ++ entry ∷ [] →
+      AreNoted e' (history_of new)
+  AreNoted-entry e' clerk new entry reply own same calls frame pushed =
+      let h = history_of entries in
+      let answers = reply (book_of_rules e.rules) (reports_of_rules e.rules) (plain_calls e.calls) (command_of command) owes in
+      let after = subst (λ cs. AnswersIn (book_of_rules e.rules) (reports_of_rules e.rules) cs (command_of command) (reply_of entry.reply)) (sym noted.calls) answers in
+      let asked = subst (λ c. AnswersIn (book_of_rules e.rules) (reports_of_rules e.rules) (calls_of h) (command_of c) (reply_of entry.reply)) (sym same) after in
+      let legal = IsLegal-more (book_of_rules e.rules) (reports_of_rules e.rules) h (entry_of entry) noted.legal asked in
+      subst (AreNoted e') (sym (ap history_of pushed ∙ map-append entry_of entries (entry ∷ []))) (record {
+        legal = subst (λ r. IsLegal (book_of_rules r) (reports_of_rules r) (h ++ entry_of entry ∷ [])) (sym frame) legal;
+        calls =
+            calls_last h (entry_of entry) ∙ ap (λ cs. cs ++ (entry.clerk, command_of (arc_value entry.command)) ∷ []) noted.calls
+            ∙ ap (λ k. plain_calls e.calls ++ (k, command_of (arc_value entry.command)) ∷ []) own
+            ∙ ap (λ c. plain_calls e.calls ++ (clerk, command_of c) ∷ []) same
+            ∙ sym (map-append (λ p. (p.0, command_of p.1)) e.calls ((clerk, command) ∷ []))
+            ∙ sym (ap plain_calls calls);
+      })
 
 -- where a result is good, what follows
 pub if_ok : {X E P Q : Type 0} (r : Result X E) → (P → Q) → OnOk r P → IfOk r (λ _. Q)

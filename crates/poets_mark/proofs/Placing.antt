@@ -20,7 +20,7 @@ use Rattle.poets_session.specs.Pieces.{Piece, is_end, after_end}
 use Rattle.poets_session.specs.Sessions.{Text}
 use Rattle.poets_session.specs.Refusals.{Refusal, BadByte, LongNumber, LongName, refusal_at_byte, IsUnread, IsUnreadable, AreRefused, IsRefused}
 use Rattle.poets_session.specs.Causes.{IsCauseOf}
-use Rattle.poets_mark.specs.Places.{statement_tokens, first_place, byte_of, IsBeginOf, IsWithin, IsNamePlace, IsTypePlace, IsPlaceOf}
+use Rattle.poets_mark.specs.Places.{statement_tokens, first_place, byte_of, IsBeginOf, IsStopOf, IsWithin, IsNamePlace, IsTypePlace, IsPlaceOf}
 use Rattle.poets_mark.proofs.Named.{at_token}
 
 -- ---- statements after the end of one
@@ -61,6 +61,10 @@ begin_inside text number place b =
 
 within_inside : (text : Text) (number place : ℕ) → IsWithin text number place → place ≤ length text
 within_inside text number place b =
+    or_end text place (first_place (drop b.count (statement_tokens (number - 1) b.tokens))) (later_inside b.names text 0 b.count (number - 1) b.tokens (standing b.lexed text [] refl refl)) b.here
+
+stop_inside : (text : Text) (number place : ℕ) → IsStopOf text number place → place ≤ length text
+stop_inside text number place b =
     or_end text place (first_place (drop b.count (statement_tokens (number - 1) b.tokens))) (later_inside b.names text 0 b.count (number - 1) b.tokens (standing b.lexed text [] refl refl)) b.here
 
 name_inside : (text : Text) (number : ℕ) (x : Name) (place : ℕ) → IsNamePlace text number x place → place ≤ length text
@@ -117,7 +121,7 @@ refusal_inside text form names r place (IsRefused.Invalid {statements = statemen
 pub fault_inside : (text : Text) (form : Form) (names : Table) (cause : SessionCause) (place : ℕ) → IsCauseOf (IsRefused text form names) cause → IsPlaceOf text cause place → place ≤ length text
 fault_inside text form names (C.Lex fault) place (inl e) is = absurd cc
 fault_inside text form names (C.Lex fault) place (inr (r, told, refused)) is = refusal_inside text form names r place refused (sym (byte_told fault r told) ∙ is)
-fault_inside text form names (C.Syntax number F.NoSentence) place h is = within_inside text number place is
+fault_inside text form names (C.Syntax number F.NoSentence) place h is = stop_inside text number place is
 fault_inside text form names (C.Syntax number F.TooDeep) place h is = begin_inside text number place is
 fault_inside text form names (C.Syntax number F.Memory) place h is = begin_inside text number place is
 fault_inside text form names (C.Misplaced number) place h is = begin_inside text number place is

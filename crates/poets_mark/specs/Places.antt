@@ -9,6 +9,8 @@ use Rattle.poets_lex.specs.declared.fault.LexFault.{LexFault}
 use Rattle.poets_lex.specs.declared.fault.LexFault.TheVariants as L
 use Rattle.poets_lex.specs.Table.{Table}
 use Rattle.poets_lex.specs.Lexes.{Lexes}
+use Rattle.poets_grammar.specs.Tokens.{toks}
+use Rattle.poets_parse.specs.Sentences.{AreBegun}
 use Rattle.poets_parse.specs.declared.fault.SyntaxFault.TheVariants as F
 use Rattle.poets_types.specs.declared.cause.TypeCause.{TypeCause}
 use Rattle.poets_types.specs.declared.cause.TypeCause.TheVariants as T
@@ -45,6 +47,17 @@ pub record IsWithin (text : Text) (number place : ℕ) : Type 0 where
   -- so many of its tokens are before the place
   pub count : ℕ
   pub inside : count ≤ length (ahead_of_end (statement_tokens (number - 1) tokens))
+  pub here : place ≡ unwrap_or (first_place (drop count (statement_tokens (number - 1) tokens))) (length text)
+
+-- the statement with the number ceases to begin a sentence here: at the first of its tokens with
+-- which none begins, or at what comes after them all, its `;;` or the end of the text
+pub record IsStopOf (text : Text) (number place : ℕ) : Type 0 where
+  pub tokens : List Token
+  pub names : Table
+  pub lexed : Lexes [] text 0 tokens names
+  -- so many of its tokens begin a sentence
+  pub count : ℕ
+  pub begun : AreBegun (toks (ahead_of_end (statement_tokens (number - 1) tokens))) count
   pub here : place ≡ unwrap_or (first_place (drop count (statement_tokens (number - 1) tokens))) (length text)
 
 -- a token of the statement with the number is here, and it is the name
@@ -88,10 +101,10 @@ byte_of (L.LongName at) = Some at
 byte_of L.Memory = None
 
 -- the place of the fault is here: at the byte, or at the name, or where the statement begins, or
--- within a statement that is no sentence or not typed
+-- where one that is no sentence ceases to begin one, or within a statement that is not typed
 abbrev pub IsPlaceOf : Text → SessionCause → ℕ → Type 0
 IsPlaceOf text (C.Lex fault) place = byte_of fault ≡ Some place
-IsPlaceOf text (C.Syntax number F.NoSentence) place = IsWithin text number place
+IsPlaceOf text (C.Syntax number F.NoSentence) place = IsStopOf text number place
 IsPlaceOf text (C.Syntax number fault) place = IsBeginOf text number place
 IsPlaceOf text (C.Misplaced number) place = IsBeginOf text number place
 IsPlaceOf text (C.TooMany number) place = IsBeginOf text number place

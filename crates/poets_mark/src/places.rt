@@ -1,7 +1,8 @@
 //! The places of faults.
 ghost use Rattle.std.specs.Prelude.{◌≡◌, ◌≤◌, length, unwrap_or, IfOk};
 ghost use Rattle.poets_value.specs.Limits.{longest_text};
-ghost use Rattle.poets_mark.specs.Places.{first_place, IsBeginOf, IsWithin, IsNamePlace, IsTypePlace, IsPlaceOf};
+ghost use Rattle.poets_mark.specs.Places.{first_place, IsBeginOf, IsStopOf, IsWithin, IsNamePlace, IsTypePlace};
+ghost use Rattle.poets_mark.specs.Places.{IsPlaceOf};
 
 use crate::naming::{all_said, faulty_token};
 use crate::pieces::from_statement;
@@ -40,7 +41,7 @@ fn begin_of(alloc: Global, text: &[u8], number: u64) -> Result<usize, Memory>
 // cannot stand there, or after them all.
 fn stop_of(alloc: Global, text: &[u8], number: u64) -> Result<usize, Memory>
     requires { length text.now ≤ longest_text }
-    ensures { IfOk result (IsWithin text.now number) }
+    ensures { IfOk result (IsStopOf text.now number) }
 {
     let mut names = Names::new(alloc);
     let Ok(tokens) = tokens(alloc, text, &mut names) else {

@@ -1,4 +1,5 @@
 pub mod Depths
+pub mod Counts
 pub mod Loops
 pub mod Lists
 pub mod StatementFaults

@@ -1,8 +1,9 @@
 -- Tokens that are a sentence: a statement which is not too deep.
-use Rattle.std.specs.Prelude.{ℕ, List}
+use Rattle.std.specs.Prelude.{◌≡◌, ℕ, List}
 use Rattle.poets_lex.specs.declared.token.Tok.{Tok}
 use Rattle.poets_command.specs.Said.{Statement}
 use Rattle.poets_grammar.specs.Statements.{IsStatement}
+use Rattle.poets_grammar.specs.Begins.{IsBegun}
 use Rattle.poets_grammar.specs.TooDeep.{IsDeeper, IsTooDeep, most_open, most_open_stored}
 
 -- the tokens are no statement, and not because more than `most` brackets are open
@@ -20,3 +21,7 @@ AreNoSentenceStored tokens = AreNoSentenceFor most_open_stored tokens
 -- the fact holds where the tokens are a statement that is not too deep
 abbrev pub IfSentence : List Tok → Type 0 → Type 0
 IfSentence tokens fact = ¬ (IsTooDeep tokens) → (s : Statement) → IsStatement tokens s → fact
+
+-- so many of the tokens begin a sentence, and no more of them do; none where the tokens are too deep to be read
+abbrev pub AreBegun : List Tok → ℕ → Type 0
+AreBegun tokens count = (¬ (IsTooDeep tokens) → IsBegun tokens count) × (IsTooDeep tokens → count ≡ 0)

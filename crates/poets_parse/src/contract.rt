@@ -63,7 +63,7 @@ fn sequence(alloc: Global, tokens: &[Token]) -> Result<(Term, &[Token]), ReadFau
 }
 
 // simple, by its first token
-#[tactic(auto, using(poets_grammar::proofs::ContractComplete::simple_again), unfolding(poets_grammar::specs::ContractReading::simple_step))]
+#[tactic(auto, using(poets_grammar::proofs::ContractReaders::simple_again), unfolding(poets_grammar::specs::ContractReading::simple_step))]
 #[cycle(contract)]
 fn simple(alloc: Global, tokens: &[Token]) -> Result<(Term, &[Token]), ReadFault>
     ensures gives { GivesFront contract_of result (reading.simple (toks tokens.now)) }

@@ -16,7 +16,7 @@ use poets_lex::{Sign, Tok, Token, Word};
 use std::alloc::Global;
 
 // expression = conjunction { "or" conjunction }
-#[tactic(auto, using(crate::proofs::Loops::joining, poets_grammar::proofs::Complete::expression_again), unfolding(poets_grammar::specs::Reading::disjunction))]
+#[tactic(auto, using(crate::proofs::Loops::joining, poets_grammar::proofs::ExpressionReaders::expression_again), unfolding(poets_grammar::specs::Reading::disjunction))]
 #[cycle(expression)]
 pub(crate) fn expression(alloc: Global, tokens: &[Token]) -> Result<(Expr, &[Token]), ReadFault>
     ensures gives { GivesFront expression_of result (reading.expression (toks tokens.now)) }

@@ -1,5 +1,6 @@
 //! Why tokens are no statement.
-ghost use Rattle.std.specs.Prelude.{◌≡◌, ◌+◌, length};
+ghost use Rattle.std.specs.Prelude.{◌≡◌, suc, length};
+ghost use Rattle.poets_grammar.specs.Tokens.{toks};
 ghost use Rattle.poets_parse.specs.declared.fault.ReadFault.TheVariants as R;
 
 use poets_lex::Token;
@@ -34,15 +35,17 @@ pub(crate) enum ReadFault {
 
 impl ReadFault {
     /// The first of these tokens, or their end, is not what has to stand there.
+    #[tactic(auto, using(crate::proofs::Counts::as_many))]
     pub(crate) fn at(tokens: &[Token]) -> ReadFault
-        ensures { result ≡ R.Unfit (length tokens.now) }
+        ensures { result ≡ R.Unfit (length (toks tokens.now)) }
     {
         ReadFault::Unfit { left: tokens.len() }
     }
 
     /// The token right ahead of these is not what has to stand there.
+    #[tactic(auto, using(crate::proofs::Counts::as_many))]
     pub(crate) fn ahead_of(tokens: &[Token]) -> ReadFault
-        ensures { result ≡ R.Unfit (length tokens.now + 1) }
+        ensures { result ≡ R.Unfit (suc (length (toks tokens.now))) }
     {
         ReadFault::Unfit {
             left: tokens.len() + 1,

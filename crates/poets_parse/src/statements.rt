@@ -6,6 +6,7 @@ ghost use Rattle.poets_grammar.specs.StatementReading as reading;
 ghost use Rattle.poets_grammar.specs.Statements.{IsStatement};
 ghost use Rattle.poets_grammar.specs.TooDeep.{IsDeeper, IsTooDeep, IsTooDeepStored};
 ghost use Rattle.poets_parse.specs.Sentences.{AreNoSentence, AreNoSentenceFor, AreNoSentenceStored, IfSentence};
+ghost use Rattle.poets_parse.specs.Sentences.{AreBegun};
 ghost use Rattle.poets_parse.specs.code.Gives.{Gives};
 
 use crate::SyntaxFault;
@@ -108,6 +109,7 @@ pub fn statement_stored(alloc: Global, tokens: &[Token]) -> Result<Statement, Sy
 pub fn begun(alloc: Global, tokens: &[Token]) -> Result<usize, Memory>
     ensures within { IfOk result (λ count. count ≤ length tokens.now) }
     ensures whole { IfSentence (toks tokens.now) (IfOk result (λ all. all ≡ length tokens.now)) }
+    ensures exact { IfOk result (AreBegun (toks tokens.now)) }
 {
     if is_too_deep(tokens) {
         return Ok(0);

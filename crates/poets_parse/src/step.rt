@@ -47,7 +47,7 @@ pub(crate) fn behind_word(wanted: Word, tokens: &[Token]) -> Option<&[Token]>
 
 // What stands after the sign.
 pub(crate) fn sign(wanted: Sign, tokens: &[Token]) -> Result<&[Token], ReadFault>
-    ensures gives { Gives (λ r. toks r.now) result (reading.behind_sign wanted (toks tokens.now)) }
+    ensures gives { Gives (λ r. toks r.now) result (reading.sign wanted (toks tokens.now)) }
     ensures shorter { IfOk result (λ r. length r.now < length tokens.now) }
 {
     behind_sign(wanted, tokens).ok_or(ReadFault::at(tokens))
@@ -55,7 +55,7 @@ pub(crate) fn sign(wanted: Sign, tokens: &[Token]) -> Result<&[Token], ReadFault
 
 // What stands after the word.
 pub(crate) fn word(wanted: Word, tokens: &[Token]) -> Result<&[Token], ReadFault>
-    ensures gives { Gives (λ r. toks r.now) result (reading.behind_word wanted (toks tokens.now)) }
+    ensures gives { Gives (λ r. toks r.now) result (reading.word wanted (toks tokens.now)) }
     ensures shorter { IfOk result (λ r. length r.now < length tokens.now) }
 {
     behind_word(wanted, tokens).ok_or(ReadFault::at(tokens))

@@ -63,8 +63,8 @@ CanWriteNumberOf (plain.Command.Void x k) = CanWriteNumber k
 CanWriteNumberOf (plain.Command.Read n) = CanWriteNumber n
 CanWriteNumberOf _ = Unit {0}
 
--- the command can be written with the names of the table: no amount is negative, and a portfolio is
--- over one name or more
+-- the command can be written with the names of the table: the amount of a transmission is not
+-- negative, a place or a number is one of the language, and a portfolio is over one name or more
 abbrev pub CanWriteCommand : Table → plain.Command → Type 0
 CanWriteCommand names (plain.Command.Register x c) = IsListed names x × CanWriteContract names c
 CanWriteCommand names (plain.Command.Transmit x e) =

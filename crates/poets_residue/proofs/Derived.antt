@@ -15,13 +15,14 @@ use Rattle.poets_residue.proofs.Equations.{after-plus, after-par, after-seq}
 
 module _ (d : Derivation) where
   -- two rows, derived one after the other
-  pub both_after : (old mid new : List Node) → Extends old mid → Extends mid new → (a b f g : ℕ) → a < length old → b < length old →
-      IsResidual d mid (contract_at old a) f → IsResidual d new (contract_at mid b) g → AreResiduals d new a b (f, g)
-  both_after old mid new x y a b f g l m s t = record {
-    first = subst (λ c. IsResidual d new c f) (sym (contract_at-later old new (extends_twice old mid new x y) a l))
-        (stands_later mid new y f (after (book_by d) (marks_by d) d.event.now (contract_at old a)) s);
-    second = subst (λ c. IsResidual d new c g) (sym (contract_at-later mid new y b (omega (arith, m, length-extends old mid x)))) t;
-  }
+  module _ (old mid new : List Node) (x : Extends old mid) (y : Extends mid new) where
+    pub both_after : (a b f g : ℕ) → a < length old → b < length old → IsResidual d mid (contract_at old a) f → IsResidual d new (contract_at mid b) g →
+        AreResiduals d new a b (f, g)
+    both_after a b f g l m s t = record {
+      first = subst (λ c. IsResidual d new c f) (sym (contract_at-later old new (extends_twice old mid new x y) a l))
+          (stands_later mid new y f (after (book_by d) (marks_by d) d.event.now (contract_at old a)) s);
+      second = subst (λ c. IsResidual d new c g) (sym (contract_at-later mid new y b (omega (arith, m, length-extends old mid x)))) t;
+    }
 
   module _ (nodes : List Node) (a b : ℕ) (p : ℕ × ℕ) (s : AreResiduals d nodes a b p) where
     pub plus_after : plus (contract_at nodes p.0) (contract_at nodes p.1)

@@ -172,15 +172,16 @@ module _ (d : Derivation) where
     }
 
     -- a transmission
-    pub transmit_done : IsTable t.arena → place < length t.arena → noted t.memo place ≡ None → (b : Binders) (p : Expression) (c : Contract) → contract_at t.arena place ≡ Transmit b p c →
-        (x y : ℕ) → x ≤ y → y ≤ x + questions (Transmit b p c) → y ≤ x + 1 + arguments c → IfOk r (IsResidual d nodes (Transmit b p c)) →
-        DerivesAnew d (contract_at t.arena place) t (with_rows t nodes) x y r
-    transmit_done table l none b p c whole x y up few fewer h =
-        let book = book_by d in
-        let marks = marks_by d in
-        paid table l none (subst (λ k. IsAmong k (ready book marks k)) (sym whole) (ready-transmit book marks b p c)) x y up
-        (subst (λ k. AsksInWidth book marks k x y) (sym whole) (omega (arith, few, size-width book marks (Transmit b p c))))
-        (omega (arith, fewer, ap (asked_of book) whole)) (subst (λ k. IfOk r (IsResidual d nodes k)) (sym whole) h)
+    module _ (table : IsTable t.arena) (l : place < length t.arena) (none : noted t.memo place ≡ None) where
+      pub transmit_done : (b : Binders) (p : Expression) (c : Contract) → contract_at t.arena place ≡ Transmit b p c →
+          (x y : ℕ) → x ≤ y → y ≤ x + questions (Transmit b p c) → y ≤ x + 1 + arguments c → IfOk r (IsResidual d nodes (Transmit b p c)) →
+          DerivesAnew d (contract_at t.arena place) t (with_rows t nodes) x y r
+      transmit_done b p c whole x y up few fewer h =
+          let book = book_by d in
+          let marks = marks_by d in
+          paid table l none (subst (λ k. IsAmong k (ready book marks k)) (sym whole) (ready-transmit book marks b p c)) x y up
+          (subst (λ k. AsksInWidth book marks k x y) (sym whole) (omega (arith, few, size-width book marks (Transmit b p c))))
+          (omega (arith, fewer, ap (asked_of book) whole)) (subst (λ k. IfOk r (IsResidual d nodes k)) (sym whole) h)
 
   -- ---- two rows
 
@@ -244,11 +245,11 @@ module _ (d : Derivation) where
       }
 
   -- what was made of the residuals of two rows is one of the whole
-  pub joined_found : (join : Contract → Contract → Contract) (old mid new : List Node) → Extends old mid → (a b : ℕ) → a < length old → b < length old →
-      (c : Contract) → c ≡ join (contract_at old a) (contract_at old b) → {E : Type 0} (r : Result ℕ E) →
-      IfOk r (IsResidual d new (join (contract_at mid a) (contract_at mid b))) → IfOk r (IsResidual d new c)
-  joined_found join old mid new z a b l m c whole r h =
-      subst (λ k. IfOk r (IsResidual d new k)) (ap₂ join (contract_at-later old mid z a l) (contract_at-later old mid z b m) ∙ sym whole) h
+  module _ (join : Contract → Contract → Contract) (old mid new : List Node) (z : Extends old mid) (a b : ℕ) (l : a < length old) (m : b < length old) where
+    pub joined_found : (c : Contract) → c ≡ join (contract_at old a) (contract_at old b) → {E : Type 0} (r : Result ℕ E) →
+        IfOk r (IsResidual d new (join (contract_at mid a) (contract_at mid b))) → IfOk r (IsResidual d new c)
+    joined_found c whole r h =
+        subst (λ k. IfOk r (IsResidual d new k)) (ap₂ join (contract_at-later old mid z a l) (contract_at-later old mid z b m) ∙ sym whole) h
 
   -- and so where the first of two rows may not end
   pub passed_found : (old mid new : List Node) → Extends old mid → (a b f : ℕ) → b < length old → IsResidual d mid (contract_at old a) f →

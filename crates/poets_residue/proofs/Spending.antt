@@ -102,18 +102,18 @@ module _ (book : Book) (marks : Marks) where
   }
 
   -- what one contract asked, told of another, before whose notes there were fewer and after whose there are more
-  pub same_spent : (a c : Contract) (Before Before' After After' : Contract → Type 0) (x y : ℕ) {E : Type 0} (r : Result ℕ E) → ReadyIn book marks a c →
-      ((d : Contract) → Before d → Before' d) → ((d : Contract) → After' d → After d) → IsSpent book marks a Before' After' x y r →
-      IsSpent book marks c Before After x y r
-  same_spent a c Before Before' After After' x y r m f g s = record {
-    begun = s.begun;
-    different = s.different;
-    standing = λ d h. m d (s.standing d h);
-    fresh = λ d h k. s.fresh d h (f d k);
-    noted = one_ok (λ _. (d : Contract) → IsAmong d s.begun → After' d) (λ _. (d : Contract) → IsAmong d s.begun → After d) r (λ q n d h. g d (n d h)) s.noted;
-    kept = one_ok (λ _. (d : Contract) → Before' d → After' d) (λ _. (d : Contract) → Before d → After d) r (λ q n d h. g d (n d (f d h))) s.kept;
-    asks = s.asks;
-  }
+  module _ (a c : Contract) (Before Before' After After' : Contract → Type 0) where
+    pub same_spent : (x y : ℕ) {E : Type 0} (r : Result ℕ E) → ReadyIn book marks a c → ((d : Contract) → Before d → Before' d) →
+        ((d : Contract) → After' d → After d) → IsSpent book marks a Before' After' x y r → IsSpent book marks c Before After x y r
+    same_spent x y r m f g s = record {
+      begun = s.begun;
+      different = s.different;
+      standing = λ d h. m d (s.standing d h);
+      fresh = λ d h k. s.fresh d h (f d k);
+      noted = one_ok (λ _. (d : Contract) → IsAmong d s.begun → After' d) (λ _. (d : Contract) → IsAmong d s.begun → After d) r (λ q n d h. g d (n d h)) s.noted;
+      kept = one_ok (λ _. (d : Contract) → Before' d → After' d) (λ _. (d : Contract) → Before d → After d) r (λ q n d h. g d (n d (f d h))) s.kept;
+      asks = s.asks;
+    }
 
   module _ (a b c : Contract) (Before Mid : Contract → Type 0) (x y z : ℕ) {E : Type 0} (p : ℕ) (m : ReadyIn book marks a c) (n : ReadyIn book marks b c)
       (s : IsSpent book marks a Before Mid x y {E = E} (Ok p)) where
@@ -139,30 +139,31 @@ module _ (book : Book) (marks : Marks) where
         over (Err e) g = tt
 
   -- what an application asked, with the body that it is unfolded to
-  pub body_spent : (a c : Contract) (Before After : Contract → Type 0) (x y z : ℕ) {E : Type 0} (r : Result ℕ E) → y ≤ x + asked_of book c →
-      IsAmong c (ready book marks c) → (IsAmong c (ready book marks a) → ⊥) → (Before c → ⊥) → ReadyIn book marks a c →
-      IsSpent book marks a Before After y z r → IsSpent book marks c Before (λ d. (d ≡ c) ⊎ After d) x z r
-  body_spent a c Before After x y z r l here apart new m s = record {
-    begun = c ∷ s.begun;
-    different = distinct_more c s.begun (λ h. apart (s.standing c h)) s.different;
-    standing = λ d h. elim (among_one d c s.begun h) [
-      | inl e ↦ subst (λ k. IsAmong k (ready book marks c)) (sym e) here
-      | inr k ↦ m d (s.standing d k)
-    ];
-    fresh = λ d h. elim (among_one d c s.begun h) [ inl e ↦ subst (λ k. Before k → ⊥) (sym e) new | inr k ↦ s.fresh d k ];
-    noted = either r s.noted;
-    kept = further r s.kept;
-    asks = omega (arith, l, s.asks, sum_by-cons (asked_of book) c s.begun);
-  }
-    where
-      either : {E : Type 0} (r : Result ℕ E) → IfOk r (λ _. (d : Contract) → IsAmong d s.begun → After d) →
-          IfOk r (λ _. (d : Contract) → IsAmong d (c ∷ s.begun) → (d ≡ c) ⊎ After d)
-      either (Ok q) f = λ d h. elim (among_one d c s.begun h) [ inl e ↦ inl e | inr k ↦ inr (f d k) ]
-      either (Err e) f = tt
+  module _ (a c : Contract) (Before After : Contract → Type 0) where
+    pub body_spent : (x y z : ℕ) {E : Type 0} (r : Result ℕ E) → y ≤ x + asked_of book c →
+        IsAmong c (ready book marks c) → (IsAmong c (ready book marks a) → ⊥) → (Before c → ⊥) → ReadyIn book marks a c →
+        IsSpent book marks a Before After y z r → IsSpent book marks c Before (λ d. (d ≡ c) ⊎ After d) x z r
+    body_spent x y z r l here apart new m s = record {
+      begun = c ∷ s.begun;
+      different = distinct_more c s.begun (λ h. apart (s.standing c h)) s.different;
+      standing = λ d h. elim (among_one d c s.begun h) [
+        | inl e ↦ subst (λ k. IsAmong k (ready book marks c)) (sym e) here
+        | inr k ↦ m d (s.standing d k)
+      ];
+      fresh = λ d h. elim (among_one d c s.begun h) [ inl e ↦ subst (λ k. Before k → ⊥) (sym e) new | inr k ↦ s.fresh d k ];
+      noted = either r s.noted;
+      kept = further r s.kept;
+      asks = omega (arith, l, s.asks, sum_by-cons (asked_of book) c s.begun);
+    }
+      where
+        either : {E : Type 0} (r : Result ℕ E) → IfOk r (λ _. (d : Contract) → IsAmong d s.begun → After d) →
+            IfOk r (λ _. (d : Contract) → IsAmong d (c ∷ s.begun) → (d ≡ c) ⊎ After d)
+        either (Ok q) f = λ d h. elim (among_one d c s.begun h) [ inl e ↦ inl e | inr k ↦ inr (f d k) ]
+        either (Err e) f = tt
 
-      further : {E : Type 0} (r : Result ℕ E) → IfOk r (λ _. (d : Contract) → Before d → After d) → IfOk r (λ _. (d : Contract) → Before d → (d ≡ c) ⊎ After d)
-      further (Ok q) f = λ d h. inr (f d h)
-      further (Err e) f = tt
+        further : {E : Type 0} (r : Result ℕ E) → IfOk r (λ _. (d : Contract) → Before d → After d) → IfOk r (λ _. (d : Contract) → Before d → (d ≡ c) ⊎ After d)
+        further (Ok q) f = λ d h. inr (f d h)
+        further (Err e) f = tt
 
   -- in all no more than once
   pub spent_once : (c : Contract) (Before After : Contract → Type 0) (x y : ℕ) {E : Type 0} (r : Result ℕ E) → IsSpent book marks c Before After x y r →
@@ -196,15 +197,15 @@ noted_besides old new x place next l memo more m d (inr h) = elim (truth (nat_eq
 ]
 
 -- what was asked for a row, once that is noted
-pub noted_spent : (book : Book) (marks : Marks) (old new : List Node) → Extends old new →
-    (place next : ℕ) → place < length old → (before mid more : ℕ → Option ℕ) (x y : ℕ) {E : Type 0} (r : Result ℕ E) →
-    IsSpent book marks (contract_at old place) (IsNoted old before) (IsNotedBut (contract_at old place) new mid)
-    x y {E = E} (Ok next) → IfOk r (λ _. (k : ℕ) → more k ≡ cond (nat_eq place k) (Some next) (mid k)) →
-    IsSpent book marks (contract_at old place) (IsNoted old before) (IsNoted new more) x y r
-noted_spent book marks old new grows place next l before mid more x y r s m =
-    let here = contract_at old place in
-    let After = IsNotedBut here new mid in
-    part_spent book marks here here (IsNoted old before) After (IsNoted new more) x y next r (λ d h. h)
-    (one_ok (λ _. (k : ℕ) → more k ≡ cond (nat_eq place k) (Some next) (mid k))
-    (λ _. (d : Contract) → After d → IsNoted new more d) r
-    (λ p n d h. noted_besides old new grows place next l mid more n d h) m) s
+module _ (book : Book) (marks : Marks) (old new : List Node) (grows : Extends old new) (place next : ℕ) (l : place < length old) where
+  pub noted_spent : (before mid more : ℕ → Option ℕ) (x y : ℕ) {E : Type 0} (r : Result ℕ E) →
+      IsSpent book marks (contract_at old place) (IsNoted old before) (IsNotedBut (contract_at old place) new mid)
+      x y {E = E} (Ok next) → IfOk r (λ _. (k : ℕ) → more k ≡ cond (nat_eq place k) (Some next) (mid k)) →
+      IsSpent book marks (contract_at old place) (IsNoted old before) (IsNoted new more) x y r
+  noted_spent before mid more x y r s m =
+      let here = contract_at old place in
+      let After = IsNotedBut here new mid in
+      part_spent book marks here here (IsNoted old before) After (IsNoted new more) x y next r (λ d h. h)
+      (one_ok (λ _. (k : ℕ) → more k ≡ cond (nat_eq place k) (Some next) (mid k))
+      (λ _. (d : Contract) → After d → IsNoted new more d) r
+      (λ p n d h. noted_besides old new grows place next l mid more n d h) m) s

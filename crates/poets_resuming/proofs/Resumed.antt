@@ -13,7 +13,7 @@ use Rattle.poets_history.specs.Histories.{IsRightHistory}
 use Rattle.poets_clerks.specs.Histories.{HasScriptParts, HasScripts}
 use Rattle.poets_disk.specs.Disks.{Seen}
 use Rattle.poets_journal.specs.Texts.{Texts}
-use Rattle.poets_machine.specs.Histories.{own_calls as machine_calls}
+use Rattle.poets_machine.specs.Histories.{calls_by as machine_calls}
 use Rattle.poets_making.proofs.Taking.{All-of_map}
 use Rattle.poets_opening.specs.Unread.{EndsUnread, GaveSession}
 use Rattle.poets_session.specs.Sessions.{Represents, commands_in, scripts_of}

@@ -77,27 +77,26 @@ module _ (book : Book) (marks : Marks) (e : Event) where
       (subst (λ x. Ways book [] a x u) (sym (all_first n s l)) (embed book [] s (subst (λ x. IsAlternative x c) alone i) way))
       (subst (λ x. Ways book [] b (e ∷ x) w) (sym (no_second n s l)) (h [] refl (is_done (next b) done) Ways.Nothing))
 
-  second_on : (n : ℕ) (a b r : Contract) (sides : List Bool) (v u w : Way) → r ≡ after book marks e b →
-      BacksWhole book marks e (min (seconds sides) n) b r u w →
-      {s : List Event} → length s ≡ n → Ways book [] (Par a r) s (W.Both sides v u) → Ways book [] (Par a b) (e ∷ s) (W.Both (true ∷ sides) v w)
-  second_on n a b r sides v u w q h {s} k (Ways.Both l first second) =
-      let all = seconds_and_first sides s l in
-      let some = length-second sides s l in
-      Ways.Both (ap suc l) first (h (second_of sides s) (omega (arith, all, some, k)) q second)
+  module _ (n : ℕ) (a b r : Contract) (q : r ≡ after book marks e b) where
+    second_on : (sides : List Bool) (v u w : Way) → BacksWhole book marks e (min (seconds sides) n) b r u w →
+        {s : List Event} → length s ≡ n → Ways book [] (Par a r) s (W.Both sides v u) → Ways book [] (Par a b) (e ∷ s) (W.Both (true ∷ sides) v w)
+    second_on sides v u w h {s} k (Ways.Both l first second) =
+        let all = seconds_and_first sides s l in
+        let some = length-second sides s l in
+        Ways.Both (ap suc l) first (h (second_of sides s) (omega (arith, all, some, k)) q second)
 
-  pub second-both : (n : ℕ) (a b r c : Contract) (sides : List Bool) (o v u w : Way) → regrouped a ≡ a → IsProper a → (r ≡ Success → ⊥) →
-      r ≡ after book marks e b → Takes r o (W.Both sides v u) → BacksWhole book marks e (min (seconds sides) n) b r u w →
-      BySecond book marks e n a b c o (W.Both (true ∷ sides) v w)
-  second-both n a b r c sides o v u w grouped some more q takes h s l i way =
-      let j : c ≡ beside_parts a r = par_both a r c grouped some more (subst (λ x. IsAlternative (par a x) c) (sym q) i) in
-      second_on n a b r sides v u w q h l (takes book [] a s (subst (λ x. Ways book [] x s o) j way))
+    module _ (grouped : regrouped a ≡ a) (some : IsProper a) (more : r ≡ Success → ⊥) where
+      pub second-both : (c : Contract) (sides : List Bool) (o v u w : Way) → Takes r o (W.Both sides v u) →
+          BacksWhole book marks e (min (seconds sides) n) b r u w → BySecond book marks e n a b c o (W.Both (true ∷ sides) v w)
+      second-both c sides o v u w takes h s l i way =
+          let j : c ≡ beside_parts a r = par_both a r c grouped some more (subst (λ x. IsAlternative (par a x) c) (sym q) i) in
+          second_on sides v u w h l (takes book [] a s (subst (λ x. Ways book [] x s o) j way))
 
-  -- a way that has no sides is none
-  pub second-none : (n : ℕ) (a b r c : Contract) (o v w : Way) → regrouped a ≡ a → IsProper a → (r ≡ Success → ⊥) →
-      r ≡ after book marks e b → Takes r o v → (IsBoth v → ⊥) → BySecond book marks e n a b c o w
-  second-none n a b r c o v w grouped some more q takes absent s l i way =
-      let j : c ≡ beside_parts a r = par_both a r c grouped some more (subst (λ x. IsAlternative (par a x) c) (sym q) i) in
-      absurd (absent (is_both (takes book [] a s (subst (λ x. Ways book [] x s o) j way))))
+      -- a way that has no sides is none
+      pub second-none : (c : Contract) (o v w : Way) → Takes r o v → (IsBoth v → ⊥) → BySecond book marks e n a b c o w
+      second-none c o v w takes absent s l i way =
+          let j : c ≡ beside_parts a r = par_both a r c grouped some more (subst (λ x. IsAlternative (par a x) c) (sym q) i) in
+          absurd (absent (is_both (takes book [] a s (subst (λ x. Ways book [] x s o) j way))))
 
   -- the first one took it
   first_on : (n : ℕ) (a b x : Contract) (sides : List Bool) (v u w : Way) → x ≡ after book marks e a →
@@ -107,24 +106,24 @@ module _ (book : Book) (marks : Marks) (e : Event) where
       let all = seconds_and_first sides s l in
       Ways.Both (ap suc l) (h (first_of sides s) (omega (arith, all, k)) q first) second
 
-  pub first-both : (n : ℕ) (a b x c : Contract) (sides : List Bool) (o v u w : Way) → regrouped (after book marks e a) ≡ after book marks e a →
-      (b ≡ Success → ⊥) → c ≡ beside_parts x b → Takes b o (W.Both sides v u) → BacksWhole book marks e (n - min (seconds sides) n) a x v w →
-      ByFirst book marks e n a b c o (W.Both (false ∷ sides) w u)
-  first-both n a b x c sides o v u w grouped some whole takes h s l i way =
-      let j : x ≡ next a = par_with (next a) b x grouped some (subst (λ z. IsAlternative (par (next a) b) z) whole i) in
-      first_on n a b x sides v u w j h l (takes book [] x s (subst (λ z. Ways book [] z s o) whole way))
-
   pub first-none : (n : ℕ) (a b x c : Contract) (o v w : Way) → c ≡ beside_parts x b → Takes b o v → (IsBoth v → ⊥) → ByFirst book marks e n a b c o w
   first-none n a b x c o v w whole takes absent s l i way =
       absurd (absent (is_both (takes book [] x s (subst (λ z. Ways book [] z s o) whole way))))
 
-  pub first-rest : (n : ℕ) (a b c : Contract) (v u w : Way) → regrouped (after book marks e a) ≡ after book marks e a → (b ≡ Success → ⊥) → HasNoFront c b →
-      Embeds b c v u → Backs book marks e 0 a Success W.Nothing w → ByFirst book marks e n a b c v (W.Both (false ∷ repeated n true) w u)
-  first-rest n a b c v u w grouped some q embed h s l i way =
-      let rest = par_rest (next a) b c grouped some q i in
-      Ways.Both (ap suc (length-repeated n true ∙ sym l))
-      (subst (λ x. Ways book [] a (e ∷ x) w) (sym (no_first n s l)) (h [] refl (is_done (next a) rest.0) Ways.Nothing))
-      (subst (λ x. Ways book [] b x u) (sym (all_second n s l)) (embed book [] s rest.1 way))
+  module _ (n : ℕ) (a b : Contract) (grouped : regrouped (after book marks e a) ≡ after book marks e a) (some : b ≡ Success → ⊥) where
+    pub first-both : (x c : Contract) (sides : List Bool) (o v u w : Way) → c ≡ beside_parts x b → Takes b o (W.Both sides v u) →
+        BacksWhole book marks e (n - min (seconds sides) n) a x v w → ByFirst book marks e n a b c o (W.Both (false ∷ sides) w u)
+    first-both x c sides o v u w whole takes h s l i way =
+        let j : x ≡ next a = par_with (next a) b x grouped some (subst (λ z. IsAlternative (par (next a) b) z) whole i) in
+        first_on n a b x sides v u w j h l (takes book [] x s (subst (λ z. Ways book [] z s o) whole way))
+
+    pub first-rest : (c : Contract) (v u w : Way) → HasNoFront c b → Embeds b c v u → Backs book marks e 0 a Success W.Nothing w →
+        ByFirst book marks e n a b c v (W.Both (false ∷ repeated n true) w u)
+    first-rest c v u w q embed h s l i way =
+        let rest = par_rest (next a) b c grouped some q i in
+        Ways.Both (ap suc (length-repeated n true ∙ sym l))
+        (subst (λ x. Ways book [] a (e ∷ x) w) (sym (no_first n s l)) (h [] refl (is_done (next a) rest.0) Ways.Nothing))
+        (subst (λ x. Ways book [] b x u) (sym (all_second n s l)) (embed book [] s rest.1 way))
 
   pub backs-first : (n : ℕ) (a b c : Contract) (v w : Way) → (IsAlternative (par a (after book marks e b)) c → ⊥) → ByFirst book marks e n a b c v w →
       Backs book marks e n (Par a b) c v w

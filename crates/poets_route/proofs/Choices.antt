@@ -74,12 +74,14 @@ chooses_last c a b d x w v u whole last head h =
     subst (λ y. Chooses y x w u) (sym whole)
     (subst (λ y. Chooses (Plus a b) x y u) (sym head) (chooses-right a b x v u (subst (λ y. Chooses y x v u) last h)))
 
-pub embeds_last : (c a b d d' x : Contract) (v w : Way) → c ≡ Plus a b → d ≡ b → d' ≡ b → IsAlternative d x → Embeds d' x v w → Embeds c x v (W.Right w)
-embeds_last c a b d d' x v w whole last last' i h =
-    subst (λ y. Embeds y x v (W.Right w)) (sym whole)
-    (embeds-right a b x v w (subst (λ y. IsAlternative y x) last i) (subst (λ y. Embeds y x v w) last' h))
+-- a choice of two, and its last one
+module _ (c a b d : Contract) (whole : c ≡ Plus a b) (last : d ≡ b) where
+  pub embeds_last : (d' x : Contract) (v w : Way) → d' ≡ b → IsAlternative d x → Embeds d' x v w → Embeds c x v (W.Right w)
+  embeds_last d' x v w last' i h =
+      subst (λ y. Embeds y x v (W.Right w)) (sym whole)
+      (embeds-right a b x v w (subst (λ y. IsAlternative y x) last i) (subst (λ y. Embeds y x v w) last' h))
 
-pub embeds_front : (c a b d d' x : Contract) (v w : Way) → c ≡ Plus a b → d ≡ b → d' ≡ a → (IsAlternative d x → ⊥) → Embeds d' x v w → Embeds c x v (W.Left w)
-embeds_front c a b d d' x v w whole last front i h =
-    subst (λ y. Embeds y x v (W.Left w)) (sym whole)
-    (embeds-left a b x v w (λ j. i (subst (λ y. IsAlternative y x) (sym last) j)) (subst (λ y. Embeds y x v w) front h))
+  pub embeds_front : (d' x : Contract) (v w : Way) → d' ≡ a → (IsAlternative d x → ⊥) → Embeds d' x v w → Embeds c x v (W.Left w)
+  embeds_front d' x v w front i h =
+      subst (λ y. Embeds y x v (W.Left w)) (sym whole)
+      (embeds-left a b x v w (λ j. i (subst (λ y. IsAlternative y x) (sym last) j)) (subst (λ y. Embeds y x v w) front h))

@@ -71,16 +71,17 @@ module _ (book : Book) (marks : Marks) where
   ends-right c a b d v whole last h env =
       subst (λ x. Ways book env x [] (W.Right v)) (sym whole) (Ways.Right (subst (λ x. Ways book env x [] v) last (h env)))
 
-  pub ends-both : (c a b d d' : Contract) (v u : Way) (sides : List Bool) → c ≡ Par a b → d ≡ a → d' ≡ b → sides ≡ [] → Ends book d v → Ends book d' u →
-      Ends book c (W.Both sides v u)
-  ends-both c a b d d' v u sides whole first last none h k env =
-      subst (λ x. Ways book env x [] (W.Both sides v u)) (sym whole) (subst (λ s. Ways book env (Par a b) [] (W.Both s v u)) (sym none)
-      (Ways.Both refl (subst (λ x. Ways book env x [] v) first (h env)) (subst (λ x. Ways book env x [] u) last (k env))))
+  -- of two contracts that end
+  module _ (a b d d' : Contract) (first : d ≡ a) (last : d' ≡ b) (v u : Way) (h : Ends book d v) (k : Ends book d' u) where
+    pub ends-both : (c : Contract) (sides : List Bool) → c ≡ Par a b → sides ≡ [] → Ends book c (W.Both sides v u)
+    ends-both c sides whole none env =
+        subst (λ x. Ways book env x [] (W.Both sides v u)) (sym whole) (subst (λ s. Ways book env (Par a b) [] (W.Both s v u)) (sym none)
+        (Ways.Both refl (subst (λ x. Ways book env x [] v) first (h env)) (subst (λ x. Ways book env x [] u) last (k env))))
 
-  pub ends-then : (c a b d d' : Contract) (v u : Way) → c ≡ Seq a b → d ≡ a → d' ≡ b → Ends book d v → Ends book d' u → Ends book c (W.Then 0 v u)
-  ends-then c a b d d' v u whole first last h k env =
-      subst (λ x. Ways book env x [] (W.Then 0 v u)) (sym whole)
-      (Ways.Then (omega arith) (subst (λ x. Ways book env x [] v) first (h env)) (subst (λ x. Ways book env x [] u) last (k env)))
+    pub ends-then : (c : Contract) → c ≡ Seq a b → Ends book c (W.Then 0 v u)
+    ends-then c whole env =
+        subst (λ x. Ways book env x [] (W.Then 0 v u)) (sym whole)
+        (Ways.Then (omega arith) (subst (λ x. Ways book env x [] v) first (h env)) (subst (λ x. Ways book env x [] u) last (k env)))
 
   pub ends-enter : (c : Contract) (f : Name) (args : List Expression) (t : Template) (v : Way) → c ≡ App f args → template_in book.templates f ≡ Some t →
       IsFormed book marks c → Ends book t.body v → Ends book c (W.Enter v)

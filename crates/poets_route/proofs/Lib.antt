@@ -12,4 +12,5 @@ pub mod Parted
 pub mod Heads
 pub mod Ends
 pub mod Regrouping
+pub mod Sharing
 pub mod Stepped

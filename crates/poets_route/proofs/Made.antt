@@ -119,8 +119,8 @@ none_as None f h = f h
 none_as (Some x) f h = h
 
 -- a way of two that were made one after the other
-pub two_made : {E : Type 0} (t u v w : TrailsView) (result : Result ℕ E) (n r : ℕ) (node : Node) (P Q Is : Way → Type 0) → Makes t u n P → Makes u v r Q →
-    IfOk result (λ k. k ≡ length v.ways) → OnOk result (w ≡ with_node v node) → (P (way_at v n) → Q (way_at v r) → Is (way_of_node v node)) →
-    Gives t w result Is
-two_made t u v w result n r node P Q Is m k number new f =
-    node_made t v w result node Is (grew_twice m.grew k.grew) number new (f (made_later {t = t} {u = u} {v = v} {k = n} {Is = P} m k.grew).made k.made)
+module _ (t u v : TrailsView) (n r : ℕ) (P Q : Way → Type 0) (m : Makes t u n P) (k : Makes u v r Q) where
+  pub two_made : {E : Type 0} (w : TrailsView) (result : Result ℕ E) (node : Node) (Is : Way → Type 0) → IfOk result (λ k. k ≡ length v.ways) →
+      OnOk result (w ≡ with_node v node) → (P (way_at v n) → Q (way_at v r) → Is (way_of_node v node)) → Gives t w result Is
+  two_made w result node Is number new f =
+      node_made t v w result node Is (grew_twice m.grew k.grew) number new (f (made_later {t = t} {u = u} {v = v} {k = n} {Is = P} m k.grew).made k.made)

@@ -136,17 +136,18 @@ takes-inner u v w first r o z last h k absent book env x s way =
 
 -- ---- the same, where what is at hand is equal to the parts
 
-pub inner_taken : (c u v u' v' : Contract) (w o first r n z : Way) (last : List Bool) → c ≡ Par u v → v' ≡ v → u' ≡ u → Takes v' w o →
-    o ≡ W.Both last first r → Takes u' first n → (IsBoth n → ⊥) → Takes c w z
-inner_taken c u v u' v' w o first r n z last whole last_is first_is h head k absent =
-    subst (λ x. Takes x w z) (sym whole)
-    (takes-inner u v w first r n z last (subst (λ y. Takes v w y) head (subst (λ x. Takes x w o) last_is h)) (subst (λ x. Takes x first n) first_is k) absent)
+-- two contracts side by side, and a way of the second taken apart
+module _ (c u v u' v' : Contract) (whole : c ≡ Par u v) (last_is : v' ≡ v) (first_is : u' ≡ u) where
+  module _ (w o first r : Way) (last : List Bool) (h : Takes v' w o) (head : o ≡ W.Both last first r) (n : Way) (k : Takes u' first n) where
+    pub inner_taken : (z : Way) → (IsBoth n → ⊥) → Takes c w z
+    inner_taken z absent =
+        subst (λ x. Takes x w z) (sym whole)
+        (takes-inner u v w first r n z last (subst (λ y. Takes v w y) head (subst (λ x. Takes x w o) last_is h)) (subst (λ x. Takes x first n) first_is k) absent)
 
-pub more_taken : (c u v u' v' : Contract) (w o first r r' n p q made : Way) (last last' second : List Bool) → c ≡ Par u v → v' ≡ v → u' ≡ u →
-    Takes v' w o → o ≡ W.Both last first r → Takes u' first n → n ≡ W.Both second p q → last' ≡ last → r' ≡ r →
-    IsGroupedRight last' second p q r' made → Takes c w made
-more_taken c u v u' v' w o first r r' n p q made last last' second whole last_is first_is h head k front sides third g =
-    subst (λ x. Takes x w made) (sym whole)
-    (takes-more u v w r last second first p q made (subst (λ y. Takes v w y) head (subst (λ x. Takes x w o) last_is h))
-    (subst (λ y. Takes u first y) front (subst (λ x. Takes x first n) first_is k))
-    (subst (λ y. IsGroupedRight last second p q y made) third (subst (λ y. IsGroupedRight y second p q r' made) sides g)))
+    pub more_taken : (r' p q made : Way) (last' second : List Bool) → n ≡ W.Both second p q → last' ≡ last → r' ≡ r →
+        IsGroupedRight last' second p q r' made → Takes c w made
+    more_taken r' p q made last' second front sides third g =
+        subst (λ x. Takes x w made) (sym whole)
+        (takes-more u v w r last second first p q made (subst (λ y. Takes v w y) head (subst (λ x. Takes x w o) last_is h))
+        (subst (λ y. Takes u first y) front (subst (λ x. Takes x first n) first_is k))
+        (subst (λ y. IsGroupedRight last second p q y made) third (subst (λ y. IsGroupedRight y second p q r' made) sides g)))

@@ -98,69 +98,68 @@ module _ (old u v w : TrailsView) (last second rest_last rest_second : List Bool
         rests = b.made;
       }
 
--- the first one's of the three
-pub regrouping_first : (old u v : TrailsView) (last second rest_last rest_second : List Bool) (first others r : ℕ) (rest rest' : List Bool) →
-    Regrouping old u last second rest_last rest_second first others → rest_last ≡ rest ++ false ∷ [] →
-    rest_second ≡ rest' ++ false ∷ [] → r ≡ length u.sides → v ≡ with_sides u (false ∷ sides_at u first) → Regrouping old v last second rest rest' r others
-regrouping_first old u v last second rest_last rest_second first others r rest rest' g e e' number new =
-    let a = added old u v first r false (outer g.done_last g.done_second) g.grew g.firsts number new in
-    let o = sides_made_later {t = old} {u = u} {v = v} {k = others} {Are = λ s. s ≡ inner g.done_last g.done_second}
-    (record { grew = g.grew; within = g.others_within; made = g.rests }) (grew_by u v r (false ∷ sides_at u first) number new) in record {
-      grew = a.grew;
-      first_within = a.within;
-      others_within = o.within;
-      done_last = false ∷ g.done_last;
-      done_second = false ∷ g.done_second;
-      whole_last = g.whole_last ∙ ap (λ xs. xs ++ g.done_last) e ∙ append_assoc rest (false ∷ []) g.done_last;
-      whole_second = g.whole_second ∙ ap (λ xs. xs ++ g.done_second) e' ∙ append_assoc rest' (false ∷ []) g.done_second;
-      fit = (let f = g.fit in omega (arith, f));
-      firsts = a.made;
-      rests = o.made;
-    }
-
 none_left : {A : Type 0} (xs : List A) → length xs ≡ 0 → xs ≡ []
 none_left [] e = refl
 none_left (x ∷ xs) e = absurd (omega (arith, e))
 
--- all are done
-pub regrouping_done : (old u : TrailsView) (last second rest_last rest_second : List Bool) (first others l s : ℕ) →
-    Regrouping old u last second rest_last rest_second first others → rest_last ≡ [] → last ≡ sides_at old l → second ≡ sides_at old s →
-    Regroups old u l s first others
-regrouping_done old u last second rest_last rest_second first others l s g e el es = record {
-  grew = g.grew;
-  first_within = g.first_within;
-  others_within = g.others_within;
-  sides = λ fit.
-      (let dl = g.done_last in
-      let ds = g.done_second in
-      let lasts : sides_at old l ≡ dl = sym el ∙ g.whole_last ∙ ap (λ xs. xs ++ dl) e in
-      let all : sides_at old s ≡ rest_second ++ ds = sym es ∙ g.whole_second in
-      let fit' = g.fit in
-      let count : length rest_second ≡ 0 = omega (arith, fit, fit', ap length lasts, ap seconds lasts, ap length all, length-append rest_second ds) in
-      let others' : sides_at old s ≡ ds = all ∙ ap (λ xs. xs ++ ds) (none_left rest_second count) in
-      let out : (sides_at u first ≡ outer (sides_at old l) (sides_at old s)) × (sides_at u others ≡ inner (sides_at old l) (sides_at old s)) = (
-        g.firsts ∙ ap (λ x. outer x ds) (sym lasts) ∙ ap (outer (sides_at old l)) (sym others'),
-        g.rests ∙ ap (λ x. inner x ds) (sym lasts) ∙ ap (inner (sides_at old l)) (sym others'),
-      ) in
-      out);
-}
+-- some are done
+module _ (old u : TrailsView) (last second rest_last rest_second : List Bool) (first others : ℕ)
+    (g : Regrouping old u last second rest_last rest_second first others) where
+  -- the first one's of the three
+  pub regrouping_first : (v : TrailsView) (r : ℕ) (rest rest' : List Bool) → rest_last ≡ rest ++ false ∷ [] → rest_second ≡ rest' ++ false ∷ [] →
+      r ≡ length u.sides → v ≡ with_sides u (false ∷ sides_at u first) → Regrouping old v last second rest rest' r others
+  regrouping_first v r rest rest' e e' number new =
+      let a = added old u v first r false (outer g.done_last g.done_second) g.grew g.firsts number new in
+      let o = sides_made_later {t = old} {u = u} {v = v} {k = others} {Are = λ s. s ≡ inner g.done_last g.done_second}
+      (record { grew = g.grew; within = g.others_within; made = g.rests }) (grew_by u v r (false ∷ sides_at u first) number new) in record {
+        grew = a.grew;
+        first_within = a.within;
+        others_within = o.within;
+        done_last = false ∷ g.done_last;
+        done_second = false ∷ g.done_second;
+        whole_last = g.whole_last ∙ ap (λ xs. xs ++ g.done_last) e ∙ append_assoc rest (false ∷ []) g.done_last;
+        whole_second = g.whole_second ∙ ap (λ xs. xs ++ g.done_second) e' ∙ append_assoc rest' (false ∷ []) g.done_second;
+        fit = (let f = g.fit in omega (arith, f));
+        firsts = a.made;
+        rests = o.made;
+      }
 
--- where the second sides ended first, they were not those of the events
-pub regrouping_broken : (old u : TrailsView) (last second rest_last rest_second rest : List Bool) (first others l s : ℕ) →
-    Regrouping old u last second rest_last rest_second first others → rest_last ≡ rest ++ false ∷ [] → rest_second ≡ [] →
-    last ≡ sides_at old l → second ≡ sides_at old s → Regroups old u l s first others
-regrouping_broken old u last second rest_last rest_second rest first others l s g e e' el es = record {
-  grew = g.grew;
-  first_within = g.first_within;
-  others_within = g.others_within;
-  sides = λ fit. absurd
-      (let dl = g.done_last in
-      let ds = g.done_second in
-      let lasts : sides_at old l ≡ rest ++ (false ∷ dl) = sym el ∙ g.whole_last ∙ ap (λ xs. xs ++ dl) e ∙ append_assoc rest (false ∷ []) dl in
-      let all : sides_at old s ≡ ds = sym es ∙ g.whole_second ∙ ap (λ xs. xs ++ ds) e' in
-      let fit' = g.fit in
-      let some = seconds_within rest in
-      let more : seconds (rest ++ (false ∷ dl)) ≡ seconds rest + seconds dl = seconds_more rest (false ∷ dl) in
-      let longer : length (rest ++ (false ∷ dl)) ≡ length rest + (length dl + 1) = omega (arith, length-append rest (false ∷ dl)) in
-      omega (arith, fit, fit', some.1, ap length lasts, ap seconds lasts, ap length all, more, longer));
-}
+  -- all are done
+  pub regrouping_done : (l s : ℕ) → rest_last ≡ [] → last ≡ sides_at old l → second ≡ sides_at old s → Regroups old u l s first others
+  regrouping_done l s e el es = record {
+    grew = g.grew;
+    first_within = g.first_within;
+    others_within = g.others_within;
+    sides = λ fit.
+        (let dl = g.done_last in
+        let ds = g.done_second in
+        let lasts : sides_at old l ≡ dl = sym el ∙ g.whole_last ∙ ap (λ xs. xs ++ dl) e in
+        let all : sides_at old s ≡ rest_second ++ ds = sym es ∙ g.whole_second in
+        let fit' = g.fit in
+        let count : length rest_second ≡ 0 = omega (arith, fit, fit', ap length lasts, ap seconds lasts, ap length all, length-append rest_second ds) in
+        let others' : sides_at old s ≡ ds = all ∙ ap (λ xs. xs ++ ds) (none_left rest_second count) in
+        let out : (sides_at u first ≡ outer (sides_at old l) (sides_at old s)) × (sides_at u others ≡ inner (sides_at old l) (sides_at old s)) = (
+          g.firsts ∙ ap (λ x. outer x ds) (sym lasts) ∙ ap (outer (sides_at old l)) (sym others'),
+          g.rests ∙ ap (λ x. inner x ds) (sym lasts) ∙ ap (inner (sides_at old l)) (sym others'),
+        ) in
+        out);
+  }
+
+  -- where the second sides ended first, they were not those of the events
+  pub regrouping_broken : (rest : List Bool) (l s : ℕ) → rest_last ≡ rest ++ false ∷ [] → rest_second ≡ [] → last ≡ sides_at old l → second ≡ sides_at old s →
+      Regroups old u l s first others
+  regrouping_broken rest l s e e' el es = record {
+    grew = g.grew;
+    first_within = g.first_within;
+    others_within = g.others_within;
+    sides = λ fit. absurd
+        (let dl = g.done_last in
+        let ds = g.done_second in
+        let lasts : sides_at old l ≡ rest ++ (false ∷ dl) = sym el ∙ g.whole_last ∙ ap (λ xs. xs ++ dl) e ∙ append_assoc rest (false ∷ []) dl in
+        let all : sides_at old s ≡ ds = sym es ∙ g.whole_second ∙ ap (λ xs. xs ++ ds) e' in
+        let fit' = g.fit in
+        let some = seconds_within rest in
+        let more : seconds (rest ++ (false ∷ dl)) ≡ seconds rest + seconds dl = seconds_more rest (false ∷ dl) in
+        let longer : length (rest ++ (false ∷ dl)) ≡ length rest + (length dl + 1) = omega (arith, length-append rest (false ∷ dl)) in
+        omega (arith, fit, fit', some.1, ap length lasts, ap seconds lasts, ap length all, more, longer));
+  }

@@ -79,33 +79,33 @@ module _ (book : Book) (marks : Marks) where
       ready_through s (after book marks e c) (ready_after book marks e (All-head (IsDeclaredEvent book.declared) e s events) c r)
       (All-tail (IsDeclaredEvent book.declared) e s events)
 
-  pub backs_step : (n k later : ℕ) (c r r' : Contract) (piece : List Event) (e : Event) (v u u' w : Way) → k < length piece → get_or piece k e ≡ e →
-      r ≡ through book marks c (take k piece) → r' ≡ through book marks c (take (k + 1) piece) → later ≡ n + (length piece - 1 - k) → u' ≡ u →
-      BacksFrom book marks n c piece (k + 1) v u → BacksWhole book marks e later r r' u' w → BacksFrom book marks n c piece k v w
-  backs_step n k later c r r' piece e v u u' w h is here there number same g step s l way =
-      let rest = drop (k + 1) piece ++ s in
-      let m : length (drop (k + 1) piece ++ s) ≡ later = omega (arith, length-append (drop (k + 1) piece) s, length-drop (k + 1) piece, l, number, h) in
-      let next : r' ≡ after book marks e r = there ∙ through_next c piece k e h is ∙ ap (after book marks e) (sym here) in
-      let mid : Ways book [] r' rest u' = subst (λ x. Ways book [] x rest u') (sym there) (subst (λ x. Ways book [] (through book marks c (take (k + 1) piece)) rest x) (sym same) (g s l way)) in
-      subst (λ x. Ways book [] (through book marks c (take k piece)) (x ++ s) w) (sym (drop_next piece k e h is))
-      (subst (λ x. Ways book [] x (e ∷ rest) w) here (step rest m next mid))
+  -- back over one event of a piece
+  module _ (c : Contract) (piece : List Event) (k : ℕ) (e : Event) (h : k < length piece) (is : get_or piece k e ≡ e) where
+    pub backs_step : (n : ℕ) (r r' : Contract) (v u w : Way) → r ≡ through book marks c (take k piece) → r' ≡ through book marks c (take (k + 1) piece) →
+        BacksFrom book marks n c piece (k + 1) v u → BacksWhole book marks e (n + (length piece - 1 - k)) r r' u w → BacksFrom book marks n c piece k v w
+    backs_step n r r' v u w here there g step s l way =
+        let rest = drop (k + 1) piece ++ s in
+        let m : length (drop (k + 1) piece ++ s) ≡ n + (length piece - 1 - k) =
+        omega (arith, length-append (drop (k + 1) piece) s, length-drop (k + 1) piece, l, h) in
+        let next : r' ≡ after book marks e r = there ∙ through_next c piece k e h is ∙ ap (after book marks e) (sym here) in
+        let mid : Ways book [] r' rest u = subst (λ x. Ways book [] x rest u) (sym there) (g s l way) in
+        subst (λ x. Ways book [] (through book marks c (take k piece)) (x ++ s) w) (sym (drop_next piece k e h is))
+        (subst (λ x. Ways book [] x (e ∷ rest) w) here (step rest m next mid))
 
   -- back over one piece more
-  pub backs_piece : (c r : Contract) (events piece : List Event) (at end later : ℕ) (v u u' w : Way) → at ≤ end → end ≤ length events →
-      piece ≡ take (end - at) (drop at events) → r ≡ through book marks c (take at events) → later ≡ length events - end → u' ≡ u →
-      BacksFrom book marks 0 c events end v u → BacksOver book marks later r piece u' w → BacksFrom book marks 0 c events at v w
-  backs_piece c r events piece at end later v u u' w low high is here number same g step s l way =
-      let rest = drop end events ++ s in
-      let m : length (drop end events ++ s) ≡ later = omega (arith, length-append (drop end events) s, length-drop end events, l, number, high) in
-      let both = split_at events at end low in
-      let all : through book marks c (take end events) ≡ through book marks r piece =
-      ap (through book marks c) both.0 ∙ through_twice c (take at events) (take (end - at) (drop at events))
-      ∙ ap (λ x. through book marks x (take (end - at) (drop at events))) (sym here) ∙ ap (through book marks r) (sym is) in
-      let mid : Ways book [] (through book marks r piece) rest u' =
-      subst (λ x. Ways book [] x rest u') all (subst (λ x. Ways book [] (through book marks c (take end events)) rest x) (sym same) (g s l way)) in
-      let whole : piece ++ rest ≡ drop at events ++ s =
-      sym (append_assoc piece (drop end events) s) ∙ ap (λ x. x ++ s) (ap (λ x. x ++ drop end events) is ∙ sym both.1) in
-      subst (λ x. Ways book [] (through book marks c (take at events)) x w) whole (subst (λ x. Ways book [] x (piece ++ rest) w) here (step rest m mid))
+  module _ (c : Contract) (events : List Event) (at end : ℕ) (low : at ≤ end) (high : end ≤ length events) where
+    pub backs_piece : (r : Contract) (v u w : Way) → r ≡ through book marks c (take at events) → BacksFrom book marks 0 c events end v u →
+        BacksOver book marks (length events - end) r (take (end - at) (drop at events)) u w → BacksFrom book marks 0 c events at v w
+    backs_piece r v u w here g step s l way =
+        let piece = take (end - at) (drop at events) in
+        let rest = drop end events ++ s in
+        let m : length (drop end events ++ s) ≡ length events - end = omega (arith, length-append (drop end events) s, length-drop end events, l, high) in
+        let both = split_at events at end low in
+        let all : through book marks c (take end events) ≡ through book marks r piece =
+        ap (through book marks c) both.0 ∙ through_twice c (take at events) piece ∙ ap (λ x. through book marks x piece) (sym here) in
+        let mid : Ways book [] (through book marks r piece) rest u = subst (λ x. Ways book [] x rest u) all (g s l way) in
+        let whole : piece ++ rest ≡ drop at events ++ s = sym (append_assoc piece (drop end events) s) ∙ ap (λ x. x ++ s) (sym both.1) in
+        subst (λ x. Ways book [] (through book marks c (take at events)) x w) whole (subst (λ x. Ways book [] x (piece ++ rest) w) here (step rest m mid))
 
 module _ (book : Book) (marks : Marks) (study : IsStudied book marks) where
   pub fit_through : (s : List Event) (c : Contract) → CountsFit book c → CountsFit book (through book marks c s)

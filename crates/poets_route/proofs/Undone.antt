@@ -59,27 +59,26 @@ module _ (book : Book) (marks : Marks) where
     | inr e ↦ no_alternative a (rw e at h)
   ]
 
-  -- a transmit took the first event
-  take_on : (n : ℕ) (b : Binders) (p : Expression) (c r : Contract) (v w : Way) → AreUndeclared book.declared b → UndoesWhole book marks (n - 1) c r v w →
-      {env : Env} → KeepsDeclared book.declared env → {s : List Event} → length s ≡ n → r ≡ normal book marks c →
-      Ways book env (Transmit b p r) s (W.Take v) → Ways book env (Transmit b p c) s (W.Take w)
-  take_on n b p c r v w f h {env} k l e (Ways.Take {e = x} {s = s} q way) =
-      Ways.Take q (h (taken b x env) (Keeps-bound book.declared b (values_of x) env f k) s (omega (arith, l)) e way)
+  module _ (n : ℕ) (b : Binders) (p : Expression) (c : Contract) where
+    -- a transmit took the first event
+    take_on : (r : Contract) (v w : Way) → AreUndeclared book.declared b → UndoesWhole book marks (n - 1) c r v w →
+        {env : Env} → KeepsDeclared book.declared env → {s : List Event} → length s ≡ n → r ≡ normal book marks c →
+        Ways book env (Transmit b p r) s (W.Take v) → Ways book env (Transmit b p c) s (W.Take w)
+    take_on r v w f h {env} k l e (Ways.Take {e = x} {s = s} q way) =
+        Ways.Take q (h (taken b x env) (Keeps-bound book.declared b (values_of x) env f k) s (omega (arith, l)) e way)
 
-  pub undoes-transmit : (n : ℕ) (b : Binders) (p : Expression) (c a : Contract) (b' : Binders) (p' : Expression) (r : Contract) (v w : Way) →
-      AreUndeclared book.declared b → a ≡ Transmit b' p' r → UndoesWhole book marks (n - 1) c r v w →
-      Undoes book marks n (Transmit b p c) a (W.Take v) (W.Take w)
-  undoes-transmit n b p c a b' p' r v w f whole h env k s l i way =
-      let q : Transmit b p (normal book marks c) ≡ Transmit b' p' r = of_send b p (normal book marks c) a i ∙ whole in
-      let e : r ≡ normal book marks c = cc in
-      let same : a ≡ Transmit b p r = cc in
-      take_on n b p c r v w f h k l e (subst (λ x. Ways book env x s (W.Take v)) same way)
+    pub undoes-transmit : (a : Contract) (b' : Binders) (p' : Expression) (r : Contract) (v w : Way) → AreUndeclared book.declared b →
+        a ≡ Transmit b' p' r → UndoesWhole book marks (n - 1) c r v w → Undoes book marks n (Transmit b p c) a (W.Take v) (W.Take w)
+    undoes-transmit a b' p' r v w f whole h env k s l i way =
+        let q : Transmit b p (normal book marks c) ≡ Transmit b' p' r = of_send b p (normal book marks c) a i ∙ whole in
+        let e : r ≡ normal book marks c = cc in
+        let same : a ≡ Transmit b p r = cc in
+        take_on r v w f h k l e (subst (λ x. Ways book env x s (W.Take v)) same way)
 
-  -- a way that takes no event, or one of another contract, is none
-  pub undoes-transmit_none : (n : ℕ) (b : Binders) (p : Expression) (c a : Contract) (v w : Way) → (IsTake v → ⊥) →
-      Undoes book marks n (Transmit b p c) a v w
-  undoes-transmit_none n b p c a v w absent env k s l i way =
-      absurd (absent (is_take (subst (λ x. Ways book env x s v) (sym (of_send b p (normal book marks c) a i)) way)))
+    -- a way that takes no event, or one of another contract, is none
+    pub undoes-transmit_none : (a : Contract) (v w : Way) → (IsTake v → ⊥) → Undoes book marks n (Transmit b p c) a v w
+    undoes-transmit_none a v w absent env k s l i way =
+        absurd (absent (is_take (subst (λ x. Ways book env x s v) (sym (of_send b p (normal book marks c) a i)) way)))
 
   pub undoes-right : (n : ℕ) (a b c : Contract) (v w : Way) → IsAlternative (normal book marks b) c → Undoes book marks n b c v w →
       Undoes book marks n (Plus a b) c v (W.Right w)
@@ -101,24 +100,23 @@ module _ (book : Book) (marks : Marks) where
       (subst (λ x. Ways book env a x w) (sym (all_first n s l)) (h env k s l (subst (λ x. IsAlternative x c) alone j) way))
       (subst (λ x. Ways book env b x u) (sym (no_second n s l)) (i env k [] refl (done_in (normal book marks b) done) Ways.Nothing))
 
-  both_on : (n : ℕ) (a b x y : Contract) (sides : List Bool) (v w v' w' : Way) → x ≡ normal book marks a → y ≡ normal book marks b →
-      UndoesWhole book marks (n - min (seconds sides) n) a x v v' → UndoesWhole book marks (min (seconds sides) n) b y w w' →
-      {env : Env} → KeepsDeclared book.declared env → {s : List Event} → length s ≡ n →
-      Ways book env (Par x y) s (W.Both sides v w) → Ways book env (Par a b) s (W.Both sides v' w')
-  both_on n a b x y sides v w v' w' e q h i {env} k {s} l (Ways.Both m first second) =
-      let all = seconds_and_first sides s m in
-      let some = length-second sides s m in
-      Ways.Both m (h env k (first_of sides s) (omega (arith, all, l)) e first) (i env k (second_of sides s) (omega (arith, all, some, l)) q second)
+  -- two contracts side by side, the parts of whose way are undone
+  module _ (n : ℕ) (a b x y : Contract) (sides : List Bool) (v w v' w' : Way) (h : UndoesWhole book marks (n - min (seconds sides) n) a x v v')
+      (i : UndoesWhole book marks (min (seconds sides) n) b y w w') where
+    both_on : x ≡ normal book marks a → y ≡ normal book marks b → {env : Env} → KeepsDeclared book.declared env → {s : List Event} → length s ≡ n →
+        Ways book env (Par x y) s (W.Both sides v w) → Ways book env (Par a b) s (W.Both sides v' w')
+    both_on e q {env} k {s} l (Ways.Both m first second) =
+        let all = seconds_and_first sides s m in
+        let some = length-second sides s m in
+        Ways.Both m (h env k (first_of sides s) (omega (arith, all, l)) e first) (i env k (second_of sides s) (omega (arith, all, some, l)) q second)
 
-  pub undoes-par_both : (n : ℕ) (a b x y c : Contract) (sides : List Bool) (o v w v' w' : Way) → c ≡ beside_parts x y → y ≡ normal book marks b →
-      (y ≡ Success → ⊥) → Takes y o (W.Both sides v w) →
-      UndoesWhole book marks (n - min (seconds sides) n) a x v v' → UndoesWhole book marks (min (seconds sides) n) b y w w' →
-      Undoes book marks n (Par a b) c o (W.Both sides v' w')
-  undoes-par_both n a b x y c sides o v w v' w' whole q some takes h i env k s l j way =
-      let here : IsAlternative (par (normal book marks a) y) (beside_parts x y) =
-      subst (λ d. IsAlternative (par (normal book marks a) y) d) whole (subst (λ z. IsAlternative (par (normal book marks a) z) c) (sym q) j) in
-      let e : x ≡ normal book marks a = par_with (normal book marks a) y x (regrouped_normal book marks a) some here in
-      both_on n a b x y sides v w v' w' e q h i k l (takes book env x s (subst (λ d. Ways book env d s o) whole way))
+    pub undoes-par_both : (c : Contract) (o : Way) → c ≡ beside_parts x y → y ≡ normal book marks b → (y ≡ Success → ⊥) → Takes y o (W.Both sides v w) →
+        Undoes book marks n (Par a b) c o (W.Both sides v' w')
+    undoes-par_both c o whole q some takes env k s l j way =
+        let here : IsAlternative (par (normal book marks a) y) (beside_parts x y) =
+        subst (λ d. IsAlternative (par (normal book marks a) y) d) whole (subst (λ z. IsAlternative (par (normal book marks a) z) c) (sym q) j) in
+        let e : x ≡ normal book marks a = par_with (normal book marks a) y x (regrouped_normal book marks a) some here in
+        both_on e q k l (takes book env x s (subst (λ d. Ways book env d s o) whole way))
 
   -- a way that has no sides is none
   pub undoes-par_none : (n : ℕ) (a b x y c : Contract) (o v w : Way) → c ≡ beside_parts x y → Takes y o v → (IsBoth v → ⊥) →
@@ -143,22 +141,20 @@ module _ (book : Book) (marks : Marks) where
       (subst (λ x. Ways book env a x w) (sym (take_all n s l)) (h env k s l (subst (λ x. IsAlternative x c) alone j) way))
       (subst (λ x. Ways book env b x u) (sym (drop_all n s l)) (i env k [] refl (done_in (normal book marks b) done) Ways.Nothing))
 
-  then_on : (n m : ℕ) (a b x y : Contract) (v w v' w' : Way) → x ≡ normal book marks a → y ≡ normal book marks b →
-      UndoesWhole book marks m a x v v' → UndoesWhole book marks (n - m) b y w w' →
-      {env : Env} → KeepsDeclared book.declared env → {s : List Event} → length s ≡ n →
-      Ways book env (Seq x y) s (W.Then m v w) → Ways book env (Seq a b) s (W.Then m v' w')
-  then_on n m a b x y v w v' w' e q h i {env} k {s} l (Ways.Then j first second) =
-      Ways.Then j (h env k (take m s) (length-taken m s j) e first)
-      (i env k (drop m s) (length-left m s ∙ ap (λ z. z - m) l) q second)
+  module _ (n m : ℕ) (a b x y : Contract) (v w v' w' : Way) (h : UndoesWhole book marks m a x v v') (i : UndoesWhole book marks (n - m) b y w w') where
+    then_on : x ≡ normal book marks a → y ≡ normal book marks b → {env : Env} → KeepsDeclared book.declared env → {s : List Event} → length s ≡ n →
+        Ways book env (Seq x y) s (W.Then m v w) → Ways book env (Seq a b) s (W.Then m v' w')
+    then_on e q {env} k {s} l (Ways.Then j first second) =
+        Ways.Then j (h env k (take m s) (length-taken m s j) e first)
+        (i env k (drop m s) (length-left m s ∙ ap (λ z. z - m) l) q second)
 
-  pub undoes-seq_both : (n m : ℕ) (a b x y c : Contract) (v w v' w' : Way) → c ≡ Seq x y → y ≡ normal book marks b → (y ≡ Success → ⊥) →
-      UndoesWhole book marks m a x v v' → UndoesWhole book marks (n - m) b y w w' →
-      Undoes book marks n (Seq a b) c (W.Then m v w) (W.Then m v' w')
-  undoes-seq_both n m a b x y c v w v' w' whole q some h i env k s l j way =
-      let here : IsAlternative (seq (normal book marks a) y) (Seq x y) =
-      subst (λ d. IsAlternative (seq (normal book marks a) y) d) whole (subst (λ z. IsAlternative (seq (normal book marks a) z) c) (sym q) j) in
-      let e : x ≡ normal book marks a = seq_with (normal book marks a) y x some here in
-      then_on n m a b x y v w v' w' e q h i k l (subst (λ d. Ways book env d s (W.Then m v w)) whole way)
+    pub undoes-seq_both : (c : Contract) → c ≡ Seq x y → y ≡ normal book marks b → (y ≡ Success → ⊥) →
+        Undoes book marks n (Seq a b) c (W.Then m v w) (W.Then m v' w')
+    undoes-seq_both c whole q some env k s l j way =
+        let here : IsAlternative (seq (normal book marks a) y) (Seq x y) =
+        subst (λ d. IsAlternative (seq (normal book marks a) y) d) whole (subst (λ z. IsAlternative (seq (normal book marks a) z) c) (sym q) j) in
+        let e : x ≡ normal book marks a = seq_with (normal book marks a) y x some here in
+        then_on e q k l (subst (λ d. Ways book env d s (W.Then m v w)) whole way)
 
   -- a way that has no count, or too great a one, is none
   pub undoes-seq_none : (n : ℕ) (a b x y c : Contract) (v w : Way) → c ≡ Seq x y → (IsThen n v → ⊥) → Undoes book marks n (Seq a b) c v w

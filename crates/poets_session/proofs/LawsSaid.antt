@@ -63,29 +63,30 @@ IsSilent : Piece → Type 0
 IsSilent p = (s : Statement) → IsStatementPiece p s → ⊥
 
 -- one list is cut in two ways, each after pieces that say something and ahead of one that does not
-cut_once :
-    (front back : List Piece) (p q : Piece) (rest others : List Piece) (a b : List Statement) → front ++ p ∷ rest ≡ back ++ q ∷ others →
-    AllZip IsStatementPiece front a → AllZip IsStatementPiece back b → IsSilent p → IsSilent q → (front ≡ back) × (p ≡ q)
-unfolding IsSilent
-cut_once [] [] p q rest others a b e h k m n = (refl, cc)
-cut_once [] (y ∷ back) p q rest others a [] e h k m n = absurd k
-cut_once [] (y ∷ back) p q rest others a (t ∷ b) e h k m n =
-    let same : y ≡ p = cc in absurd (m t (subst (λ z. IsStatementPiece z t) same k.0))
-cut_once (x ∷ front) [] p q rest others [] b e h k m n = absurd h
-cut_once (x ∷ front) [] p q rest others (s ∷ a) b e h k m n =
-    let same : x ≡ q = cc in absurd (n s (subst (λ z. IsStatementPiece z s) same h.0))
-cut_once (x ∷ front) (y ∷ back) p q rest others [] b e h k m n = absurd h
-cut_once (x ∷ front) (y ∷ back) p q rest others (s ∷ a) [] e h k m n = absurd k
-cut_once (x ∷ front) (y ∷ back) p q rest others (s ∷ a) (t ∷ b) e h k m n =
-    let first : x ≡ y = cc in
-    let after : front ++ p ∷ rest ≡ back ++ q ∷ others = cc in
-    let same = cut_once front back p q rest others a b after h.1 k.1 m n in
-    let fronts : front ≡ back = same.0 in
-    (cc, same.1)
+module _ (p q : Piece) (rest others : List Piece) (m : IsSilent p) (n : IsSilent q) where
+  cut_once : (front back : List Piece) (a b : List Statement) → front ++ p ∷ rest ≡ back ++ q ∷ others → AllZip IsStatementPiece front a →
+      AllZip IsStatementPiece back b → (front ≡ back) × (p ≡ q)
+  unfolding IsSilent
+  cut_once [] [] a b e h k = (refl, cc)
+  cut_once [] (y ∷ back) a [] e h k = absurd k
+  cut_once [] (y ∷ back) a (t ∷ b) e h k =
+      let same : y ≡ p = cc in absurd (m t (subst (λ z. IsStatementPiece z t) same k.0))
+  cut_once (x ∷ front) [] [] b e h k = absurd h
+  cut_once (x ∷ front) [] (s ∷ a) b e h k =
+      let same : x ≡ q = cc in absurd (n s (subst (λ z. IsStatementPiece z s) same h.0))
+  cut_once (x ∷ front) (y ∷ back) [] b e h k = absurd h
+  cut_once (x ∷ front) (y ∷ back) (s ∷ a) [] e h k = absurd k
+  cut_once (x ∷ front) (y ∷ back) (s ∷ a) (t ∷ b) e h k =
+      let first : x ≡ y = cc in
+      let after : front ++ p ∷ rest ≡ back ++ q ∷ others = cc in
+      let same = cut_once front back a b after h.1 k.1 in
+      let fronts : front ≡ back = same.0 in
+      (cc, same.1)
 
 pub stopped_once : {pieces : List Piece} {r s : Refusal} → IsStopped pieces r → IsStopped pieces s → r ≡ s
 unfolding IsSilent
 stopped_once {s = s} h k =
-    let same = cut_once h.front k.front h.piece k.piece h.rest k.rest h.said k.said (sym h.cut ∙ k.cut) h.says k.says (λ t. unread_unsaid t h.unread) (λ t. unread_unsaid t k.unread) in
+    let same = cut_once h.piece k.piece h.rest k.rest (λ t. unread_unsaid t h.unread) (λ t. unread_unsaid t k.unread) h.front k.front h.said k.said
+    (sym h.cut ∙ k.cut) h.says k.says in
     let here = subst (λ (ps : List Piece). IsUnread k.piece (suc (length ps)) s) (sym same.0) k.unread in
     unread_once h.unread (subst (λ p. IsUnread p (suc (length h.front)) s) (sym same.1) here)

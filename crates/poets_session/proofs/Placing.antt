@@ -40,17 +40,18 @@ less_le i n h = omega (arith, h)
 
 -- ---- a statement more
 
-pub placed_more :
-    (form : Form) (part next : Part) (counts more : Counts) (l : List Statement) (i : ℕ) (s : Statement) → i < length l → s ≡ get_or l i s →
-    Placed form part counts (statements_of (take i l)) → Some next ≡ next_part form part (statement_of s) →
-    is_too_many (statements_of (take i l)) (statement_of s) ≡ false → AreCounted (statements_of (take i l) ++ statement_of s ∷ []) more →
-    Placed form next more (statements_of (take (i + 1) l))
-placed_more form part next counts more l i s h e p f few counted =
-    subst (Placed form next more) (sym (before_more l i s h e)) (record {
-      after = part_more form (statements_of (take i l)) (statement_of s) part p.after ∙ sym f;
-      limits = limits_more (statements_of (take i l)) (statement_of s) p.limits few;
-      counting = counted;
-    })
+module _ (form : Form) (part next : Part) (counts more : Counts) where
+  pub placed_more :
+      (l : List Statement) (i : ℕ) (s : Statement) → i < length l → s ≡ get_or l i s →
+      Placed form part counts (statements_of (take i l)) → Some next ≡ next_part form part (statement_of s) →
+      is_too_many (statements_of (take i l)) (statement_of s) ≡ false → AreCounted (statements_of (take i l) ++ statement_of s ∷ []) more →
+      Placed form next more (statements_of (take (i + 1) l))
+  placed_more l i s h e p f few counted =
+      subst (Placed form next more) (sym (before_more l i s h e)) (record {
+        after = part_more form (statements_of (take i l)) (statement_of s) part p.after ∙ sym f;
+        limits = limits_more (statements_of (take i l)) (statement_of s) p.limits few;
+        counting = counted;
+      })
 
 pub misplaced :
     (form : Form) (part : Part) (counts : Counts) (l : List Statement) (i : ℕ) (s : Statement) → i < length l → s ≡ get_or l i s →

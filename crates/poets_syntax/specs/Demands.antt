@@ -121,6 +121,7 @@ binary_demands scope O.Ge a b = order_demands scope a b
 binary_demands scope O.And a b = both_of scope T.Bool a b
 binary_demands scope O.Or a b = both_of scope T.Bool a b
 
+-- the demands of an expression: those of its parts from left to right, then its own
 abbrev pub demands_of : Scope → Expression → List Demand
 demands_of scope (Literal v) = literal_demands v
 demands_of scope (Undefined t) = []

@@ -1,4 +1,4 @@
--- Expressions and contracts with more than one fault, worked by hand.
+-- Expressions and contracts worked by hand, most of them with more than one fault.
 use Rattle.std.specs.Prelude.{ℕ, true, List, [], ◌∷◌, Some, None, if◌then◌else◌, pos}
 use Rattle.poets_value.specs.declared.value.Name.{Name}
 use Rattle.poets_value.specs.declared.value.Ty.{Ty}
@@ -14,9 +14,11 @@ use Rattle.poets_syntax.specs.Demands.{FirstFault, demands_of, contract_demands}
 abbrev pub name : ℕ → Name
 name n = record { id = n }
 
+-- an agent
 abbrev pub ann : Name
 ann = name 0
 
+-- a template, `pay(n: Int, b: Bool)`
 abbrev pub pay : Name
 pay = name 1
 
@@ -49,16 +51,18 @@ Faults e cause = FirstFault agents (demands_of [] e) cause
 abbrev pub ContractFaults : Contract → TypeCause → Type 0
 ContractFaults c cause = FirstFault agents (contract_demands book [] [] c) cause
 
+-- 1
 abbrev pub one : Expression
 one = Literal (V.Int (pos 1))
 
 abbrev pub yes : Expression
 yes = Literal (V.Bool true)
 
+-- a literal of the type Day
 abbrev pub some_day : Expression
 some_day = Literal (V.Day (pos 0))
 
--- not 1 + nobody
+-- (not 1) + nobody
 abbrev pub two_parts : Expression
 two_parts = Binary O.Add (Unary Not one) (Named nobody)
 
@@ -66,11 +70,11 @@ two_parts = Binary O.Add (Unary Not one) (Named nobody)
 abbrev pub part_and_node : Expression
 part_and_node = Binary O.Add yes (Named nobody)
 
--- if 1 then 1 else true
+-- if 1 then 1 else true end
 abbrev pub choice : Expression
 choice = If one one yes
 
--- 1 less a day, and a day less a day
+-- the expression less a day
 abbrev pub less : Expression → Expression
 less e = Binary O.Sub e some_day
 
@@ -78,12 +82,14 @@ less e = Binary O.Sub e some_day
 abbrev pub transmission : Contract
 transmission = Transmit (record { sender = ann; receiver = nobody; what = name 7; day = name 8 }) one Success
 
--- pay(true), pay(true, 1) and nobody(nobody)
+-- pay(true)
 abbrev pub too_few : Contract
 too_few = App pay (yes ∷ [])
 
+-- pay(true, 1)
 abbrev pub exchanged : Contract
 exchanged = App pay (yes ∷ one ∷ [])
 
+-- nobody(not 1)
 abbrev pub of_nobody : Contract
-of_nobody = App nobody (Named nobody ∷ [])
+of_nobody = App nobody (Unary Not one ∷ [])

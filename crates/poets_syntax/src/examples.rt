@@ -7,8 +7,9 @@ ghost use Rattle.poets_syntax.specs.FaultExamples.{Faults, ContractFaults, ann, 
 ghost use Rattle.poets_syntax.specs.FaultExamples.{two_parts, part_and_node, choice, less, one, some_day};
 ghost use Rattle.poets_syntax.specs.FaultExamples.{transmission, too_few, exchanged, of_nobody};
 
-/// `not 1 + nobody` reports its left part, `true + nobody` its part before its operator, and `if 1 then 1 else true` its
-/// condition before its branches. From a number no day can be taken, and from a day a day can.
+/// `(not 1) + nobody` reports its left part, `true + nobody` its part before its operator, and
+/// `if 1 then 1 else true end` its condition before its branches. From a number no day can be taken, and from a day a
+/// day can.
 pub fn expressions()
     ensures left_part { Faults two_parts (WrongType T.Bool T.Int) }
     ensures part_first { Faults part_and_node (Unknown nobody) }

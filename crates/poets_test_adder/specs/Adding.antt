@@ -14,5 +14,5 @@ abbrev pub IsSum : List (ℕ × ℕ) → ℕ → ℕ → Type 0
 IsSum before amount sum = sum ≡ (total before + amount) % 2 ^ 64
 
 -- entries as pairs of a clerk's number and an amount
-abbrev pub calls_of : List (ℕ × Arc ℕ Global) → List (ℕ × ℕ)
-calls_of entries = map (λ e. (e.0, arc_value e.1)) entries
+abbrev pub adder_calls : List (ℕ × Arc ℕ Global) → List (ℕ × ℕ)
+adder_calls entries = map (λ e. (e.0, arc_value e.1)) entries

@@ -1,7 +1,7 @@
 //! A machine that adds, for tests of the turnstile, the clerks and the journal.
 ghost use Rattle.std.specs.Prelude.{◌≡◌, ℕ, ◌+◌, ◌%◌, ◌^◌, ◌≤◌, List, [], length, map};
 ghost use Rattle.std.specs.Arc.{arc_value};
-ghost use Rattle.poets_test_adder.specs.Adding.{IsSum, calls_of, total};
+ghost use Rattle.poets_test_adder.specs.Adding.{IsSum, adder_calls, total};
 
 use poets_machine::Machine;
 use poets_value::{List, Memory};
@@ -15,7 +15,7 @@ pub struct Adder {
     most: u64,
     sum: u64,
     entries: List<(u32, Arc<u64>)>,
-    ghost summed: { sum ≡ total (calls_of entries.items) % 2 ^ 64 },
+    ghost summed: { sum ≡ total (adder_calls entries.items) % 2 ^ 64 },
 }
 
 /// What a turn of an adder keeps: how many amounts came before, and the sum.
@@ -47,7 +47,7 @@ impl Adder {
 
     /// The amounts in the order in which they were taken, each with its clerk's number.
     pub fn entries(&self) -> &[(u32, Arc<u64>)]
-        ensures { calls_of result.now ≡ ⟦<Adder as Machine>⟧.history self.now }
+        ensures { adder_calls result.now ≡ ⟦<Adder as Machine>⟧.history self.now }
     {
         self.entries.as_slice()
     }
@@ -62,7 +62,7 @@ impl Machine for Adder {
 
     type Frame = u64;
 
-    ghost history = { λ a. calls_of a.entries.items };
+    ghost history = { λ a. adder_calls a.entries.items };
 
     ghost frame = { λ a. a.most };
 

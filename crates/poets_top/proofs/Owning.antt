@@ -13,7 +13,7 @@ use Rattle.poets_rules.specs.Rules as R
 use Rattle.poets_history.specs.Histories.{IsRightHistory}
 use Rattle.poets_session.specs.Sessions.{Represents, scripts_of, commands_in, journal_of}
 use Rattle.poets_session.specs.declared.session.Session.{Session}
-use Rattle.poets_machine.specs.Histories.{own_calls as machine_calls}
+use Rattle.poets_machine.specs.Histories.{calls_by as machine_calls}
 use Rattle.poets_clerks.specs.Histories.{HasScripts}
 use mathlib.Core.Logic.{dite}
 use native.Mathlib.Decide.{ℕ_discrete}

@@ -1,4 +1,5 @@
--- How a run ends: a rule for each exit status. `Runs` says the same part by part.
+-- How the call `run` ends, of which `keep`, `recover` and `resume` are no words: a rule for each
+-- exit status. `Runs` says the same part by part.
 use Rattle.std.specs.Prelude.{◌≡◌, ◌≢◌, ℕ, ◌+◌, List, []}
 use Rattle.std.specs.Io.KnownBytes.{Appends}
 use Rattle.poets_io.specs.Streams.{AppendsPart, LosesFront}

@@ -6,7 +6,7 @@ use mathlib.Core.List.{IsPrefix}
 use mathlib.Core.Option.{some, some-injective}
 use lib.ListN.{get_elem?, length-map}
 use Rattle.atomic_table.specs.Table.{Final, Seen}
-use Rattle.poets_machine.specs.Histories.{own_calls}
+use Rattle.poets_machine.specs.Histories.{calls_by}
 use Rattle.poets_turn.specs.declared.view.View.{View}
 use Rattle.poets_turn.specs.declared.view.Stage.TheVariants.{Idle}
 use Rattle.poets_turn.specs.Settings.{OnlyClerks}
@@ -31,11 +31,11 @@ module _ {C F : Type 0} where
     calls = inr (Contains-append_right v.ended ((w.number, w.calls) ∷ w.ended) (k, w.calls) (0, omega arith, λ i. (named i, w.calls)));
   }
 
-  knows_all : (v : View C F) (history : List (ℕ × C)) → IsPrefix v.front history → v.calls ≡ own_calls v.number history → All (λ e. e.1 ≡ own_calls e.0 history) v.ended
+  knows_all : (v : View C F) (history : List (ℕ × C)) → IsPrefix v.front history → v.calls ≡ calls_by v.number history → All (λ e. e.1 ≡ calls_by e.0 history) v.ended
       → (k : ℕ) (saw : List (ℕ × C)) (made : List C) → KnowsClerk v k saw made → IsClerkIn history k saw made
   knows_all v history pre mine all k saw made h = record {
     front = prefix_trans saw v.front history h.front pre;
-    calls = ⊎_elim (λ (t : (v.number ≡ k) × (v.calls ≡ made)). ap (λ n. own_calls n history) (sym t.0) ∙ (sym mine ∙ t.1)) (λ t. sym (All-contains (λ e. e.1 ≡ own_calls e.0 history) v.ended (k, made) all t)) h.calls;
+    calls = ⊎_elim (λ (t : (v.number ≡ k) × (v.calls ≡ made)). ap (λ n. calls_by n history) (sym t.0) ∙ (sym mine ∙ t.1)) (λ t. sym (All-contains (λ e. e.1 ≡ calls_by e.0 history) v.ended (k, made) all t)) h.calls;
   }
 
   knows_number : (v : View C F) (k : ℕ) (saw : List (ℕ × C)) (made : List C) → KnowsClerk v k saw made → (k ≡ v.number) ⊎ HasEnded k v.ended

@@ -3,8 +3,8 @@ use Rattle.std.proofs.Common.{◌≡◌, ℕ, ◌≤◌, Bool, true, false, List
 use Rattle.std.proofs.lemmas.List.{append-nil}
 use Rattle.std.specs.Prelude.{ltb}
 use mathlib.Core.List.{IsPrefix}
-use Rattle.poets_machine.specs.Histories.{own_calls}
-use Rattle.poets_machine.proofs.Histories.{own_calls-append}
+use Rattle.poets_machine.specs.Histories.{calls_by}
+use Rattle.poets_machine.proofs.Histories.{calls_by-append}
 use Rattle.poets_turn.specs.code.Turnstile.{longer}
 
 module _ {A : Type 0} where
@@ -47,13 +47,13 @@ module _ {A : Type 0} where
 
 module _ {C : Type 0} where
   -- between two beginnings with the same calls of k the calls are the same
-  pub own_between : (k : ℕ) (xs ys zs : List (ℕ × C)) → IsPrefix xs ys → IsPrefix ys zs → own_calls k xs ≡ own_calls k zs → own_calls k ys ≡ own_calls k xs
+  pub own_between : (k : ℕ) (xs ys zs : List (ℕ × C)) → IsPrefix xs ys → IsPrefix ys zs → calls_by k xs ≡ calls_by k zs → calls_by k ys ≡ calls_by k xs
   own_between k xs ys zs p q e =
-      let one : own_calls k ys ≡ own_calls k xs ++ own_calls k p.0 = sym (ap (own_calls k) p.1) ∙ own_calls-append k xs p.0 in
-      let two : own_calls k zs ≡ own_calls k ys ++ own_calls k q.0 = sym (ap (own_calls k) q.1) ∙ own_calls-append k ys q.0 in
-      let all : own_calls k xs ++ (own_calls k p.0 ++ own_calls k q.0) ≡ own_calls k xs = sym (append_assoc (own_calls k xs) (own_calls k p.0) (own_calls k q.0)) ∙ (ap (λ z. z ++ own_calls k q.0) (sym one) ∙ (sym two ∙ sym e)) in
-      let none : own_calls k p.0 ≡ [] = nothing_left (own_calls k p.0) (own_calls k q.0) (nothing_more (own_calls k xs) (own_calls k p.0 ++ own_calls k q.0) all) in
-      one ∙ (ap (λ z. own_calls k xs ++ z) none ∙ append-nil (own_calls k xs))
+      let one : calls_by k ys ≡ calls_by k xs ++ calls_by k p.0 = sym (ap (calls_by k) p.1) ∙ calls_by-append k xs p.0 in
+      let two : calls_by k zs ≡ calls_by k ys ++ calls_by k q.0 = sym (ap (calls_by k) q.1) ∙ calls_by-append k ys q.0 in
+      let all : calls_by k xs ++ (calls_by k p.0 ++ calls_by k q.0) ≡ calls_by k xs = sym (append_assoc (calls_by k xs) (calls_by k p.0) (calls_by k q.0)) ∙ (ap (λ z. z ++ calls_by k q.0) (sym one) ∙ (sym two ∙ sym e)) in
+      let none : calls_by k p.0 ≡ [] = nothing_left (calls_by k p.0) (calls_by k q.0) (nothing_more (calls_by k xs) (calls_by k p.0 ++ calls_by k q.0) all) in
+      one ∙ (ap (λ z. calls_by k xs ++ z) none ∙ append-nil (calls_by k xs))
 
   pub longer_one : (xs ys zs : List (ℕ × C)) → IsPrefix xs zs → IsPrefix ys zs → IsPrefix xs (longer xs ys) × IsPrefix ys (longer xs ys) × IsPrefix (longer xs ys) zs
   longer_one xs ys zs p q = go (ltb (length xs) (length ys)) refl

@@ -4,7 +4,7 @@ use Rattle.std.specs.Result.{is_ok}
 use Rattle.std.proofs.Common.{true, ◌≡◌, ℕ, ◌+◌, ◌<◌, ◌≤◌, ◌^◌, List, [], ◌∷◌, ◌++◌, length, ap, sym, ◌∙◌, subst, arith, length-append, Option, Some, None}
 use Rattle.std.proofs.lemmas.List.Elements.{All-push}
 use Rattle.atomic_table.specs.Table.{Me}
-use Rattle.poets_machine.specs.Histories.{own_calls}
+use Rattle.poets_machine.specs.Histories.{calls_by}
 use Rattle.poets_machine.proofs.Histories.{own_added}
 use Rattle.poets_turn.specs.declared.view.View.{View}
 use Rattle.poets_turn.specs.declared.view.Setting.{Setting}
@@ -33,13 +33,13 @@ module _ {M C F K : Type 0} (history : M → List (ℕ × C)) (frame : M → F) 
         let e = ap (λ m. m.0) holds in let setting = h.setting u has in let few : k ≤ u.clerks = let a = setting.2 in omega arith in
         let front : w.front ≡ history x ++ (k, c) ∷ [] = ap (λ z. z.front) now ∙ adds in
         let calls : w.calls ≡ v.calls ++ c ∷ [] = ap (λ z. z.calls) now ∙ ap (λ z. z.calls ++ c ∷ []) e in
-        let before : own_calls k (history x) ≡ v.calls = subst (λ (n : ℕ). own_calls n (history x) ≡ v.calls) is (h.calls (subst (λ (n : ℕ). 0 < n) (sym is) low)).0 in record {
+        let before : calls_by k (history x) ≡ v.calls = subst (λ (n : ℕ). calls_by n (history x) ≡ v.calls) is (h.calls (subst (λ (n : ℕ). 0 < n) (sym is) low)).0 in record {
           before = history x;
           longer = h.front;
           last = front;
           owed = owed;
           calls = calls;
-          own = ap (own_calls k) front ∙ (own_added k (history x) c ∙ (ap (λ z. z ++ c ∷ []) before ∙ sym calls));
+          own = ap (calls_by k) front ∙ (own_added k (history x) c ∙ (ap (λ z. z ++ c ∷ []) before ∙ sym calls));
           clerks = subst (OnlyClerks u.clerks) (sym front) (All-push (λ e. (0 < e.0) × (e.0 ≤ u.clerks)) (history x) (k, c) setting.1 (low, few));
           short = let n = ap length front in let a = length-append (history x) ((k, c) ∷ []) in let b = h.short in omega arith;
         }

@@ -9,7 +9,7 @@ use native.Mathlib.Decide.{ℕ_discrete}
 use lib.ListN.{get_elem?}
 use Rattle.atomic_table.specs.Table.{State, Splits, Joins, opening, Final, Seen}
 use Rattle.atomic_table.proofs.Lists.{set_again, set_here, set_else, at_longer, at_last}
-use Rattle.poets_machine.specs.Histories.{own_calls}
+use Rattle.poets_machine.specs.Histories.{calls_by}
 use Rattle.poets_machine.proofs.Histories.{own_none}
 use Rattle.poets_turn.specs.declared.view.View.{View}
 use Rattle.poets_turn.specs.declared.view.Setting.{Setting}
@@ -209,8 +209,8 @@ module _ {M C F : Type 0} (history : M → List (ℕ × C)) (frame : M → F) (f
       let m' : Meaning C = record m { numbers = numbers } in
       let stays : (j k : ℕ) → m.numbers.number_seat k ≡ j → j ≢ other → seats k ≡ j = λ j k e ne. moved_else m.numbers.number_seat other id k (λ is. ne (sym e ∙ is)) ∙ e in
       let over_stays : (j k : ℕ) → m.numbers.number_seat k ≡ j → j ≢ other → over k ≡ m.numbers.is_ended k = λ j k e ne. put_else m.numbers.is_ended w.number true k (λ is. ne (sym e ∙ (ap m.numbers.number_seat is ∙ d.seat))) in
-      let clerk : (j k : ℕ) (front : List (ℕ × C)) (own_calls : List C) → j ≢ other → IsClerk m.numbers m.log j k front own_calls → IsClerk numbers m.log j k front own_calls =
-      λ j k front own_calls ne h. record { high = h.high; seat = stays j k h.seat ne; over = over_stays j k h.seat ne ∙ h.over; calls = h.calls; seen = h.seen } in
+      let clerk : (j k : ℕ) (front : List (ℕ × C)) (calls_by : List C) → j ≢ other → IsClerk m.numbers m.log j k front calls_by → IsClerk numbers m.log j k front calls_by =
+      λ j k front calls_by ne h. record { high = h.high; seat = stays j k h.seat ne; over = over_stays j k h.seat ne ∙ h.over; calls = h.calls; seen = h.seen } in
       let taken : (j : ℕ) (es : List (ℕ × List C)) → j ≢ other → All (IsEnded m.numbers m.log j) es → All (IsEnded numbers m.log j) es =
       λ j es ne h. All-weaker (IsEnded m.numbers m.log j) (IsEnded numbers m.log j)
       (λ e g. record { low = g.low; high = g.high; seat = stays j e.0 g.seat ne; over = over_stays j e.0 g.seat ne ∙ g.over; calls = g.calls }) es h in
@@ -353,10 +353,10 @@ module _ {M C F : Type 0} (history : M → List (ℕ × C)) (frame : M → F) (f
       no_idle : (t : ℕ) (l : List (ℕ × C)) → ◌≡◌ {A = Stage C} Idle (Serving t l) → ⊥
       no_idle t l e = cc
 
-  -- the seat has taken in each clerk but its own_calls, so no one has a ticket, and the machine is in its slot
+  -- the seat has taken in each clerk but its calls_by, so no one has a ticket, and the machine is in its slot
   pub closes : (ws : List ℕ) (xs : List (Option M)) (id : ℕ) (v : V) → Final (Seen Kept id v) ws xs → v.stage ≡ Idle → 0 < v.number → ((k : ℕ) → 0 < k → k ≤ clerks → (k ≡ v.number) ⊎ HasEnded k v.ended)
-      → (x : M) × (get_elem? xs 0 ≡ some (Some x)) × (frame x ≡ f) × IsPrefix v.front (history x) × OnlyClerks clerks (history x) × (v.calls ≡ own_calls v.number (history x))
-      × All (λ e. e.1 ≡ own_calls e.0 (history x)) v.ended
+      → (x : M) × (get_elem? xs 0 ≡ some (Some x)) × (frame x ≡ f) × IsPrefix v.front (history x) × OnlyClerks clerks (history x) × (v.calls ≡ calls_by v.number (history x))
+      × All (λ e. e.1 ≡ calls_by e.0 (history x)) v.ended
   closes ws xs id v final idle mine all = let s = final.0 in let r = final.1.0 in let at = final.1.1 in let m = r.meaning in let q = r.each_seat id v at in
       let i : IsInSlot history frame f m.log s.homes = ⊎_elim (λ i. i) (λ (o : IsHeld m.serving (m.ticket_seat m.serving) m.log s.homes s.views). absurd (no_holder s r id v at idle mine all o)) r.machine in (
         i.machine,
@@ -364,6 +364,6 @@ module _ {M C F : Type 0} (history : M → List (ℕ × C)) (frame : M → F) (f
         i.frame_is,
         subst (IsPrefix v.front) (sym i.history_is) q.front,
         subst (OnlyClerks clerks) (sym i.history_is) (All-weaker (λ e. (0 < e.0) × (e.0 ≤ m.numbers.made)) (λ e. (0 < e.0) × (e.0 ≤ clerks)) (λ e h. let g = h.1 in let few = r.numbers.few_made in (h.0, omega arith)) m.log r.all_made),
-        (q.clerk mine).calls ∙ ap (own_calls v.number) (sym i.history_is),
-        All-weaker (IsEnded m.numbers m.log id) (λ e. e.1 ≡ own_calls e.0 (history i.machine)) (λ e h. h.calls ∙ ap (own_calls e.0) (sym i.history_is)) v.ended q.ended,
+        (q.clerk mine).calls ∙ ap (calls_by v.number) (sym i.history_is),
+        All-weaker (IsEnded m.numbers m.log id) (λ e. e.1 ≡ calls_by e.0 (history i.machine)) (λ e h. h.calls ∙ ap (calls_by e.0) (sym i.history_is)) v.ended q.ended,
       )

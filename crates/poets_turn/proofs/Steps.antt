@@ -12,7 +12,7 @@ use lib.Seq.{set-get_or}
 use prog.Atomic.{either}
 use Rattle.atomic_table.specs.Table.{State, Me, step, keeps, takes, gives, stepped, homes_after, rest, Allows}
 use Rattle.atomic_table.proofs.Lists.{set_again, set_here}
-use Rattle.poets_machine.specs.Histories.{own_calls}
+use Rattle.poets_machine.specs.Histories.{calls_by}
 use Rattle.poets_machine.proofs.Histories.{own_added, own_kept}
 use Rattle.poets_turn.specs.declared.view.View.{View}
 use Rattle.poets_turn.specs.declared.view.Setting.{Setting}
@@ -214,7 +214,7 @@ module _ {M C F : Type 0} (history : M → List (ℕ × C)) (frame : M → F) (f
             record {
               setting = λ a b. let z = q.setting a b in (i.frame_is ∙ sym z.0, subst (OnlyClerks a.clerks) (sym i.history_is) (all_below m.numbers.made a.clerks (let h = r.numbers.few_made in let g = z.1 in omega arith) m.log r.all_made), numbered s r id me.0 at a b);
               front = subst (λ l. IsPrefix me.0.front l) (sym i.history_is) q.front;
-              calls = λ low. let c = q.clerk low in (ap (own_calls me.0.number) i.history_is ∙ sym c.calls, c.seen);
+              calls = λ low. let c = q.clerk low in (ap (calls_by me.0.number) i.history_is ∙ sym c.calls, c.seen);
               short = let h = r.short in let g = ap length i.history_is in omega (arith, e);
             },
           )),
@@ -237,7 +237,7 @@ module _ {M C F : Type 0} (history : M → List (ℕ × C)) (frame : M → F) (f
       (serves : v.stage ≡ Serving t l) (up : next ≡ t + 1) (carried : cs ≡ (0, Some x) ∷ []) where
     -- the machine goes back, and the turn to the next ticket
     handed : (seen_now : List (ℕ × C)) (mine : List C) → frame x ≡ f → IsPrefix r.meaning.log (history x) → length (history x) ≤ r.meaning.serving + 1 → OnlyClerks r.meaning.numbers.made (history x)
-        → IsPrefix seen_now (history x) → (own_calls v.number seen_now ≡ mine) × (mine ≡ own_calls v.number (history x)) → ((k : ℕ) → k ≢ v.number → own_calls k (history x) ≡ own_calls k r.meaning.log)
+        → IsPrefix seen_now (history x) → (calls_by v.number seen_now ≡ mine) × (mine ≡ calls_by v.number (history x)) → ((k : ℕ) → k ≢ v.number → calls_by k (history x) ≡ calls_by k r.meaning.log)
         → IsKnown (history x) (set s.views id (record v { stage = Idle; front = seen_now; calls = mine })) → Kept (stepped s 1 next id cs (record v { stage = Idle; front = seen_now; calls = mine }) gives)
     handed seen_now mine framed longer short all front calls others seen = let m = r.meaning in let q = r.each_seat id v at in
         let w : V = record v { stage = Idle; front = seen_now; calls = mine } in
@@ -329,14 +329,14 @@ module _ {M C F : Type 0} (history : M → List (ℕ × C)) (frame : M → F) (f
         let some_number : 0 < v.number = dite (ℕ_discrete v.number 0) (λ z. absurd (no_serving t l (sym serves ∙ (q.nobody z).0))) (λ ne. omega arith) in
         let clerk = q.clerk some_number in let high = clerk.high in let short = r.short in
         let to : history x ≡ m.log ++ (v.number, c) ∷ [] = adds ∙ ap (λ z. z ++ (v.number, c) ∷ []) turn.3 in
-        let mine : v.calls ++ c ∷ [] ≡ own_calls v.number (history x) = ap (λ z. z ++ c ∷ []) clerk.calls ∙ (sym (own_added v.number m.log c) ∙ ap (own_calls v.number) (sym to)) in (
+        let mine : v.calls ++ c ∷ [] ≡ calls_by v.number (history x) = ap (λ z. z ++ c ∷ []) clerk.calls ∙ (sym (own_added v.number m.log c) ∙ ap (calls_by v.number) (sym to)) in (
           record v { stage = Idle; front = history x; calls = v.calls ++ c ∷ [] },
           gives,
           tt,
           handed s r t next id l me.1 v x at serves up carried (history x) (v.calls ++ c ∷ []) (framed ∙ (q.setting u has).0) ((v.number, c) ∷ [], sym to)
               (let e = ap length to in let n = length-append m.log ((v.number, c) ∷ []) in omega arith)
               (subst (OnlyClerks m.numbers.made) (sym to) (All-push (λ e. (0 < e.0) × (e.0 ≤ m.numbers.made)) m.log (v.number, c) r.all_made (some_number, high)))
-              (prefix_self (history x)) (sym mine, mine) (λ k ne. ap (own_calls k) to ∙ own_kept k v.number m.log c (λ e. ne (sym e)))
+              (prefix_self (history x)) (sym mine, mine) (λ k ne. ap (calls_by k) to ∙ own_kept k v.number m.log c (λ e. ne (sym e)))
               (let w : V = record v { stage = Idle; front = history x; calls = v.calls ++ c ∷ [] } in
               (id, w, set_here s.views id w (at_below s.views id v at), longer_left (history x) v.heard (history x) (prefix_trans v.heard m.log (history x) q.heard ((v.number, c) ∷ [], sym to)) refl)),
           λ t' l' x' c' serves' carried' adds'.
@@ -358,7 +358,7 @@ module _ {M C F : Type 0} (history : M → List (ℕ × C)) (frame : M → F) (f
           tt,
           handed s r t next id l me.1 v x at serves up carried v.front v.calls (framed ∙ (q.setting u has).0) (subst (IsPrefix m.log) (sym to) (prefix_self m.log))
               (let e = ap length to in omega arith) (subst (OnlyClerks m.numbers.made) (sym to) r.all_made) (subst (IsPrefix v.front) (sym to) q.front)
-              (clerk.seen, clerk.calls ∙ ap (own_calls v.number) (sym to)) (λ k ne. ap (own_calls k) to)
+              (clerk.seen, clerk.calls ∙ ap (calls_by v.number) (sym to)) (λ k ne. ap (calls_by k) to)
               (subst (λ l. IsKnown l (set s.views id (record v { stage = Idle }))) (sym to) (seen_stays m.log s.views id v (record v { stage = Idle }) at (λ h. h) r.seen)),
           λ i. (record v { stage = Idle }, rest (carried i)),
         )

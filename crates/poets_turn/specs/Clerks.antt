@@ -7,7 +7,7 @@ use Rattle.std.specs.declared.sync.Arc.{Arc}
 use Rattle.std.specs.Arc.{arc_value}
 use mathlib.Core.List.{IsPrefix}
 use Rattle.atomic_table.specs.declared.shared.Seat.{Seat}
-use Rattle.poets_machine.specs.Histories.{own_calls}
+use Rattle.poets_machine.specs.Histories.{calls_by}
 use Rattle.poets_turn.specs.declared.types.Turn.{Turn}
 use Rattle.poets_turn.specs.declared.types.ClerkOf.{ClerkOf}
 use Rattle.poets_turn.specs.declared.types.NoteOf.{NoteOf}
@@ -101,7 +101,7 @@ pub record IsCall {C K : Type 0} (owes : List (ℕ × C) → ℕ → C → K →
   -- the call is one more of the clerk's own
   pub calls : made' ≡ made ++ call ∷ []
   -- what it saw has just its own calls under its number
-  pub own : own_calls number saw' ≡ made'
+  pub own : calls_by number saw' ≡ made'
   -- each entry that it saw is under the number of a clerk
   pub clerks : OnlyClerks count saw'
   -- and the entries can be counted in 64 bits
@@ -129,7 +129,7 @@ module _ {M C R K F T : Type 0} where
 pub record IsClerkIn {C : Type 0} (history : List (ℕ × C)) (number : ℕ) (saw : List (ℕ × C)) (made : List C) :
     Type 0 where
   pub front : IsPrefix saw history
-  pub calls : own_calls number history ≡ made
+  pub calls : calls_by number history ≡ made
 
 -- the history begins with all that each of the clerks saw, and of each it has just its own calls,
 -- each once, in order

@@ -50,19 +50,19 @@ adds-one g old new e f = record {
 }
 
 -- and so are two
-pub adds-both : (g : CodeGoal) (c₁ c₂ : Contract) (pairs : Pairs) (n : ℕ) (old mid new : Open) (f h : Bool) →
-    Adds c₂ pairs (g.count - n) old mid f → Adds c₁ g.pairs.items n mid new h → pairs ≡ g.pairs.items → n ≤ g.count → AddsBoth g c₁ c₂ n old new h
-adds-both g c₁ c₂ pairs n old mid new f h two one e l = record {
-  yes = one.yes;
-  events = one.events ∙ two.events;
-  count = omega (arith, one.count, two.count, l);
-  goals = λ s.
-      one.goals s
-      ∙ ap (λ gs. record { env = reverse g.pairs.items; contract = c₁; events = take n s } ∷ gs) (two.goals (drop n s))
-      ∙ ap (λ ps. record { env = reverse g.pairs.items; contract = c₁; events = take n s }
-      ∷ record { env = reverse ps; contract = c₂; events = take (g.count - n) (drop n s) }
-      ∷ goals_of (reverse old.goals.items) (drop (g.count - n) (drop n s))) e;
-}
+module _ (g : CodeGoal) (c₁ c₂ : Contract) (pairs : Pairs) (n : ℕ) (e : pairs ≡ g.pairs.items) (l : n ≤ g.count) where
+  pub adds-both : (old mid new : Open) (f h : Bool) → Adds c₂ pairs (g.count - n) old mid f → Adds c₁ g.pairs.items n mid new h → AddsBoth g c₁ c₂ n old new h
+  adds-both old mid new f h two one = record {
+    yes = one.yes;
+    events = one.events ∙ two.events;
+    count = omega (arith, one.count, two.count, l);
+    goals = λ s.
+        one.goals s
+        ∙ ap (λ gs. record { env = reverse g.pairs.items; contract = c₁; events = take n s } ∷ gs) (two.goals (drop n s))
+        ∙ ap (λ ps. record { env = reverse g.pairs.items; contract = c₁; events = take n s }
+        ∷ record { env = reverse ps; contract = c₂; events = take (g.count - n) (drop n s) }
+        ∷ goals_of (reverse old.goals.items) (drop (g.count - n) (drop n s))) e;
+  }
 
 module _ (c : Contract) (pairs : Pairs) (n : ℕ) (old new : Open) (fits : Bool) (adds : Adds c pairs n old new fits) where
   -- what is open then

@@ -5,7 +5,7 @@ use Rattle.std.specs.Prelude.{List, [], ◌∷◌, ◌++◌, length, take, drop,
 use Rattle.poets_value.specs.Limits.{longest_text}
 use Rattle.poets_disk.specs.Memory.{DiskCall, wrote, failed_write, synced, failed_sync, held_by}
 use Rattle.poets_disk.specs.Memory.{held_after, most_calls}
-use Rattle.poets_disk.specs.Kept.{calls_of}
+use Rattle.poets_disk.specs.Kept.{disk_calls}
 use Rattle.poets_disk.specs.declared.memory.Mark.{Mark}
 use Rattle.poets_disk.specs.declared.memory.Mark.TheVariants.{Wrote, FailedWrite, Synced}
 use Rattle.poets_disk.specs.declared.memory.Mark.TheVariants.{FailedSync}
@@ -31,8 +31,8 @@ AreKept held (failed_sync ∷ calls) = AreKept held calls
 
 -- the file is what the calls made of it, and there is room for what may come
 pub record HasRoom (m : Inside) : Type 0 where
-  pub kept : AreKept m.first.items (calls_of m.marks.items m.written.items)
-  pub held : m.held.items ≡ held_by m.first.items (calls_of m.marks.items m.written.items)
+  pub kept : AreKept m.first.items (disk_calls m.marks.items m.written.items)
+  pub held : m.held.items ≡ held_by m.first.items (disk_calls m.marks.items m.written.items)
   pub pieces : marked m.marks.items ≡ vec_len m.written
   pub held_short : vec_len m.held ≤ longest_text
   pub held_room : longest_text ≤ vec_capacity m.held

@@ -1,6 +1,5 @@
 -- What a reader of the code answers, against reading on lists.
-use Rattle.std.specs.Prelude.{◌≡◌, ◌<◌, List, length, map, Option, Some, None, Result, Ok, Err}
-use Rattle.std.specs.Prelude.{IfOk, option_map}
+use Rattle.std.specs.Prelude.{◌≡◌, ◌<◌, List, length, map, Option, Result, Ok, Err, IfOk, option_map}
 use Rattle.std.specs.Borrow.{Bor}
 use Rattle.poets_value.specs.Listed.{Listed}
 use Rattle.poets_value.specs.declared.value.Name.{Name}
@@ -13,16 +12,16 @@ use Rattle.poets_syntax.specs.Contract.{contract_of}
 use Rattle.poets_lex.specs.declared.token.Tok.{Tok}
 use Rattle.poets_lex.specs.declared.token.Token.{Token}
 use Rattle.poets_grammar.specs.Tokens.{toks}
-use Rattle.poets_grammar.specs.Reading.{Reader, expression}
+use Rattle.poets_grammar.specs.Reading.{Answer, Reading, Reader, Link, expression}
 use Rattle.poets_grammar.specs.ContractReading.{ContractReader, simple}
 use Rattle.poets_parse.specs.declared.fault.SyntaxFault.{SyntaxFault}
 use Rattle.poets_parse.specs.declared.fault.SyntaxFault.TheVariants as F
 use Rattle.poets_parse.specs.declared.fault.ReadFault.{ReadFault}
 use Rattle.poets_parse.specs.declared.fault.ReadFault.TheVariants as R
 
--- a refusal comes where nothing is read; memory may run out anywhere
-abbrev pub Refuses : {Y : Type 0} → ReadFault → Option Y → Type 0
-Refuses (R.Unfit left) read = read ≡ None
+-- a refusal comes where nothing is read, and at its place; memory may run out anywhere
+abbrev pub Refuses : {Y : Type 0} → ReadFault → Answer Y → Type 0
+Refuses (R.Unfit left) read = read ≡ Err left
 Refuses R.Memory read = Unit {0}
 
 -- what a reader's fault is to those who ask for a statement
@@ -31,13 +30,12 @@ syntax_fault (R.Unfit left) = F.NoSentence
 syntax_fault R.Memory = F.Memory
 
 -- the answer, as it is viewed, is what is read
-abbrev pub Gives : {X Y : Type 0} → (X → Y) → Result X ReadFault → Option Y → Type 0
-Gives view (Ok x) read = read ≡ Some (view x)
+abbrev pub Gives : {X Y : Type 0} → (X → Y) → Result X ReadFault → Answer Y → Type 0
+Gives view (Ok x) read = read ≡ Ok (view x)
 Gives view (Err fault) read = Refuses fault read
 
 -- the same of a reader that answers what stands after, too
-abbrev pub GivesFront : {X Y : Type 0} → (X → Y) → Result (X × Bor (List Token)) ReadFault → Option (Y × List Tok) →
-    Type 0
+abbrev pub GivesFront : {X Y : Type 0} → (X → Y) → Result (X × Bor (List Token)) ReadFault → Reading Y → Type 0
 GivesFront view result read = Gives (λ p. (view p.0, toks p.1.now)) result read
 
 -- the answer is the expression that the rule reads, over the reader of whole expressions
@@ -50,8 +48,7 @@ abbrev pub GivesContract : (ContractReader → ContractReader) → List Token �
 GivesContract rule tokens result = GivesFront contract_of result (rule simple (toks tokens))
 
 -- the answer is the list that is read, by its items
-abbrev pub GivesItems : {X : Type 0} → Result (Listed X × Bor (List Token)) ReadFault → Option (List X × List Tok) →
-    Type 0
+abbrev pub GivesItems : {X : Type 0} → Result (Listed X × Bor (List Token)) ReadFault → Reading (List X) → Type 0
 GivesItems result read = GivesFront (λ l. l.items) result read
 
 -- the expressions of a list, as plain data
@@ -59,8 +56,7 @@ abbrev pub expressions_of : Listed Expr → List Expression
 expressions_of args = map expression_of args.items
 
 -- the answer is the list of arguments that is read, by its expressions as plain data
-abbrev pub GivesArguments : Result (Listed Expr × Bor (List Token)) ReadFault → Option (List Expression × List Tok) →
-    Type 0
+abbrev pub GivesArguments : Result (Listed Expr × Bor (List Token)) ReadFault → Reading (List Expression) → Type 0
 GivesArguments result read = GivesFront expressions_of result read
 
 -- the name, the parameters and the type of a report, as plain data
@@ -80,7 +76,7 @@ abbrev pub Finds : Option (Bor (List Token)) → Option (List Tok) → Type 0
 Finds found read = option_map (λ r. toks r.now) found ≡ read
 
 -- the answer is what is read and the tokens after it, and nothing where it does not stand there
-abbrev pub FindsFront : {X : Type 0} → Option (X × Bor (List Token)) → Option (X × List Tok) → Type 0
+abbrev pub FindsFront : {X : Type 0} → Option (X × Bor (List Token)) → Link X → Type 0
 FindsFront found read = option_map (λ p. (p.0, toks p.1.now)) found ≡ read
 
 -- what is made is this expression, if memory is found for it

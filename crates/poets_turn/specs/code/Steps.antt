@@ -3,7 +3,7 @@ use Rattle.std.specs.Prelude.{◌≡◌, ◌≢◌, ℕ, ◌+◌, ◌<◌, ◌�
 use Rattle.std.specs.Prelude.{None}
 use mathlib.Core.List.{IsPrefix}
 use Rattle.atomic_table.specs.Table.{Me, Step}
-use Rattle.poets_machine.specs.Histories.{own_calls}
+use Rattle.poets_machine.specs.Histories.{calls_by}
 use Rattle.poets_turn.specs.declared.view.View.{View}
 use Rattle.poets_turn.specs.declared.view.Setting.{Setting}
 use Rattle.poets_turn.specs.declared.view.Stage.TheVariants.{Idle, Waiting, Serving}
@@ -77,7 +77,7 @@ module _ {M C F : Type 0} (history : M → List (ℕ × C)) (frame : M → F) wh
     pub setting : (s : Setting F) → v.setting ≡ Some s →
         (frame machine ≡ s.frame) × OnlyClerks s.clerks (history machine) × (v.number ≤ s.clerks)
     pub front : IsPrefix v.front (history machine)
-    pub calls : 0 < v.number → (own_calls v.number (history machine) ≡ v.calls) × (own_calls v.number v.front ≡ v.calls)
+    pub calls : 0 < v.number → (calls_by v.number (history machine) ≡ v.calls) × (calls_by v.number v.front ≡ v.calls)
     pub short : length (history machine) ≤ ticket
 
   -- the seat with the view v holds the machine, whose slot has this

@@ -8,7 +8,7 @@ use mathlib.Core.List.{IsPrefix}
 use mathlib.Core.Option.{none, some}
 use lib.ListN.{get_elem?}
 use Rattle.atomic_table.specs.Table.{State}
-use Rattle.poets_machine.specs.Histories.{own_calls}
+use Rattle.poets_machine.specs.Histories.{calls_by}
 use Rattle.poets_turn.specs.Settings.{OnlyClerks}
 use Rattle.poets_turn.specs.declared.view.View.{View}
 use Rattle.poets_turn.specs.declared.view.Setting.{Setting}
@@ -72,7 +72,7 @@ pub record IsEnded {C : Type 0} (n : Numbers) (log : List (ℕ × C)) (place : �
   pub seat : n.number_seat e.0 ≡ place
   pub over : n.is_ended e.0 ≡ true
   -- its own calls are exactly those that the log has of it
-  pub calls : e.1 ≡ own_calls e.0 log
+  pub calls : e.1 ≡ calls_by e.0 log
 
 -- the seat at the place is that of the clerk of the number, with this front and these own calls
 pub record IsClerk {C : Type 0} (n : Numbers) (log : List (ℕ × C)) (place number : ℕ) (front : List (ℕ × C))
@@ -83,9 +83,9 @@ pub record IsClerk {C : Type 0} (n : Numbers) (log : List (ℕ × C)) (place num
   pub seat : n.number_seat number ≡ place
   pub over : n.is_ended number ≡ false
   -- its own calls are exactly those that the log has of it
-  pub calls : mine ≡ own_calls number log
+  pub calls : mine ≡ calls_by number log
   -- its front has all of them
-  pub seen : own_calls number front ≡ mine
+  pub seen : calls_by number front ≡ mine
 
 -- the view of the seat is right; the machine's frame and the number of clerks are those that the
 -- turnstile was made with

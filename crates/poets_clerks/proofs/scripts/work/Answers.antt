@@ -3,7 +3,7 @@ use Rattle.std.specs.Prelude.{All, get_or}
 use Rattle.std.specs.Arc.{arc_value}
 use lib.ListN.{length-map}
 use Rattle.poets_turn.specs.Clerks.{IsClerkOf, turn_frame}
-use Rattle.poets_clerks.specs.Scripts.{HaveWorked, EachWorked, answers_of, calls_of}
+use Rattle.poets_clerks.specs.Scripts.{HaveWorked, EachWorked, answers_of, script_calls}
 use Rattle.poets_clerks.proofs.Closing.{each_of, each_number}
 use Rattle.poets_clerks.proofs.Desks.{at_desk, each_worked, written_over}
 use Rattle.poets_clerks.proofs.scripts.work.Goals as goal
@@ -25,9 +25,9 @@ returns-in-Ok g c =
     let kept : length new ≡ length c.as_mut_slice.result.now = c.spread.auto.desks in
     let whole : take old.len (new ++ drop (length new) old.items) ≡ new = written_over old.len new old.items (kept ∙ c.as_mut_slice.ensures.len) (sym old.ok.0) in
     let each = subst
-    (λ (t : List _ × List _ × List _ × List _). EachWorked g.M.Machine.frame g.M.Machine.answers c.args.turn.now c.gathered.result.memory (map calls_of t.0) t.1 t.2 (map answers_of t.3))
+    (λ (t : List _ × List _ × List _ × List _). EachWorked g.M.Machine.frame g.M.Machine.answers c.args.turn.now c.gathered.result.memory (map script_calls t.0) t.1 t.2 (map answers_of t.3))
     (λ i. (c.as_slice.ensures i, desks i, sym (c.gathered.ensures.clerks ∙ ap (map (λ d. d.clerk)) whole) i, sym (c.gathered.ensures.answers ∙ ap (map (λ d. d.answers)) whole) i))
-    (each_worked g.M.Machine.frame g.M.Machine.answers c.args.turn.now c.gathered.result.memory (λ d. d.memory) (λ d. d.clerk) (λ d. d.answers) answers_of calls_of c.as_slice.result.now c.as_mut_slice.result.now new
+    (each_worked g.M.Machine.frame g.M.Machine.answers c.args.turn.now c.gathered.result.memory (λ d. d.memory) (λ d. d.clerk) (λ d. d.answers) answers_of script_calls c.as_slice.result.now c.as_mut_slice.result.now new
     (omega (arith, length-map c.as_mut_slice.result.now (λ e. e.clerk), ap length desks, c.requires.scripts, ap length c.as_slice.ensures)) kept
     (λ k d l e. subst (λ ys. All (λ y. y.memory ≡ false) ys) whole (c.gathered.ensures.memory e) k d l)
     (λ k s d l. c.spread.ensures.did k d l s)) in

@@ -15,5 +15,5 @@ returns c =
     let bits = to_z-of_z w128 sums.paid (omega (arith, ints)) in
     let line : string_bytes c.in_ok-format.field-0 ≡ line_of c.args.sales (length entries) sums.registered sums.recorded sums.ended sums.refused (to_z w128 (of_z w128 sums.paid)) =
     simp append_assoc (simp append_assoc at c.in_ok-format.ensures.ok) in
-    line ∙ line_of_history c.args.sales (length entries) sums.registered sums.recorded sums.ended sums.refused _ (history_of entries)
+    line ∙ line_of_history c.args.sales (history_of entries) (length entries) sums.registered sums.recorded sums.ended sums.refused _
     (sym (length-map entries entry_of)) are.registered are.recorded are.ended are.refused (bits ∙ are.paid)

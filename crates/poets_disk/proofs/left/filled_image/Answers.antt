@@ -1,10 +1,10 @@
 use Rattle.std.proofs.Common.{◌∙◌}
-use Rattle.poets_disk.specs.Kept.{calls_of}
+use Rattle.poets_disk.specs.Kept.{disk_calls}
 use Rattle.poets_disk.proofs.Picking.{front_kept, front_enough, kept_short, back_kept, back_enough, is_filled}
 use Rattle.poets_disk.proofs.left.filled_image.Goals as goal
 
 pub with_room-requires : goal.with_room-requires
-with_room-requires c = kept_short c.args.first.now (calls_of c.args.marks.now c.args.written.now) c.requires.kept
+with_room-requires c = kept_short c.args.first.now (disk_calls c.args.marks.now c.args.written.now) c.requires.kept
 
 pub replay-rest-requires-clause-kept : goal.replay-rest-requires-clause-kept
 replay-rest-requires-clause-kept c =

@@ -14,4 +14,4 @@ returns-clause-to_the_left c = expression_found less less_tree refl
 
 pub returns-clause-no_chain : goal.returns-clause-no_chain
 unfolding whole_expression expression expression_at disjunction conjunction negation comparison sum product prefixed primary literal joined more
-returns-clause-no_chain c = no_expression chained refl
+returns-clause-no_chain c = no_expression chained 2 refl

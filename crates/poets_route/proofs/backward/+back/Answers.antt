@@ -17,6 +17,7 @@ use Rattle.poets_route.specs.code.Undone.{Ends, IsFormed, UndoesWhole}
 use Rattle.poets_route.proofs.Choices.{refused}
 use Rattle.poets_route.proofs.Made.{given_as, given_since, grew_not, grew_twice, made_later, made_sides, made_there, node_made, two_made, sides_later, way_later, within_later}
 use Rattle.poets_route.proofs.Ready.{formed_body, ready_normal, ready_plus, ready_par, ready_seq, ready_grouped, not_success}
+use Rattle.poets_route.proofs.Sharing.{SharedWay}
 use Rattle.poets_route.proofs.Backing.{backs-left, backs-right, backs-began, begins-none, first-none}
 use Rattle.poets_route.proofs.Backed.{app_backed, begun_both, begun_rest, body_backed, first_backed, first_both, first_rest, over_backed, second_both, second_narrower, second_done, second_none, transmit_backed}
 use Rattle.poets_route.proofs.backward.+back.Goals as goal
@@ -51,8 +52,8 @@ back_app-returns t c =
     let m = c.in_ok-part.ensures in
     node_made old next c.enter.new.self c.enter.result (N.Enter c.in_ok-part.part) (Backs book marks e n (App c.args.name args) goal way) m.grew
     c.enter.ensures.number c.enter.ensures.ok
-    (app_backed book marks e f.studied n c.args.name args template (contract_of c.in_ok-body.body) goal way (way_at next c.in_ok-part.part)
-    (sym c.in-Some.ensures.template) f.fits f.formed c.in_ok-body.ensures m.made)
+    (app_backed book marks e f.studied c.args.name args template (sym c.in-Some.ensures.template) f.fits f.formed n (contract_of c.in_ok-body.body) goal
+    way (way_at next c.in_ok-part.part) c.in_ok-body.ensures m.made)
 
 pub back_body-back_one-requires : goal.back_body-back_one-requires
 back_body-back_one-requires t c =
@@ -80,7 +81,7 @@ back_body-returns t c =
     let from = way_at mid c.in_ok-part.part in
     given_since old mid c.undone.new.trails c.undone.result (UndoesWhole book marks (n + 1) body start from) (BacksBody book marks e n body goal way) m.grew
     c.undone.ensures
-    (λ w g. body_backed book marks e n (n + 1) body start goal way from from w c.in_ok-start.ensures refl refl m.made g)
+    (λ w g. body_backed book marks e n body start goal way from w c.in_ok-start.ensures m.made g)
 
 pub back_one-back_app-requires : goal.back_one-back_app-requires
 back_one-back_app-requires t c =
@@ -107,8 +108,9 @@ back_one-returns-in_ok-part-in-Transmit t c =
     let part = c.in_ok-part-in-Transmit.part in
     let m = c.in_ok-part-in-Transmit.ensures in
     node_made old next c.take.new.self c.take.result (N.Take part) (Backs book marks e n term goal way) m.grew c.take.ensures.number c.take.ensures.ok
-    (transmit_backed book marks e n term goal c.in-Transmit.binders (expression_of c.in-Transmit.when) (contract_of c.in-Transmit.then.value)
-    (contract_of c.deref.result.now) way (way_at next part) c.requires.event c.requires.ready (ap contract_of c.in-Transmit.is) (ap contract_of c.deref.ensures) m.made)
+    (transmit_backed book marks e n term c.requires.event c.requires.ready goal c.in-Transmit.binders (expression_of c.in-Transmit.when)
+    (contract_of c.in-Transmit.then.value) (contract_of c.deref.result.now) way (way_at next part) (ap contract_of c.in-Transmit.is)
+    (ap contract_of c.deref.ensures) m.made)
 
 pub back_par-is_beside-requires-clause-grouped : goal.back_par-is_beside-requires-clause-grouped
 back_par-is_beside-requires-clause-grouped t c =
@@ -138,7 +140,7 @@ back_par-returns t c =
     let goal = contract_of c.args.goal.now in
     let way = way_at old c.args.way in
     given_as old c.by_first.new.trails c.by_first.result (ByFirst book marks e n a b goal way) (Backs book marks e n (Par a b) goal way) c.by_first.ensures
-    (λ w g. first_backed book marks e n a b (contract_of c.in_ok-after_b.after_b) goal way w c.in_ok-after_b.ensures
+    (λ w g. first_backed book marks e n a b (contract_of c.in_ok-after_b.after_b) c.in_ok-after_b.ensures goal way w
     (refused c.is_beside.result c.is_beside.ensures c.if-is_beside.false) g)
 
 pub back_plus-back_one-requires : goal.back_plus-back_one-requires
@@ -270,7 +272,7 @@ back_seq-returns t c =
     let IsFirst : Way → Type 0 = λ w. Ends book a w in
     let IsSecond : Way → Type 0 = λ w. Backs book marks e n b goal from w in
     let Is : Way → Type 0 = λ w. Backs book marks e n (Seq a b) goal way w in
-    two_made old mid late c.then.new.self c.then.result first second (N.Then 0 first second) IsFirst IsSecond Is m k c.then.ensures.number c.then.ensures.ok
+    two_made old mid late first second IsFirst IsSecond m k c.then.new.self c.then.result (N.Then 0 first second) Is c.then.ensures.number c.then.ensures.ok
     (λ f g. over_backed book marks e n a b goal way from (way_at late second) (way_at late first)
     (c.in_ok-is_left.ensures.0 c.if-not-branch.false) (way_later m.grew c.args.way c.requires.way) f g)
 
@@ -300,7 +302,7 @@ begun-returns-in_default t c =
     let m = c.in_ok-first.ensures.0 in
     let k = c.in_ok-first.ensures.1 in
     node_made old mid c.then.new.self c.then.result (N.Then 1 first second) (Begins book marks e n a b goal way) m.grew c.then.ensures.number c.then.ensures.ok
-    (begun_rest book marks e n a b goal way (way_at mid second) (way_at mid first) c.requires.ready c.in_default.ensures.none (k.made) m.made)
+    (begun_rest book marks e n a b c.requires.ready goal way (way_at mid second) (way_at mid first) c.in_default.ensures.none (k.made) m.made)
 
 pub begun-returns-in_default-then_of : goal.begun-returns-in_default-then_of
 begun-returns-in_default-then_of t c =
@@ -349,8 +351,8 @@ begun-returns t c =
     let made = c.in_ok-first-2.first in
     node_made old next c.then-2.new.self c.then-2.result (N.Then (count + 1) made second) (Begins book marks e n a b goal way) m.grew
     c.then-2.ensures.number c.then-2.ensures.ok
-    (begun_both book marks e n count a b (contract_of c.in-Some.after_a.now) goal way (way_at old first) (way_at old second) (way_at next second) (way_at old first)
-    (way_at next made) (count + 1) c.requires.ready c.in-Some.ensures.some head.way (way_later m.grew second head.second_within) refl refl m.made)
+    (begun_both book marks e n a b c.requires.ready count (contract_of c.in-Some.after_a.now) goal way (way_at old first) (way_at old second)
+    (way_at next second) (way_at next made) c.in-Some.ensures.some head.way (way_later m.grew second head.second_within) m.made)
 
 pub by_first-back_over-requires : goal.by_first-back_over-requires
 by_first-back_over-requires t c =
@@ -386,8 +388,8 @@ by_first-returns-in_default t c =
     let k = made_later {t = old} {u = mid} {v = last} {k = second} {Is = Embeds b goal way} c.in_ok-first.ensures.1 grew in
     node_made old last c.both.new.self c.both.result (N.Both c.in_ok-sides.sides first second) (ByFirst book marks e n a b goal way) m.grew
     c.both.ensures.number c.both.ensures.ok
-    (first_rest book marks e n a b goal (sides_at last c.in_ok-sides.sides) rest way (way_at last second) (way_at last first) c.requires.event c.requires.ready
-    c.in_default.ensures.none sides.made r.made k.made m.made)
+    (first_rest book marks e n a b c.requires.event c.requires.ready goal (sides_at last c.in_ok-sides.sides) rest way (way_at last second)
+    (way_at last first) c.in_default.ensures.none sides.made r.made k.made m.made)
 
 pub by_first-returns-in_default-both_of : goal.by_first-returns-in_default-both_of
 by_first-returns-in_default-both_of t c =
@@ -447,12 +449,21 @@ by_first-returns t c =
     let whose = sides.made ∙ ap (λ s. false ∷ s) (sides_later g.grew c.in-Some-both_of.rest head.sides_within) in
     let k = made_later {t = mid} {u = late} {v = last} {k = made} {Is = BacksWhole book marks e c.shares-firsts.result.0 a (contract_of c.in-Some.after_a.now) (way_at mid first)}
     g sides.grew in
+    let parted : SharedWay n (way_at mid c.in_ok-parted.parted) = record {
+      sides = rest;
+      first = way_at mid first;
+      second = way_at mid second;
+      first_count = c.shares-firsts.result.0;
+      second_count = c.shares-firsts.result.1;
+      is = head.way;
+      first_is = c.shares-firsts.ensures.first;
+      second_is = c.shares-firsts.ensures.second;
+    } in
     node_made old last c.both-2.new.self c.both-2.result (N.Both c.in_ok-sides-2.sides made second) (ByFirst book marks e n a b goal way) (grew_twice p.grew k.grew)
     c.both-2.ensures.number c.both-2.ensures.ok
-    (first_both book marks e n c.shares-firsts.result.0 a b (contract_of c.in-Some.after_a.now) goal (sides_at last c.in_ok-sides-2.sides) rest way
-    (way_at mid c.in_ok-parted.parted) (way_at mid first) (way_at mid first) (way_at mid second) (way_at last second) (way_at last made)
-    c.requires.event c.requires.ready c.in-Some.ensures.some p.made head.way whose refl (way_later k.grew second head.second_within)
-    c.shares-firsts.ensures.first k.made)
+    (first_both book marks e n a b c.requires.event c.requires.ready (contract_of c.in-Some.after_a.now) goal c.in-Some.ensures.some way
+    (way_at mid c.in_ok-parted.parted) p.made parted (sides_at last c.in_ok-sides-2.sides) (way_at last second) {w = way_at last made} whose
+    (way_later k.grew second head.second_within) k.made)
 
 pub by_second-back_over-requires : goal.by_second-back_over-requires
 by_second-back_over-requires t c =
@@ -488,8 +499,8 @@ by_second-returns-then-is_done t c =
     let k = made_later {t = old} {u = mid} {v = last} {k = first} {Is = Embeds a goal way} c.in_ok-second.ensures.1 grew in
     node_made old last c.both.new.self c.both.result (N.Both c.in_ok-sides.sides first second) (BySecond book marks e n a b goal way) m.grew
     c.both.ensures.number c.both.ensures.ok
-    (second_done book marks e n a b (contract_of c.args.after_b.now) goal (sides_at last c.in_ok-sides.sides) rest way (way_at last first) (way_at last second)
-    c.requires.after (c.is_done.ensures.0 c.if-is_done.true) sides.made r.made k.made m.made)
+    (second_done book marks e n a b (contract_of c.args.after_b.now) c.requires.after goal (sides_at last c.in_ok-sides.sides) rest way (way_at last first)
+    (way_at last second) (c.is_done.ensures.0 c.if-is_done.true) sides.made r.made k.made m.made)
 
 pub by_second-returns-in_default : goal.by_second-returns-in_default
 by_second-returns-in_default t c =
@@ -506,8 +517,8 @@ by_second-returns-in_default t c =
     let parted = way_at c.beside.new.trails c.in_ok-parted.parted in record {
       grew = p.grew;
       within = p.within;
-      made = second_none book marks e n a b (contract_of c.args.after_b.now) goal way parted parted c.requires.ready
-          (refused c.is_done.result c.is_done.ensures c.if-is_done.false) c.requires.after p.made c.in_default.ensures.none;
+      made = second_none book marks e n a b (contract_of c.args.after_b.now) c.requires.after c.requires.ready
+          (refused c.is_done.result c.is_done.ensures c.if-is_done.false) goal way parted parted p.made c.in_default.ensures.none;
     }
 
 pub by_second-back-requires : goal.by_second-back-requires
@@ -550,9 +561,18 @@ by_second-returns t c =
     let whose = sides.made ∙ ap (λ s. true ∷ s) (sides_later g.grew c.in-Some.rest head.sides_within) in
     let k = made_later {t = mid} {u = late} {v = last} {k = made} {Is = BacksWhole book marks e c.shares-seconds.result.1 b (contract_of c.args.after_b.now) (way_at mid second)}
     g sides.grew in
+    let parted : SharedWay n (way_at mid c.in_ok-parted.parted) = record {
+      sides = rest;
+      first = way_at mid first;
+      second = way_at mid second;
+      first_count = c.shares-seconds.result.0;
+      second_count = c.shares-seconds.result.1;
+      is = head.way;
+      first_is = c.shares-seconds.ensures.first;
+      second_is = c.shares-seconds.ensures.second;
+    } in
     node_made old last c.both-2.new.self c.both-2.result (N.Both c.in_ok-whose.whose first made) (BySecond book marks e n a b goal way) (grew_twice p.grew k.grew)
     c.both-2.ensures.number c.both-2.ensures.ok
-    (second_both book marks e n c.shares-seconds.result.1 a b (contract_of c.args.after_b.now) goal (sides_at last c.in_ok-whose.whose) rest way
-    (way_at mid c.in_ok-parted.parted) (way_at mid first) (way_at last first) (way_at mid second) (way_at mid second) (way_at last made)
-    c.requires.ready (refused c.is_done.result c.is_done.ensures c.if-is_done.false) c.requires.after p.made head.way whose
-    (way_later k.grew first head.first_within) refl c.shares-seconds.ensures.second k.made)
+    (second_both book marks e n a b (contract_of c.args.after_b.now) c.requires.after c.requires.ready
+    (refused c.is_done.result c.is_done.ensures c.if-is_done.false) goal way (way_at mid c.in_ok-parted.parted) p.made parted
+    (sides_at last c.in_ok-whose.whose) (way_at last first) (way_at last made) whose (way_later k.grew first head.first_within) k.made)

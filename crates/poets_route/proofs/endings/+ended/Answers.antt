@@ -91,9 +91,10 @@ returns-in_ok-second-in-Par t c =
     let k = made_later {t = c.args.trails.now} {u = mid} {v = last} {k = first} {Is = Ends book (contract_of c.deref-in-Par.result.now)} m n.grew in
     node_made c.args.trails.now last c.both.new.self c.both.result (N.Both c.no_sides-none.result first second)
     (EndsIn c.args.studied.now (contract_of c.args.term.now)) k.grew c.both.ensures.number c.both.ensures.ok
-    (ends-both book (marks_of c.args.studied.now) (contract_of c.args.term.now) (contract_of c.in-Par.a.value) (contract_of c.in-Par.b.value)
-    (contract_of c.deref-in-Par.result.now) (contract_of c.deref-in-Par-2.result.now) (way_at last first) (way_at last second) (sides_at last c.no_sides-none.result)
-    (ap contract_of c.in-Par.is) (ap contract_of c.deref-in-Par.ensures) (ap contract_of c.deref-in-Par-2.ensures) c.no_sides-none.ensures.sides k.made n.made)
+    (ends-both book (marks_of c.args.studied.now) (contract_of c.in-Par.a.value) (contract_of c.in-Par.b.value) (contract_of c.deref-in-Par.result.now)
+    (contract_of c.deref-in-Par-2.result.now) (ap contract_of c.deref-in-Par.ensures) (ap contract_of c.deref-in-Par-2.ensures) (way_at last first)
+    (way_at last second) k.made n.made (contract_of c.args.term.now) (sides_at last c.no_sides-none.result) (ap contract_of c.in-Par.is)
+    c.no_sides-none.ensures.sides)
 
 pub returns-in_ok-second-in-Seq : goal.returns-in_ok-second-in-Seq
 returns-in_ok-second-in-Seq t c =
@@ -107,9 +108,9 @@ returns-in_ok-second-in-Seq t c =
     let k = made_later {t = c.args.trails.now} {u = mid} {v = last} {k = first} {Is = Ends book (contract_of c.deref-in-Seq.result.now)} m n.grew in
     node_made c.args.trails.now last c.then.new.self c.then.result (N.Then 0 first second)
     (EndsIn c.args.studied.now (contract_of c.args.term.now)) k.grew c.then.ensures.number c.then.ensures.ok
-    (ends-then book (marks_of c.args.studied.now) (contract_of c.args.term.now) (contract_of c.in-Seq.a.value) (contract_of c.in-Seq.b.value)
-    (contract_of c.deref-in-Seq.result.now) (contract_of c.deref-in-Seq-2.result.now) (way_at last first) (way_at last second)
-    (ap contract_of c.in-Seq.is) (ap contract_of c.deref-in-Seq.ensures) (ap contract_of c.deref-in-Seq-2.ensures) k.made n.made)
+    (ends-then book (marks_of c.args.studied.now) (contract_of c.in-Seq.a.value) (contract_of c.in-Seq.b.value) (contract_of c.deref-in-Seq.result.now)
+    (contract_of c.deref-in-Seq-2.result.now) (ap contract_of c.deref-in-Seq.ensures) (ap contract_of c.deref-in-Seq-2.ensures) (way_at last first)
+    (way_at last second) k.made n.made (contract_of c.args.term.now) (ap contract_of c.in-Seq.is))
 
 pub returns-in_ok-part-in-App : goal.returns-in_ok-part-in-App
 returns-in_ok-part-in-App t c =

@@ -39,9 +39,9 @@ loop-k-preserved c =
     let g = c.in_ok-way.ensures in record {
       grew = grew_twice m.grew g.grew;
       within = g.within;
-      made = backs_step book marks n k (n + (length piece - 1 - k)) start (contract_of_rows c.index-rows-k.result) (contract_of_rows c.index-rows-k-in-loop-k.result)
-          piece c.index-piece-k.result from here here (way_at c.back_over.new.trails c.in_ok-way.way) (omega (arith, some, within)) (sym c.index-piece-k.is)
+      made = backs_step book marks start piece k c.index-piece-k.result (omega (arith, some, within)) (sym c.index-piece-k.is) n
+          (contract_of_rows c.index-rows-k.result) (contract_of_rows c.index-rows-k-in-loop-k.result) from here (way_at c.back_over.new.trails c.in_ok-way.way)
           (residual_at s start piece rows k c.index-rows-k.result are (omega (arith, some, within)) c.index-rows-k.is)
           (residual_at s start piece rows (k + 1) c.index-rows-k-in-loop-k.result are (omega (arith, some, within)) c.index-rows-k-in-loop-k.is)
-          refl refl (subst (λ j. BacksFrom book marks n start piece j from here) next m.made) g.made;
+          (subst (λ j. BacksFrom book marks n start piece j from here) next m.made) g.made;
     }

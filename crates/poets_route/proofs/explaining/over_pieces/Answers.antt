@@ -45,9 +45,8 @@ loop-start-preserved c =
       made = record {
         grew = grew_twice m.grew g.grew;
         within = g.within;
-        made = λ o st. backs_piece book marks o (contract_of_rows start) events (take (l.end - at) (drop at events)) at l.end (length events - l.end) from here here
-            (way_at c.over_piece.new.trails c.in_ok-way.way) low high refl
-            ((st (length left) start found).1 ∙ ap (λ n. through book marks o (take (256 * n) events)) (sym count)) refl refl (m.made o st) g.made;
+        made = λ o st. backs_piece book marks o events at l.end low high (contract_of_rows start) from here (way_at c.over_piece.new.trails c.in_ok-way.way)
+            ((st (length left) start found).1 ∙ ap (λ n. through book marks o (take (256 * n) events)) (sym count)) (m.made o st) g.made;
       };
     }
 

@@ -29,9 +29,9 @@ returns-in_default-both_of-2 t c =
       grew = grew_twice p.grew q.grew;
       within = q.within;
       made = inner_taken (contract_of c.args.second.now) (contract_of c.in-Par.a.value) (contract_of c.in-Par.b.value) (contract_of c.deref-2.result.now)
-          (contract_of c.deref.result.now) (way_at c.args.trails.now c.args.way) (way_at mid c.in_ok-parted.parted) (way_at mid c.in-Some.first)
-          (way_at mid c.in-Some.third) way way (sides_at mid c.in-Some.last) (ap contract_of c.in-Par.is) (ap contract_of c.deref.ensures)
-          (ap contract_of c.deref-2.ensures) p.made head.way q.made c.in_default-both_of-2.ensures.none;
+          (contract_of c.deref.result.now) (ap contract_of c.in-Par.is) (ap contract_of c.deref.ensures) (ap contract_of c.deref-2.ensures)
+          (way_at c.args.trails.now c.args.way) (way_at mid c.in_ok-parted.parted) (way_at mid c.in-Some.first) (way_at mid c.in-Some.third)
+          (sides_at mid c.in-Some.last) p.made head.way way q.made way c.in_default-both_of-2.ensures.none;
     }
 
 pub returns : goal.returns
@@ -51,7 +51,7 @@ returns t c =
     given_since old late c.grouped.new.trails c.grouped.result (IsGroupedRight (sides_at late last) sides first second (way_at late third))
     (Takes (contract_of c.args.second.now) (way_at old c.args.way)) (grew_twice p.grew q.grew) c.grouped.ensures
     (λ made g. more_taken (contract_of c.args.second.now) (contract_of c.in-Par.a.value) (contract_of c.in-Par.b.value) (contract_of c.deref-2.result.now)
-    (contract_of c.deref.result.now) (way_at old c.args.way) (way_at mid c.in_ok-parted.parted) (way_at mid c.in-Some.first) (way_at mid third)
-    (way_at late third) (way_at late c.in_ok-front.front) first second made (sides_at mid last) (sides_at late last) sides
-    (ap contract_of c.in-Par.is) (ap contract_of c.deref.ensures) (ap contract_of c.deref-2.ensures) p.made head.way q.made next.way
+    (contract_of c.deref.result.now) (ap contract_of c.in-Par.is) (ap contract_of c.deref.ensures) (ap contract_of c.deref-2.ensures)
+    (way_at old c.args.way) (way_at mid c.in_ok-parted.parted) (way_at mid c.in-Some.first) (way_at mid third) (sides_at mid last) p.made head.way
+    (way_at late c.in_ok-front.front) q.made (way_at late third) first second made (sides_at late last) sides next.way
     (sides_later q.grew last head.sides_within) (way_later q.grew third head.second_within) g)

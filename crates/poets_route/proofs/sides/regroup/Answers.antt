@@ -34,8 +34,8 @@ loop-is_last-preserved c =
     let l = c.loop-is_last in
     let rest = c.pop.new.self.items in
     let rest' = c.pop-in-Some.new.self.items in
-    regrouping_first c.args.trails.now l.trails c.side-in-Some.new.self c.in_ok-last.last.items c.in_ok-second.second.items l.last.items
-    l.second.items l.outer l.inner c.in_ok-outer-2.outer rest rest' l.invariant
+    regrouping_first c.args.trails.now l.trails c.in_ok-last.last.items c.in_ok-second.second.items l.last.items l.second.items l.outer l.inner
+    l.invariant c.side-in-Some.new.self c.in_ok-outer-2.outer rest rest'
     (c.in-Some.ensures.some ∙ ap (λ b. rest ++ b ∷ []) c.if-is_last.false) (c.in-Some-pop.ensures.some ∙ ap (λ b. rest' ++ b ∷ []) c.if-is_second.false)
     c.in_ok-outer-2.ensures.number (c.in_ok-outer-2.ensures.ok ∙ ap (λ b. with_sides l.trails (b ∷ sides_at l.trails l.outer)) c.if-is_second.false)
 
@@ -44,9 +44,9 @@ returns c =
     let l = c.loop-is_last in
     elim c.match-pop.branch [
       | in-Some+else-is_last+in_default-pop w ↦ regrouping_broken c.args.trails.now l.trails c.in_ok-last.last.items c.in_ok-second.second.items
-          l.last.items l.second.items c.pop.new.self.items l.outer l.inner c.args.last c.args.second l.invariant
+          l.last.items l.second.items l.outer l.inner l.invariant c.pop.new.self.items c.args.last c.args.second
           (w.in-Some.ensures.some ∙ ap (λ b. c.pop.new.self.items ++ b ∷ []) w.if-is_last.false) w.in_default-pop.ensures.none.0
           c.in_ok-last.ensures c.in_ok-second.ensures
       | in_default w ↦ regrouping_done c.args.trails.now l.trails c.in_ok-last.last.items c.in_ok-second.second.items l.last.items
-          l.second.items l.outer l.inner c.args.last c.args.second l.invariant w.in_default.ensures.none.0 c.in_ok-last.ensures c.in_ok-second.ensures
+          l.second.items l.outer l.inner l.invariant c.args.last c.args.second w.in_default.ensures.none.0 c.in_ok-last.ensures c.in_ok-second.ensures
     ]

@@ -12,6 +12,7 @@ use Rattle.poets_way.specs.declared.node.Node.TheVariants as N
 use Rattle.poets_route.specs.code.Undone.{Undoes, UndoesIn, UndoesWhole}
 use Rattle.poets_route.proofs.Choices.{refused}
 use Rattle.poets_route.proofs.Made.{grew_not, made_node, made_there, made_later, node_made, two_made, made_since, grew_twice, way_later, sides_later, within_later}
+use Rattle.poets_route.proofs.Sharing.{SharedWay}
 use Rattle.poets_route.proofs.Stepped.{both_undone, then_undone, success_undone, failure_undone, app_undone, take_none, take_undone, par_done, par_rest_undone, seq_rest_undone}
 use Rattle.poets_route.proofs.Undone.{undoes-par_none, undoes-left, undoes-right, undoes-seq_done, undoes-seq_none}
 use Rattle.poets_route.proofs.undoing.+undone.Goals as goal
@@ -63,12 +64,21 @@ undone_both-returns t c =
     let IsFirst : Way → Type 0 = λ w. UndoesWhole book marks firsts a x (way_at mid c.in-Some.first) w in
     let IsSecond : Way → Type 0 = λ w. UndoesWhole book marks seconds b y (way_at next c.in-Some.second) w in
     let Is : Way → Type 0 = λ w. Undoes book marks events (Par a b) (beside_parts x y) from w in
-    two_made old next late c.both.new.self c.both.result first second (N.Both c.in-Some.sides first second) IsFirst IsSecond Is
-    (made_since {t = old} {u = mid} {v = next} {k = first} {Is = IsFirst} p.grew m) k c.both.ensures.number c.both.ensures.ok
-    (λ f g. both_undone book marks events a b x y (sides_at mid c.in-Some.sides) (sides_at late c.in-Some.sides) from (way_at mid c.in_ok-parted.parted)
-    (way_at mid c.in-Some.first) (way_at mid c.in-Some.second) (way_at next c.in-Some.second) (way_at late first) (way_at late second) firsts seconds
-    c.requires.whole c.requires.unfinished p.made head.way (sides_later (grew_twice m.grew k.grew) c.in-Some.sides head.sides_within)
-    (way_later m.grew c.in-Some.second head.second_within) c.shares-firsts.ensures.first c.shares-firsts.ensures.second f g)
+    let parted : SharedWay events (way_at mid c.in_ok-parted.parted) = record {
+      sides = sides_at mid c.in-Some.sides;
+      first = way_at mid c.in-Some.first;
+      second = way_at mid c.in-Some.second;
+      first_count = firsts;
+      second_count = seconds;
+      is = head.way;
+      first_is = c.shares-firsts.ensures.first;
+      second_is = c.shares-firsts.ensures.second;
+    } in
+    two_made old next late first second IsFirst IsSecond (made_since {t = old} {u = mid} {v = next} {k = first} {Is = IsFirst} p.grew m) k
+    c.both.new.self c.both.result (N.Both c.in-Some.sides first second) Is c.both.ensures.number c.both.ensures.ok
+    (λ f g. both_undone book marks events a b x y c.requires.whole c.requires.unfinished from (way_at mid c.in_ok-parted.parted) p.made parted
+    (sides_at late c.in-Some.sides) (way_at next c.in-Some.second) (way_at late first) (way_at late second)
+    (sides_later (grew_twice m.grew k.grew) c.in-Some.sides head.sides_within) (way_later m.grew c.in-Some.second head.second_within) f g)
 
 pub undone_one-returns-in_default-take_of : goal.undone_one-returns-in_default-take_of
 undone_one-returns-in_default-take_of t c =
@@ -78,7 +88,7 @@ undone_one-returns-in_default-take_of t c =
     let goal = contract_of c.args.goal.now in
     made_there old c.args.way (UndoesIn c.args.studied.now c.args.events term goal way) c.requires.way
     (take_none (book_of c.args.studied.now.book) (marks_of c.args.studied.now) c.args.events term goal c.in-Transmit.binders
-    (expression_of c.in-Transmit.when) (contract_of c.in-Transmit.then.value) way way (ap contract_of c.in-Transmit.is) c.in_default-take_of.ensures.none)
+    (expression_of c.in-Transmit.when) (contract_of c.in-Transmit.then.value) (ap contract_of c.in-Transmit.is) way way c.in_default-take_of.ensures.none)
 
 pub undone_one-returns-in_ok-part-in-Transmit : goal.undone_one-returns-in_ok-part-in-Transmit
 undone_one-returns-in_ok-part-in-Transmit t c =
@@ -91,11 +101,11 @@ undone_one-returns-in_ok-part-in-Transmit t c =
     let part = c.in_ok-part-in-Transmit.part in
     node_made old next c.take.new.self c.take.result (N.Take part) (UndoesIn c.args.studied.now c.args.events term goal way) m.grew
     c.take.ensures.number c.take.ensures.ok
-    (take_undone (book_of c.args.studied.now.book) (marks_of c.args.studied.now) c.args.events c.saturating_sub-rest.result term goal
-    c.in-Transmit.binders (expression_of c.in-Transmit.when) (contract_of c.in-Transmit.then.value) (contract_of c.deref.result.now)
-    c.in-Transmit-goal.binders (expression_of c.in-Transmit-goal.when) (contract_of c.in-Transmit-goal.whole.value) (contract_of c.deref-in-Transmit.result.now)
-    way (way_at old c.in-Some.part) (way_at next part) c.requires.formed (ap contract_of c.in-Transmit.is) (ap contract_of c.in-Transmit-goal.is)
-    (ap contract_of c.deref.ensures) (ap contract_of c.deref-in-Transmit.ensures) c.in-Some.ensures.some.way c.saturating_sub-rest.ensures m.made)
+    (take_undone (book_of c.args.studied.now.book) (marks_of c.args.studied.now) c.args.events term goal
+    c.in-Transmit.binders (expression_of c.in-Transmit.when) (contract_of c.in-Transmit.then.value) (ap contract_of c.in-Transmit.is)
+    c.in-Transmit-goal.binders (expression_of c.in-Transmit-goal.when) (contract_of c.in-Transmit-goal.whole.value) (ap contract_of c.in-Transmit-goal.is)
+    c.saturating_sub-rest.result (contract_of c.deref.result.now) (contract_of c.deref-in-Transmit.result.now)
+    way (way_at old c.in-Some.part) (way_at next part) c.requires.formed (ap contract_of c.deref.ensures) (ap contract_of c.deref-in-Transmit.ensures) c.in-Some.ensures.some.way c.saturating_sub-rest.ensures m.made)
 
 pub undone_one-returns-in-Success-3 : goal.undone_one-returns-in-Success-3
 undone_one-returns-in-Success-3 t c =
@@ -143,8 +153,8 @@ undone_par-returns-then-is_done t c =
     let k = made_later {t = old} {u = mid} {v = late} {k = second} {Is = Undoes book marks 0 b Success W.Nothing} c.in_ok-first.ensures.1 s.grew in
     node_made old late c.both.new.self c.both.result (N.Both c.in_ok-sides.sides first second) (Undoes book marks events (Par a b) goal way) m.grew
     c.both.ensures.number c.both.ensures.ok
-    (par_done book marks events a b goal (contract_of c.in_ok-whole.whole) (sides_at late c.in_ok-sides.sides) way (way_at late first) (way_at late second)
-    c.in_ok-whole.ensures (c.is_done.ensures.0 c.if-is_done.true) s.made m.made k.made)
+    (par_done book marks events a b goal (contract_of c.in_ok-whole.whole) c.in_ok-whole.ensures (sides_at late c.in_ok-sides.sides) way
+    (way_at late first) (way_at late second) (c.is_done.ensures.0 c.if-is_done.true) s.made m.made k.made)
 
 pub undone_par-undone_over-requires-2 : goal.undone_par-undone_over-requires-2
 undone_par-undone_over-requires-2 t c =
@@ -172,8 +182,8 @@ undone_par-returns t c =
     let k = made_later {t = old} {u = mid} {v = late} {k = first} {Is = Undoes book marks 0 a Success W.Nothing} c.in_ok-second.ensures.1 s.grew in
     node_made old late c.both-2.new.self c.both-2.result (N.Both c.in_ok-sides-2.sides first second) (Undoes book marks events (Par a b) goal way) m.grew
     c.both-2.ensures.number c.both-2.ensures.ok
-    (par_rest_undone book marks events a b goal (contract_of c.in_ok-whole.whole) (sides_at late c.in_ok-sides-2.sides) way (way_at late second) (way_at late first)
-    c.in_ok-whole.ensures (refused c.is_done.result c.is_done.ensures c.if-is_done.false) c.in_default.ensures.none s.made k.made m.made)
+    (par_rest_undone book marks events a b goal (contract_of c.in_ok-whole.whole) c.in_ok-whole.ensures (sides_at late c.in_ok-sides-2.sides) way
+    (way_at late second) (way_at late first) (refused c.is_done.result c.is_done.ensures c.if-is_done.false) c.in_default.ensures.none s.made k.made m.made)
 
 pub undone_plus-undone_one-requires : goal.undone_plus-undone_one-requires
 undone_plus-undone_one-requires t c =
@@ -257,8 +267,8 @@ undone_seq-returns t c =
     let k = c.in_ok-second.ensures.1 in
     node_made old mid c.then-2.new.self c.then-2.result (N.Then 0 first second) (Undoes book marks events (Seq a b) goal way) m.grew
     c.then-2.ensures.number c.then-2.ensures.ok
-    (seq_rest_undone book marks events a b goal (contract_of c.in_ok-whole.whole) way (way_at mid second) (way_at mid first)
-    c.in_ok-whole.ensures (refused c.is_done.result c.is_done.ensures c.if-is_done.false) c.in_default.ensures.none k.made m.made)
+    (seq_rest_undone book marks events a b goal (contract_of c.in_ok-whole.whole) c.in_ok-whole.ensures way (way_at mid second) (way_at mid first)
+    (refused c.is_done.result c.is_done.ensures c.if-is_done.false) c.in_default.ensures.none k.made m.made)
 
 pub undone_then-returns-in_default : goal.undone_then-returns-in_default
 undone_then-returns-in_default t c =
@@ -301,7 +311,7 @@ undone_then-returns t c =
     let IsFirst : Way → Type 0 = λ w. UndoesWhole book marks count a x (way_at old c.in-Some.first) w in
     let IsSecond : Way → Type 0 = λ w. UndoesWhole book marks (events - count) b y (way_at next c.in-Some.second) w in
     let Is : Way → Type 0 = λ w. Undoes book marks events (Seq a b) (Seq x y) from w in
-    two_made old next late c.then.new.self c.then.result first second (N.Then count first second) IsFirst IsSecond Is m k c.then.ensures.number c.then.ensures.ok
-    (λ f g. then_undone book marks events count a b x y from (way_at old c.in-Some.first) (way_at old c.in-Some.second) (way_at next c.in-Some.second)
-    (way_at late first) (way_at late second) c.requires.whole c.requires.unfinished head.way
+    two_made old next late first second IsFirst IsSecond m k c.then.new.self c.then.result (N.Then count first second) Is c.then.ensures.number c.then.ensures.ok
+    (λ f g. then_undone book marks events a b x y c.requires.whole c.requires.unfinished count from (way_at old c.in-Some.first) (way_at old c.in-Some.second)
+    (way_at next c.in-Some.second) (way_at late first) (way_at late second) head.way
     (way_later m.grew c.in-Some.second head.second_within) f g)

@@ -2,7 +2,7 @@ use Rattle.std.proofs.Common.{◌≡◌, ◌∙◌, ⊎_elim, vec_len, refl, ap,
 use Rattle.std.proofs.lemmas.Bool.{cases_lt}
 use Rattle.poets_io.specs.Causes.{counted}
 use Rattle.poets_disk.specs.Memory.{failed_write, most_calls, kept_with, after_failed}
-use Rattle.poets_disk.specs.Kept.{calls_of, file_of}
+use Rattle.poets_disk.specs.Kept.{disk_calls, file_of}
 use Rattle.poets_disk.specs.code.Marks.{marked}
 use Rattle.poets_disk.specs.declared.memory.Mark.TheVariants.{FailedWrite}
 use Rattle.poets_disk.proofs.Recorded.{calls_failed_write, calls_refused}
@@ -15,7 +15,7 @@ invariant_of-self c =
     let m = c.note.new.marks in
     let f = c.saturating_add-self-inside.result in
     ⊎_elim
-    (λ lt. room_other i m f (failed_write c.args.at c.args.count) c.self.invariant (ap (λ l. calls_of l i.written.items) (c.note.ensures.noted lt) ∙ calls_failed_write i.marks.items i.written.items c.args.at c.args.count) refl (λ le. le)
+    (λ lt. room_other i m f (failed_write c.args.at c.args.count) c.self.invariant (ap (λ l. disk_calls l i.written.items) (c.note.ensures.noted lt) ∙ calls_failed_write i.marks.items i.written.items c.args.at c.args.count) refl (λ le. le)
     (ap marked (c.note.ensures.noted lt) ∙ marked_failed_write i.marks.items c.args.at c.args.count) c.note.ensures.few (omega (arith, c.note.ensures.room, c.self.invariant.marks_room)))
     (λ le. room_full i m f c.self.invariant (c.note.ensures.full le) c.note.ensures.few (omega (arith, c.note.ensures.room, c.self.invariant.marks_room)))
     (cases_lt (vec_len i.marks) most_calls)
@@ -25,7 +25,7 @@ returns-clause-state c =
     let i = c.self.inside in
     let m = c.note.new.marks.items in
     let f = c.saturating_add-self-inside.result in
-    let calls : calls_of m i.written.items ≡ kept_with (calls_of i.marks.items i.written.items) (failed_write c.args.at c.args.count) =
+    let calls : disk_calls m i.written.items ≡ kept_with (disk_calls i.marks.items i.written.items) (failed_write c.args.at c.args.count) =
     calls_refused (vec_len i.marks) i.marks.items m i.written.items (FailedWrite c.args.at c.args.count) (failed_write c.args.at c.args.count) c.note.ensures.was c.note.ensures.noted c.note.ensures.full (calls_failed_write i.marks.items i.written.items c.args.at c.args.count) in
     let faults : f ≡ counted i.faults = c.saturating_add-self-inside.ensures in
-    subst (λ v. record (file_of i) { calls = calls_of m i.written.items; faults = f } ≡ after_failed (failed_write c.args.at c.args.count) v) c.self.view_is (λ k. record (file_of i) { calls = calls k; faults = faults k })
+    subst (λ v. record (file_of i) { calls = disk_calls m i.written.items; faults = f } ≡ after_failed (failed_write c.args.at c.args.count) v) c.self.view_is (λ k. record (file_of i) { calls = calls k; faults = faults k })

@@ -5,7 +5,7 @@ use Rattle.poets_rules.specs.Rules.{book_of_rules, reports_of_rules}
 use Rattle.poets_history.specs.Ledger.{ledger_of}
 use Rattle.poets_engine.specs.declared.kept.Kept.{Kept}
 use Rattle.poets_engine.specs.State.{commands_of, plain_calls, OwesNext}
-use Rattle.poets_engine.specs.Rows.{Stands}
+use Rattle.poets_engine.specs.Rows.{IsStoreOf}
 use Rattle.poets_engine.specs.Works.{OwesReply}
 use Rattle.poets_engine.proofs.Folios.{body_makes, body_owes, body_refused}
 use Rattle.poets_engine.proofs.Histories.{stands_more, commands_last, plain_last, length-plain_calls}
@@ -24,7 +24,7 @@ invariant_of-self-2 g c =
     ap plain_calls (commands_last c.self.inside.history.items c.push.new.self.items c.args.clerk c.in_ok-kept.kept c.deref.result.now items same)
     ∙ plain_last (commands_of c.self.inside.history.items) c.args.clerk c.deref.result.now in
     let made = body_makes c.self.inside.rules (command_of c.deref.result.now) c.self.inside.store c.step.new.store c.in_ok-body.body c.in_ok-body.ensures.ok in (
-      subst (λ cs. Stands c.self.inside.rules cs c.step.new.store) (sym calls)
+      subst (λ cs. IsStoreOf c.self.inside.rules cs c.step.new.store) (sym calls)
           (stands_more c.self.inside.rules (plain_calls (commands_of c.self.inside.history.items)) (command_of c.deref.result.now)
           made.0 c.self.inside.store c.step.new.store c.self.invariant.0 made.1 c.args.clerk),
       c.step.ensures.copies,

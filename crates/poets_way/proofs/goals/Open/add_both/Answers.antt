@@ -12,5 +12,5 @@ returns c =
     let second = contract_of c.args.second.now in
     let new = c.add-2.new.self in
     IfOk-weaker c.add-2.result (Adds first g.pairs.items c.args.count c.add.new.self new) (AddsBoth g first second c.args.count c.args.self.now new)
-    (λ b h. adds-both g first second c.in_ok-pairs.pairs.items c.args.count c.args.self.now c.add.new.self new c.in_ok-add.field-0 b c.in_ok-add.ensures h
-    (c.in_ok-pairs.ensures ∙ c.as_slice.ensures) c.requires) c.add-2.ensures
+    (λ b h. adds-both g first second c.in_ok-pairs.pairs.items c.args.count (c.in_ok-pairs.ensures ∙ c.as_slice.ensures) c.requires
+    c.args.self.now c.add.new.self new c.in_ok-add.field-0 b c.in_ok-add.ensures h) c.add-2.ensures
