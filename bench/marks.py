@@ -5,7 +5,8 @@
 
 tries 5,000 sentences with one token put in, left out or changed, or cut, and each list of at most LONGEST tokens (4
 where nothing is said) of which all but the last begin a sentence; with the `;;` that ends the statement and without it.
-The mark has to stand below the first token with which no sentence begins, or else at the `;;` or at the end of the text.
+The mark has to stand below the first token that cannot follow the tokens before it in any sentence, or else at the `;;`
+or at the end of the text.
 
 Then it tries faults of names and types: a table of texts with the wanted place; and faults of names in the texts of
 examples/, in each of which one name is another one. Where the program tells that this name is unknown, stands twice or

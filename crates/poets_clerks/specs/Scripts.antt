@@ -18,8 +18,8 @@ abbrev pub script_calls : {C : Type 0} → Listed (Arc C Global) → List C
 script_calls script = map arc_value script.items
 
 -- the calls of each script
-abbrev pub calls_of_all : {C : Type 0} → Listed (Listed (Arc C Global)) → List (List C)
-calls_of_all scripts = map script_calls scripts.items
+abbrev pub calls_of_scripts : {C : Type 0} → Listed (Listed (Arc C Global)) → List (List C)
+calls_of_scripts scripts = map script_calls scripts.items
 
 -- each call of each script is one that is taken
 abbrev pub AreTaken : {C : Type 0} → (C → Type 0) → Listed (Listed (Arc C Global)) → Type 0
@@ -99,4 +99,4 @@ module _ {M C R K F : Type 0} (frame : M → F) (answers : F → List (ℕ × C)
   -- the clerks worked at the scripts, and this came of it
   abbrev pub IsWorkOf : Listed (Listed (Arc C Global)) → Listed (ClerkOf M C F) → WorkedOf M C F R → Type 0
   IsWorkOf scripts clerks work =
-      HaveWorked work.memory (calls_of_all scripts) clerks.items work.clerks.items (map answers_of work.answers.items)
+      HaveWorked work.memory (calls_of_scripts scripts) clerks.items work.clerks.items (map answers_of work.answers.items)

@@ -2,7 +2,7 @@
 ghost use Rattle.std.specs.Prelude.{◌≡◌, ◌<◌, ◌≤◌, [], length, None, All, IfOk, IfSome};
 ghost use Rattle.poets_value.specs.Limits.{most_clerks};
 ghost use Rattle.poets_clerks.specs.Histories.{AreInOrder, AreReplies, FillPlaces, HasScriptParts, HasScripts};
-ghost use Rattle.poets_clerks.specs.Scripts.{AreTaken, calls_of_all, pairs_of};
+ghost use Rattle.poets_clerks.specs.Scripts.{AreTaken, calls_of_scripts, pairs_of};
 ghost use Rattle.poets_clerks.specs.code.Slots.{HoldRepliesOf, answers_of_all};
 
 use crate::answers::{DoneOf, WorkedOf};
@@ -43,7 +43,7 @@ where
     requires new { M.history machine ≡ [] }
     requires takes { AreTaken (M.takes (M.frame machine)) scripts.now }
     ensures frame { IfOk result (λ r. M.frame r.0 ≡ M.frame machine) }
-    ensures history { IfOk result (λ r. HasScripts (calls_of_all scripts.now) (M.history r.0)) }
+    ensures history { IfOk result (λ r. HasScripts (calls_of_scripts scripts.now) (M.history r.0)) }
     ensures replies { IfOk result (λ r. AreReplies (M.answers (M.frame machine)) (M.history r.0) r.1.items) }
 {
     let MadeOf { machine, replies } = attempt_history(rt, alloc, machine, scripts, gate);
@@ -70,8 +70,8 @@ where
     requires new { M.history machine ≡ [] }
     requires takes { AreTaken (M.takes (M.frame machine)) scripts.now }
     ensures frame { M.frame result.machine ≡ M.frame machine }
-    ensures part { HasScriptParts (calls_of_all scripts.now) (M.history result.machine) }
-    ensures history { IfSome result.replies (λ _. HasScripts (calls_of_all scripts.now) (M.history result.machine)) }
+    ensures part { HasScriptParts (calls_of_scripts scripts.now) (M.history result.machine) }
+    ensures history { IfSome result.replies (λ _. HasScripts (calls_of_scripts scripts.now) (M.history result.machine)) }
     ensures replies { IfSome result.replies (λ replies.
         AreReplies (M.answers (M.frame machine)) (M.history result.machine) replies.items) }
 {

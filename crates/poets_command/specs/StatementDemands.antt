@@ -71,7 +71,8 @@ typing_demands statements = map (statement_demands (book_from statements) (repor
 
 -- the statements, which are numbered from this number on, make these demands: the first fault is
 -- that of the statement with the number found
-pub data FirstFaultFrom (declared : Declared) : (number : ℕ) → List (List Demand) → (found : ℕ) → TypeCause → Type 0 where
+pub data FirstFaultFrom (declared : Declared) :
+    (number : ℕ) → List (List Demand) → (found : ℕ) → TypeCause → Type 0 where
   Here :
       {number : ℕ} {demands : List Demand} {others : List (List Demand)} {cause : TypeCause} →
       FirstFault declared demands cause → FirstFaultFrom declared number (demands ∷ others) number cause

@@ -10,7 +10,7 @@ use Rattle.poets_lex.specs.declared.token.Tok.TheVariants as K
 use Rattle.poets_grammar.specs.Expressions.{ReadsArguments}
 use Rattle.poets_grammar.specs.ContractGrammar.{ReadsBinders, ContractRule, Choice, Parallel, Sequence, Simple, ReadsContract, IsContract}
 use Rattle.poets_grammar.specs.Reading.{arguments}
-use Rattle.poets_grammar.specs.ContractReading.{ContractReader, mark, either, beside, followed, binders, transmit, application, sequence, parallel, choice, closed_contract, simple_step, simple, contract, whole_contract}
+use Rattle.poets_grammar.specs.ContractReading.{ContractReader, sign_link, either, beside, followed, binders, transmit, application, sequence, parallel, choice, closed_contract, simple_step, simple, contract, whole_contract}
 use Rattle.poets_grammar.proofs.Readers as readers
 use Rattle.poets_grammar.proofs.Readers.{Fuel, no_fuel, wholes, IsReader, is_whole}
 use Rattle.poets_grammar.proofs.TokenReaders.{ended}
@@ -57,44 +57,44 @@ contract_shorter (ReadsContract.Brackets r) = omega (arith, contract_shorter r)
 abbrev FindsBelow : ContractReader → ℕ → Type 0
 FindsBelow f n = (ts : List Tok) (c : Contract) (rest : List Tok) → length ts < n → ReadsContract Simple ts c rest → f ts ≡ Ok (c, rest)
 
-plus_none : (ts : List Tok) → grip ts < 1 → mark S.Plus ts ≡ None
+plus_none : (ts : List Tok) → grip ts < 1 → sign_link S.Plus ts ≡ None
 plus_none (K.Sign S.Plus ∷ ts) lt = absurd (omega arith)
 plus_none _ lt = refl
 
-bars_none : (ts : List Tok) → grip ts < 2 → mark S.DoubleBar ts ≡ None
+bars_none : (ts : List Tok) → grip ts < 2 → sign_link S.DoubleBar ts ≡ None
 bars_none (K.Sign S.DoubleBar ∷ ts) lt = absurd (omega arith)
 bars_none _ lt = refl
 
-semicolon_none : (ts : List Tok) → grip ts < 3 → mark S.Semicolon ts ≡ None
+semicolon_none : (ts : List Tok) → grip ts < 3 → sign_link S.Semicolon ts ≡ None
 semicolon_none (K.Sign S.Semicolon ∷ ts) lt = absurd (omega arith)
 semicolon_none _ lt = refl
 
 -- what the rule's reader finds, with f for simple contracts: that reading is to go on after c
 Claim : ContractReader → ContractRule → List Tok → Contract → List Tok → Type 0
-Claim f Choice ts c rest = Goes (mark S.Plus) either (parallel f) (choice f) ts c rest
-Claim f Parallel ts c rest = Goes (mark S.DoubleBar) beside (sequence f) (parallel f) ts c rest
-Claim f Sequence ts c rest = Goes (mark S.Semicolon) followed f (sequence f) ts c rest
+Claim f Choice ts c rest = Goes (sign_link S.Plus) either (parallel f) (choice f) ts c rest
+Claim f Parallel ts c rest = Goes (sign_link S.DoubleBar) beside (sequence f) (parallel f) ts c rest
+Claim f Sequence ts c rest = Goes (sign_link S.Semicolon) followed f (sequence f) ts c rest
 Claim f Simple ts c rest = f ts ≡ Ok (c, rest)
 
 stop : (sign : Sign) {join : Unit {0} → Contract → Contract → Contract} {operand f : ContractReader} {ts rest : List Tok} {c : Contract} →
-    Goes (mark sign) join operand f ts c rest → mark sign rest ≡ None → f ts ≡ Ok (c, rest)
-stop sign {join} {operand} g e = ends (mark sign) join operand g e
+    Goes (sign_link sign) join operand f ts c rest → sign_link sign rest ≡ None → f ts ≡ Ok (c, rest)
+stop sign {join} {operand} g e = ends (sign_link sign) join operand g e
 
 step : {sign : Sign} {join : Unit {0} → Contract → Contract → Contract} {operand f : ContractReader} {ts mid rest : List Tok} {a b : Contract} →
-    Goes (mark sign) join operand f ts a (K.Sign sign ∷ mid) → mark sign (K.Sign sign ∷ mid) ≡ Some (tt, mid) → operand mid ≡ Ok (b, rest) → length rest < length mid →
-    Goes (mark sign) join operand f ts (join tt a b) rest
-step {sign} {join} {operand} g e q l = goes_on (mark sign) join operand g e q (omega (arith, l))
+    Goes (sign_link sign) join operand f ts a (K.Sign sign ∷ mid) → sign_link sign (K.Sign sign ∷ mid) ≡ Some (tt, mid) → operand mid ≡ Ok (b, rest) → length rest < length mid →
+    Goes (sign_link sign) join operand f ts (join tt a b) rest
+step {sign} {join} {operand} g e q l = goes_on (sign_link sign) join operand g e q (omega (arith, l))
 
 full : (f : ContractReader) (n : ℕ) → FindsBelow f n → {F : ContractRule} {ts rest : List Tok} {c : Contract} → ReadsContract F ts c rest → grip rest < suc (grip_bound F) → length ts < n →
     Claim f F ts c rest
 unfolding Claim choice parallel sequence
-full f n h (ReadsContract.OneParallel {rest = rest} r) s l = begins (mark S.Plus) either (parallel f) _ _ _ (stop S.DoubleBar (full f n h r (omega arith) l) (bars_none rest s))
+full f n h (ReadsContract.OneParallel {rest = rest} r) s l = begins (sign_link S.Plus) either (parallel f) _ _ _ (stop S.DoubleBar (full f n h r (omega arith) l) (bars_none rest s))
 full f n h (ReadsContract.MoreParallels {rest = rest} r q) s l =
     step (full f n h r (omega arith) l) refl (stop S.DoubleBar (full f n h q (omega arith) (omega (arith, contract_shorter r))) (bars_none rest s)) (contract_shorter q)
-full f n h (ReadsContract.OneSequence {rest = rest} r) s l = begins (mark S.DoubleBar) beside (sequence f) _ _ _ (stop S.Semicolon (full f n h r (omega arith) l) (semicolon_none rest s))
+full f n h (ReadsContract.OneSequence {rest = rest} r) s l = begins (sign_link S.DoubleBar) beside (sequence f) _ _ _ (stop S.Semicolon (full f n h r (omega arith) l) (semicolon_none rest s))
 full f n h (ReadsContract.MoreSequences {rest = rest} r q) s l =
     step (full f n h r (omega arith) l) refl (stop S.Semicolon (full f n h q (omega arith) (omega (arith, contract_shorter r))) (semicolon_none rest s)) (contract_shorter q)
-full f n h (ReadsContract.OneSimple r) s l = begins (mark S.Semicolon) followed f _ _ _ (h _ _ _ l r)
+full f n h (ReadsContract.OneSimple r) s l = begins (sign_link S.Semicolon) followed f _ _ _ (h _ _ _ l r)
 full f n h (ReadsContract.MoreSimples r q) s l = step (full f n h r (omega arith) l) refl (h _ _ _ (omega (arith, contract_shorter r)) q) (contract_shorter q)
 full f n h (ReadsContract.Transmit b r q) s l = h _ _ _ l (ReadsContract.Transmit b r q)
 full f n h ReadsContract.Success s l = h _ _ _ l ReadsContract.Success

@@ -12,7 +12,7 @@ use Rattle.poets_lex.specs.declared.token.Tok.TheVariants as K
 use Rattle.poets_grammar.specs.Expressions.{ReadsArguments}
 use Rattle.poets_grammar.specs.ContractGrammar.{ReadsBinders, ContractRule, Choice, Parallel, Sequence, Simple, ReadsContract}
 use Rattle.poets_grammar.specs.Reading.{behind_sign, arguments}
-use Rattle.poets_grammar.specs.ContractReading.{ContractReader, only_mark, mark, either, beside, followed, binders, transmit, application, sequence, parallel, choice, closed_contract, simple_step, simple_at, simple, contract}
+use Rattle.poets_grammar.specs.ContractReading.{ContractReader, as_link, sign_link, either, beside, followed, binders, transmit, application, sequence, parallel, choice, closed_contract, simple_step, simple_at, simple, contract}
 use Rattle.poets_grammar.proofs.Steps.{at_some, sign_is}
 use Rattle.poets_grammar.proofs.Readers as readers
 use Rattle.poets_grammar.proofs.Readers.{fronts, Begins, Fuel, behind_one, IsReader, Branch, done, begins_token, by_first, weaker_reader, remade, counted, perhaps, with_enough, with_enough_reader, one_deeper, refuelled, alike}
@@ -24,30 +24,30 @@ use Rattle.poets_grammar.proofs.Items.{expressions}
 
 -- ---- marks between contracts
 
-only_mark_is : (ts : List Tok) (wanted : Sign) (r : Option (List Tok)) → IfSome r (λ rest. ts ≡ K.Sign wanted ∷ rest) → IfSome (only_mark r) (λ p. ts ≡ K.Sign wanted ∷ p.1)
+only_mark_is : (ts : List Tok) (wanted : Sign) (r : Option (List Tok)) → IfSome r (λ rest. ts ≡ K.Sign wanted ∷ rest) → IfSome (as_link r) (λ p. ts ≡ K.Sign wanted ∷ p.1)
 only_mark_is ts wanted None is = tt
 only_mark_is ts wanted (Some rest) is = is
 
-pub mark_is : (wanted : Sign) (ts : List Tok) → IfSome (mark wanted ts) (λ p. ts ≡ K.Sign wanted ∷ p.1)
+pub mark_is : (wanted : Sign) (ts : List Tok) → IfSome (sign_link wanted ts) (λ p. ts ≡ K.Sign wanted ∷ p.1)
 mark_is wanted ts = only_mark_is ts wanted (behind_sign wanted ts) (sign_is wanted ts)
 
-of_token : (wanted : Sign) (t : Tok) → IsSign wanted t → ((us : List Tok) → mark wanted (t ∷ us) ≡ None) ⊎ ((j : Unit {0}) × ((us : List Tok) → mark wanted (t ∷ us) ≡ Some (j, us)))
-of_token wanted t (IsSign.Other none) = inl (λ us. ap only_mark (none us))
-of_token wanted t (IsSign.Same some e) = inr (tt, λ us. ap only_mark (some us))
+of_token : (wanted : Sign) (t : Tok) → IsSign wanted t → ((us : List Tok) → sign_link wanted (t ∷ us) ≡ None) ⊎ ((j : Unit {0}) × ((us : List Tok) → sign_link wanted (t ∷ us) ≡ Some (j, us)))
+of_token wanted t (IsSign.Other none) = inl (λ us. ap as_link (none us))
+of_token wanted t (IsSign.Same some e) = inr (tt, λ us. ap as_link (some us))
 
-mark_link : (wanted : Sign) → IsLink (mark wanted)
+mark_link : (wanted : Sign) → IsLink (sign_link wanted)
 mark_link wanted = record { never_at_end = refl; by_token = λ t. of_token wanted t (is_sign wanted t) }
 
 -- ---- contracts of one level
 
 -- the sign stands after the contracts
-joining : (wanted : Sign) {F : ContractRule} {ts mid behind : List Tok} {a : Contract} {j : Unit {0}} → ReadsContract F ts a mid → mark wanted mid ≡ Some (j, behind) → ReadsContract F ts a (K.Sign wanted ∷ behind)
+joining : (wanted : Sign) {F : ContractRule} {ts mid behind : List Tok} {a : Contract} {j : Unit {0}} → ReadsContract F ts a mid → sign_link wanted mid ≡ Some (j, behind) → ReadsContract F ts a (K.Sign wanted ∷ behind)
 joining wanted {F} {ts} {mid} {behind} {a} {j} r e =
-    let is : mid ≡ K.Sign wanted ∷ behind = at_some (λ p. mid ≡ K.Sign wanted ∷ p.1) (mark wanted mid) (j, behind) (mark_is wanted mid) e in
+    let is : mid ≡ K.Sign wanted ∷ behind = at_some (λ p. mid ≡ K.Sign wanted ∷ p.1) (sign_link wanted mid) (j, behind) (mark_is wanted mid) e in
     subst (λ x. ReadsContract F ts a x) is r
 
 abbrev Level : Sign → (Unit {0} → Contract → Contract → Contract) → ContractRule → ContractRule → Type 0
-Level wanted join F G = IsLevel (mark wanted) join (ReadsContract F) (ReadsContract G)
+Level wanted join F G = IsLevel (sign_link wanted) join (ReadsContract F) (ReadsContract G)
 
 sequences : Level S.Semicolon followed Sequence Simple
 sequences = record { one = λ ts rest c r. ReadsContract.OneSimple r; more = λ r e q. ReadsContract.MoreSimples (joining S.Semicolon r e) q }

@@ -51,6 +51,20 @@ at_stop ts front rest None left starts b steady e =
     let count : length front ≡ length ts - left = omega arith in
     subst (λ (k : ℕ). IsBegun ts k) count (subst (λ us. IsBegun us (length front)) (sym starts) (stopped front rest b.more b.value (b.is [] refl) steady))
 
+left_at : (ts front rest : List Tok) (found : Option Statement) (left : ℕ) → ts ≡ front ++ rest → answer wholes found rest ≡ Err left → left ≤ length ts
+left_at ts front rest (Some s) left starts e = absurd cc
+left_at ts front rest None left starts e =
+    let n : length ts ≡ length front + length rest = ap length starts ∙ length-append front rest in
+    let l : length rest ≡ left = cc in
+    omega arith
+
+-- no more tokens are left than there are
+pub left_of : (ts : List Tok) (left : ℕ) → statement ts ≡ Err left → left ≤ length ts
+left_of ts left e =
+    let reader : IsReader (suc (length ts)) no_fuel wholes (λ us s rest. IsStatement us s) (λ i us. statement us) = statement_reader in
+    let o = reader.reads ts (omega arith) in
+    left_at ts o.front o.rest o.found left o.starts (sym (answers o tt tt) ∙ e)
+
 pub begun : (ts : List Tok) (left : ℕ) → statement ts ≡ Err left → IsBegun ts (length ts - left)
 begun ts left e =
     let reader : IsReader (suc (length ts)) no_fuel wholes (λ us s rest. IsStatement us s) (λ i us. statement us) = statement_reader in

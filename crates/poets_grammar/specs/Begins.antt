@@ -10,7 +10,7 @@ pub record BeginsSentence (ts : List Tok) : Type 0 where
   pub says : Statement
   pub is : IsStatement (ts ++ rest) says
 
--- so many of the tokens, from the first on, begin a sentence, and no more of them do
+-- the greatest number of the tokens, counted from the first, with which some sentence begins
 pub record IsBegun (ts : List Tok) (count : ℕ) : Type 0 where
   pub within : count ≤ length ts
   pub begins : BeginsSentence (take count ts)

@@ -17,13 +17,13 @@ use Rattle.poets_grammar.specs.Reading.{whole, joined, expression, arguments}
 abbrev pub ContractReader : Type 0
 ContractReader = List Tok → Reading Contract
 
-abbrev pub only_mark : Option (List Tok) → Link (Unit {0})
-only_mark None = None
-only_mark (Some ts) = Some (tt, ts)
+abbrev pub as_link : Option (List Tok) → Link (Unit {0})
+as_link None = None
+as_link (Some ts) = Some (tt, ts)
 
 -- the sign, as a link
-abbrev pub mark : Sign → List Tok → Link (Unit {0})
-mark wanted ts = only_mark (behind_sign wanted ts)
+abbrev pub sign_link : Sign → List Tok → Link (Unit {0})
+sign_link wanted ts = as_link (behind_sign wanted ts)
 
 abbrev pub either : Unit {0} → Contract → Contract → Contract
 either _ a b = C.Plus a b
@@ -67,13 +67,13 @@ application f ts = do
   Ok (C.App f args.0, args.1)
 
 unfoldable pub sequence : ContractReader → ContractReader
-sequence simple ts = joined (mark S.Semicolon) followed simple ts
+sequence simple ts = joined (sign_link S.Semicolon) followed simple ts
 
 unfoldable pub parallel : ContractReader → ContractReader
-parallel simple ts = joined (mark S.DoubleBar) beside (sequence simple) ts
+parallel simple ts = joined (sign_link S.DoubleBar) beside (sequence simple) ts
 
 unfoldable pub choice : ContractReader → ContractReader
-choice simple ts = joined (mark S.Plus) either (parallel simple) ts
+choice simple ts = joined (sign_link S.Plus) either (parallel simple) ts
 
 -- after the `(`
 unfoldable pub closed_contract : ContractReader → ContractReader

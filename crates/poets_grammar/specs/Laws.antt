@@ -1,5 +1,5 @@
 -- The laws of the grammar, as statements.
-use Rattle.std.specs.Prelude.{◌≡◌, ◌↔◌, ℕ, ◌-◌, List, length, Ok, Err}
+use Rattle.std.specs.Prelude.{◌≡◌, ◌↔◌, ℕ, ◌-◌, ◌≤◌, List, length, Ok, Err}
 use Rattle.poets_expr.specs.Expression.{Expression}
 use Rattle.poets_syntax.specs.Contract.{Contract}
 use Rattle.poets_command.specs.Said.{Statement}
@@ -36,6 +36,8 @@ ContractRead = (ts : List Tok) (c : Contract) → IsContract ts c ↔ whole_cont
 abbrev pub StatementRead : Type 0
 StatementRead = (ts : List Tok) (s : Statement) → IsStatement ts s ↔ statement ts ≡ Ok s
 
--- where nothing is read, the tokens ahead of the place that is told begin a sentence, and no more of them do
+-- where nothing is read, so many tokens are left: some sentence begins with those before them, and
+-- none with more
 abbrev pub StatementBegun : Type 0
-StatementBegun = (ts : List Tok) (left : ℕ) → statement ts ≡ Err left → IsBegun ts (length ts - left)
+StatementBegun =
+    (ts : List Tok) (left : ℕ) → statement ts ≡ Err left → (left ≤ length ts) × IsBegun ts (length ts - left)

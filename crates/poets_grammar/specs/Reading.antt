@@ -1,6 +1,6 @@
--- Expressions read by functions on lists: the longest one at the start of the tokens, and the
--- tokens after it; or the place of the first token that cannot stand where it does. Expressions.antt
--- says what an expression is; that both agree is proved.
+-- Expressions read by functions on lists: the one at the start of the tokens, as far as it can go
+-- on, and the tokens after it; or the place of the first token that cannot stand where it does, or
+-- of the end. Expressions.antt says what an expression is; that both agree is proved.
 use Rattle.std.specs.Prelude.{ℕ, zero, suc, ◌+◌, nat_eq, Bool, true, false, if◌then◌else◌, List, []}
 use Rattle.std.specs.Prelude.{◌∷◌, length}
 use Rattle.std.specs.Prelude.{Option, Some, None, Result, Ok, Err, ℤ, pos, neg_ℤ}
@@ -22,7 +22,8 @@ use Rattle.poets_lex.specs.contracts.token.SignPartialEq.TheImpl as sign_eq
 use Rattle.poets_lex.specs.contracts.token.WordPartialEq.TheImpl as word_eq
 use Rattle.poets_grammar.specs.Tokens.{infix_operator, type_of}
 
--- what the tokens say, or how many are left from the first one on that cannot stand where it does
+-- what the tokens say, or how many are left from the first one on that cannot stand where it does,
+-- 0 where more have to follow them all
 abbrev pub Answer : Type 0 → Type 0
 Answer A = Result A ℕ
 

@@ -32,13 +32,14 @@ pub fn contracts()
     ensures { IsContract joint joint_tree }
 {}
 
-/// `agents ann, bob` and `register x = Success` are statements, and `agents ann,` is none. Of the tokens `agents ann,,`
-/// three begin a sentence.
+/// `agents ann, bob` and `register x = Success` are statements, and `agents ann,` is none. Some sentence begins with the
+/// first three tokens of `agents ann,,` and none with all four; and some with all three of `agents ann,`.
 pub fn statements()
     ensures names { IsStatement agents agents_said }
     ensures command { IsStatement registered registered_said }
     ensures cut_off { (s : Statement) → ¬ (IsStatement cut_off s) }
     ensures begun { IsBegun two_commas 3 }
+    ensures all_begun { IsBegun cut_off 3 }
 {}
 
 /// 201 brackets are too deep, also after a `)`, and 200 are not; 1,001 operators are too deep, and 1,000 are not.

@@ -32,7 +32,8 @@ pub fn statement_read()
     ensures { StatementRead }
 {}
 
-/// Reading that finds nothing tells how many tokens are left from the first one on with which no sentence begins.
+/// If reading finds nothing, it says where it stopped: some sentence begins with the tokens before that place, and none
+/// with more of them.
 pub fn statement_begun()
     ensures { StatementBegun }
 {}

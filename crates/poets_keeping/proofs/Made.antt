@@ -22,7 +22,7 @@ use Rattle.poets_rules.specs.Rules.{book_of_rules, reports_of_rules}
 use Rattle.poets_history.specs.Histories.{IsLegal, IsRightHistory}
 use Rattle.poets_history.proofs.Histories.{calls_append}
 use Rattle.poets_clerks.specs.Histories.{AreReplies, HasScriptParts, HasScripts}
-use Rattle.poets_clerks.specs.Scripts.{script_calls as calls_of_script}
+use Rattle.poets_clerks.specs.Scripts.{script_calls}
 use Rattle.poets_clerks.proofs.Scripted.{parts_hold, parts_mapped}
 use Rattle.poets_disk.specs.Disks.{Seen}
 use Rattle.poets_engine.specs.State.{HasLegalHistory, State, commands_of, plain_calls}
@@ -46,11 +46,11 @@ texts_same names calls h same =
     sym (map-map (λ (call : Call). numbered_text names call.0 call.1) (λ (p : ℕ × CodeCommand). (p.0, command_of p.1)) calls) ∙ ap (texts_of_calls names) (sym same)
 
 -- the parts of the code's scripts, as plain data
-plain_parts : (scripts : List (Listed (Arc CodeCommand Global))) (calls : List (ℕ × CodeCommand)) → HasScriptParts (map calls_of_script scripts) calls → HasScriptParts (commands_in scripts) (plain_calls calls)
+plain_parts : (scripts : List (Listed (Arc CodeCommand Global))) (calls : List (ℕ × CodeCommand)) → HasScriptParts (map script_calls scripts) calls → HasScriptParts (commands_in scripts) (plain_calls calls)
 plain_parts scripts calls made =
-    subst (λ ss. HasScriptParts ss (plain_calls calls)) (map-map (map command_of) calls_of_script scripts ∙ each scripts) (parts_mapped command_of (map calls_of_script scripts) calls made)
+    subst (λ ss. HasScriptParts ss (plain_calls calls)) (map-map (map command_of) script_calls scripts ∙ each scripts) (parts_mapped command_of (map script_calls scripts) calls made)
   where
-    each : (ss : List (Listed (Arc CodeCommand Global))) → map (λ s. map command_of (calls_of_script s)) ss ≡ commands_in ss
+    each : (ss : List (Listed (Arc CodeCommand Global))) → map (λ s. map command_of (script_calls s)) ss ≡ commands_in ss
     each [] = refl
     each (s ∷ ss) = ap₂ (λ a b. a ∷ b) (map-map command_of arc_value s.items) (each ss)
 
@@ -71,7 +71,7 @@ taken_long engine p taken =
 
 module _ (rules : Rules) (names : Table) (p : List Entry) (scripts : List (Listed (Arc CodeCommand Global))) (disk disk' : Seen) (faults faults' stored : ℕ) (failed : Bool)
     (before : State) (same : before.rules ≡ rules) (begun : HasTaken before p) (calls : List (ℕ × CodeCommand)) (studied : IsStudiedBook (book_of_rules rules) rules.studied.marks) (taken : AreScriptsTaken rules scripts)
-    (kept : IsKept disk disk' faults faults' failed stored (texts_by (stored_text names) calls)) (parts : HasScriptParts (map calls_of_script scripts) calls) where
+    (kept : IsKept disk disk' faults faults' failed stored (texts_by (stored_text names) calls)) (parts : HasScriptParts (map script_calls scripts) calls) where
   abbrev Typed : Command → Type 0
   Typed r = IsTypedCommand (book_of_rules rules) (reports_of_rules rules) r
 
@@ -119,7 +119,7 @@ module _ (rules : Rules) (names : Table) (p : List Entry) (scripts : List (Liste
       let cut = legal_split (book_of_rules rules) (reports_of_rules rules) p history.entries (plain_calls calls) begun_legal legal are in
       made_by cut.0 (subst Legal cut.1 legal) cut.2 None tt
 
-  made_whole : (replies : List Reply) (es : Listed code.Entry) → HasScripts (map calls_of_script scripts) calls →
+  made_whole : (replies : List Reply) (es : Listed code.Entry) → HasScripts (map script_calls scripts) calls →
       AreReplies (λ seen. Answered (book_of_rules rules) (reports_of_rules rules) (before.calls ++ seen)) calls replies → history_of es.items ≡ entries_of calls replies →
       AreMade rules names p (commands_in scripts) disk disk' faults faults' stored (Some es)
   made_whole replies es made right are =
@@ -130,12 +130,12 @@ module _ (rules : Rules) (names : Table) (p : List Entry) (scripts : List (Liste
 
   -- what came of them, by the replies and the entries
   pub made_with : (after : State) → after.rules ≡ rules → after.calls ≡ before.calls ++ calls → HasLegalHistory after →
-      (whole : Option (Listed code.Entry)) (replies : Option (Listed Reply)) → IfSome whole (AreEntriesWith calls replies) → IfSome replies (λ _. HasScripts (map calls_of_script scripts) calls) →
+      (whole : Option (Listed code.Entry)) (replies : Option (Listed Reply)) → IfSome whole (AreEntriesWith calls replies) → IfSome replies (λ _. HasScripts (map script_calls scripts) calls) →
       IfSome replies (λ given. AreReplies (λ seen. Answered (book_of_rules rules) (reports_of_rules rules) (before.calls ++ seen)) calls given.items) →
       AreMade rules names p (commands_in scripts) disk disk' faults faults' stored whole
   made_with after frame longer legal None replies are made right = made_part after frame longer legal
   made_with after frame longer legal (Some es) replies are made right =
-      made_whole are.0.items es (subst (λ r. IfSome r (λ _. HasScripts (map calls_of_script scripts) calls)) are.1 made)
+      made_whole are.0.items es (subst (λ r. IfSome r (λ _. HasScripts (map script_calls scripts) calls)) are.1 made)
       (subst (λ r. IfSome r (λ given. AreReplies (λ seen. Answered (book_of_rules rules) (reports_of_rules rules) (before.calls ++ seen)) calls given.items)) are.1 right) are.2
 
 -- a machine with a journal takes the calls of the scripts

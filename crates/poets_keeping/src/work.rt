@@ -1,7 +1,7 @@
 //! The clerks' scripts, made all at once on one engine whose calls are put into a journal.
 ghost use Rattle.std.specs.Prelude.{◌≡◌, ◌+◌, ◌^◌, ◌≤◌, ◌<◌, [], IfSome, false, length, drop};
 ghost use Rattle.poets_clerks.specs.Histories.{AreReplies, HasScriptParts, HasScripts};
-ghost use Rattle.poets_clerks.specs.Scripts.{AreTaken, calls_of_all};
+ghost use Rattle.poets_clerks.specs.Scripts.{AreTaken, calls_of_scripts};
 ghost use Rattle.poets_value.specs.Limits.{most_clerks};
 ghost use Rattle.poets_session.specs.Sessions.{commands_in};
 ghost use Rattle.poets_journal.specs.Keeping.{IsStorable};
@@ -102,9 +102,9 @@ where
     ensures frame { M.frame result.machine.machine ≡ M.frame machine.machine }
     ensures table { P.table result.machine.put ≡ P.table machine.put }
     ensures made { result.machine.made ≡ machine.made }
-    ensures part { HasScriptParts (calls_of_all scripts.now) (M.history result.machine.machine) }
+    ensures part { HasScriptParts (calls_of_scripts scripts.now) (M.history result.machine.machine) }
     ensures history { IfSome result.replies
-        (λ _. HasScripts (calls_of_all scripts.now) (M.history result.machine.machine)) }
+        (λ _. HasScripts (calls_of_scripts scripts.now) (M.history result.machine.machine)) }
     ensures replies { IfSome result.replies (λ replies.
         AreReplies (M.answers (M.frame machine.machine)) (M.history result.machine.machine) replies.items) }
 {
@@ -127,8 +127,8 @@ where
     requires new { M.history machine ≡ [] }
     requires takes { AreTaken (M.takes (M.frame machine)) scripts.now }
     ensures frame { M.frame result.machine ≡ M.frame machine }
-    ensures part { HasScriptParts (calls_of_all scripts.now) (M.history result.machine) }
-    ensures history { IfSome result.replies (λ _. HasScripts (calls_of_all scripts.now) (M.history result.machine)) }
+    ensures part { HasScriptParts (calls_of_scripts scripts.now) (M.history result.machine) }
+    ensures history { IfSome result.replies (λ _. HasScripts (calls_of_scripts scripts.now) (M.history result.machine)) }
     ensures replies { IfSome result.replies (λ replies.
         AreReplies (M.answers (M.frame machine)) (M.history result.machine) replies.items) }
 {

@@ -27,7 +27,7 @@ use Rattle.poets_history.specs.Histories.{AnswersIn, IsLegal, IsRightHistory}
 use Rattle.poets_history.specs.Replies.{Legal}
 use Rattle.poets_history.proofs.Histories.{calls_last, legal_prefix, one_history}
 use Rattle.poets_clerks.specs.Histories.{AreReplies, HasScripts}
-use Rattle.poets_clerks.specs.Scripts.{script_calls as calls_of_script}
+use Rattle.poets_clerks.specs.Scripts.{script_calls}
 use Rattle.poets_clerks.proofs.Scripted.{scripts_hold, scripts_mapped}
 use Rattle.poets_engine.specs.State.{commands_of, plain_calls}
 use Rattle.poets_session.specs.Sessions.{commands_in}
@@ -103,11 +103,11 @@ module _ (book : Book) (reports : List Report) where
       (drop n h, cut ∙ ap (λ l. l ++ drop n h) one, rest)
 
 -- the scripts of the code, as plain data
-pub plain_scripts : (scripts : List (Listed (Arc CodeCommand Global))) (calls : List (ℕ × CodeCommand)) → HasScripts (map calls_of_script scripts) calls → HasScripts (commands_in scripts) (plain_calls calls)
+pub plain_scripts : (scripts : List (Listed (Arc CodeCommand Global))) (calls : List (ℕ × CodeCommand)) → HasScripts (map script_calls scripts) calls → HasScripts (commands_in scripts) (plain_calls calls)
 plain_scripts scripts calls made =
-    subst (λ ss. HasScripts ss (plain_calls calls)) (map-map (map command_of) calls_of_script scripts ∙ each scripts) (scripts_mapped command_of (map calls_of_script scripts) calls made)
+    subst (λ ss. HasScripts ss (plain_calls calls)) (map-map (map command_of) script_calls scripts ∙ each scripts) (scripts_mapped command_of (map script_calls scripts) calls made)
   where
-    each : (ss : List (Listed (Arc CodeCommand Global))) → map (λ s. map command_of (calls_of_script s)) ss ≡ commands_in ss
+    each : (ss : List (Listed (Arc CodeCommand Global))) → map (λ s. map command_of (script_calls s)) ss ≡ commands_in ss
     each [] = refl
     each (s ∷ ss) = ap₂ (λ a b. a ∷ b) (map-map command_of arc_value s.items) (each ss)
 
@@ -125,7 +125,7 @@ no_scripts scripts es none empty =
 
 -- the calls that clerks made with their scripts, and the replies to them
 module _ (rules found : Rules) (scripts : List (Listed (Arc CodeCommand Global))) (calls seen : List (ℕ × CodeCommand)) (replies : List Reply) (es : List Entry) (same : seen ≡ calls)
-    (made : HasScripts (map calls_of_script scripts) calls) (right : AreReplies (Answered (book_of_rules found) (reports_of_rules found)) calls replies) (are : history_of es ≡ entries_of seen replies) where
+    (made : HasScripts (map script_calls scripts) calls) (right : AreReplies (Answered (book_of_rules found) (reports_of_rules found)) calls replies) (are : history_of es ≡ entries_of seen replies) where
   their_calls : calls_of (history_of es) ≡ plain_calls calls
   their_calls = ap calls_of (are ∙ ap (λ cs. entries_of cs replies) same) ∙ calls_of_entries calls replies right.as_many
 

@@ -6,7 +6,7 @@ use Rattle.poets_lex.specs.declared.token.Token.{Token}
 use Rattle.poets_lex.specs.declared.fault.LexFault.{LexFault}
 use Rattle.poets_lex.specs.declared.fault.LexFault.TheVariants as L
 use Rattle.poets_lex.specs.Table.{Table}
-use Rattle.poets_lex.specs.Lexes.{FirstFault}
+use Rattle.poets_lex.specs.Lexes.{Lexes, FirstFault}
 use Rattle.poets_lex.specs.Laws.{Stand}
 use Rattle.poets_lex.proofs.Standing.{standing}
 use Rattle.poets_parse.specs.declared.fault.SyntaxFault.TheVariants as F
@@ -55,24 +55,26 @@ or_end : (text : Text) (place : ℕ) (first : Option ℕ) → IfSome first (λ p
 or_end text place None h e = omega (arith, e)
 or_end text place (Some p) h e = omega (arith, h, e)
 
+-- so is the first token after so many of a statement's, or the end of the text
+token_inside : {text : Text} {tokens : List Token} {names : Table} {place : ℕ} (number count : ℕ) → Lexes [] text 0 tokens names →
+    place ≡ unwrap_or (first_place (drop count (statement_tokens (number - 1) tokens))) (length text) → place ≤ length text
+token_inside {text} {tokens} {names} {place} number count lexed here =
+    or_end text place (first_place (drop count (statement_tokens (number - 1) tokens))) (later_inside names text 0 count (number - 1) tokens (standing lexed text [] refl refl)) here
+
 begin_inside : (text : Text) (number place : ℕ) → IsBeginOf text number place → place ≤ length text
-begin_inside text number place b =
-    or_end text place (first_place (statement_tokens (number - 1) b.tokens)) (later_inside b.names text 0 0 (number - 1) b.tokens (standing b.lexed text [] refl refl)) b.here
+begin_inside text number place b = token_inside number 0 b.lexed b.here
 
 within_inside : (text : Text) (number place : ℕ) → IsWithin text number place → place ≤ length text
-within_inside text number place b =
-    or_end text place (first_place (drop b.count (statement_tokens (number - 1) b.tokens))) (later_inside b.names text 0 b.count (number - 1) b.tokens (standing b.lexed text [] refl refl)) b.here
+within_inside text number place b = token_inside number b.count b.lexed b.here
 
 stop_inside : (text : Text) (number place : ℕ) → IsStopOf text number place → place ≤ length text
-stop_inside text number place b =
-    or_end text place (first_place (drop b.count (statement_tokens (number - 1) b.tokens))) (later_inside b.names text 0 b.count (number - 1) b.tokens (standing b.lexed text [] refl refl)) b.here
+stop_inside text number place b = token_inside number b.count b.lexed b.here
 
 name_inside : (text : Text) (number : ℕ) (x : Name) (place : ℕ) → IsNamePlace text number x place → place ≤ length text
 name_inside text number x place (inl b) =
     let ts = statement_tokens (number - 1) b.tokens in
-    or_end text place (first_place (drop b.count ts)) (later_inside b.names text 0 b.count (number - 1) b.tokens (standing b.lexed text [] refl refl)) (b.here ∙ sym (ap (λ o. unwrap_or o (length text)) (at_token ts b.count b.token b.inside)))
-name_inside text number x place (inr b) =
-    or_end text place (first_place (statement_tokens (number - 1) b.tokens)) (later_inside b.names text 0 0 (number - 1) b.tokens (standing b.lexed text [] refl refl)) b.here
+    token_inside number b.count b.lexed (b.here ∙ sym (ap (λ o. unwrap_or o (length text)) (at_token ts b.count b.token b.inside)))
+name_inside text number x place (inr b) = token_inside number 0 b.lexed b.here
 
 type_inside : (text : Text) (number : ℕ) (cause : TypeCause) (place : ℕ) → IsTypePlace text number cause place → place ≤ length text
 type_inside text number (T.Twice x) place is = name_inside text number x place is

@@ -49,8 +49,9 @@ pub record IsWithin (text : Text) (number place : ℕ) : Type 0 where
   pub inside : count ≤ length (ahead_of_end (statement_tokens (number - 1) tokens))
   pub here : place ≡ unwrap_or (first_place (drop count (statement_tokens (number - 1) tokens))) (length text)
 
--- the statement with the number ceases to begin a sentence here: at the first of its tokens with
--- which none begins, or at what comes after them all, its `;;` or the end of the text
+-- the place of the first token of the statement that cannot follow the tokens before it in any
+-- sentence or, if there is none, of its `;;` or the end of the text; of its first token if it is too
+-- deep
 pub record IsStopOf (text : Text) (number place : ℕ) : Type 0 where
   pub tokens : List Token
   pub names : Table
@@ -100,8 +101,8 @@ byte_of (L.LongNumber at) = Some at
 byte_of (L.LongName at) = Some at
 byte_of L.Memory = None
 
--- the place of the fault is here: at the byte, or at the name, or where the statement begins, or
--- where one that is no sentence ceases to begin one, or within a statement that is not typed
+-- the place of the fault is here: at the byte, or at the name, or where the statement begins; for
+-- `NoSentence` where its tokens stop beginning a sentence, and within a statement that is not typed
 abbrev pub IsPlaceOf : Text → SessionCause → ℕ → Type 0
 IsPlaceOf text (C.Lex fault) place = byte_of fault ≡ Some place
 IsPlaceOf text (C.Syntax number F.NoSentence) place = IsStopOf text number place

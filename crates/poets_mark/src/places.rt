@@ -37,8 +37,8 @@ fn begin_of(alloc: Global, text: &[u8], number: u64) -> Result<usize, Memory>
     Ok(place_of_first(rest, text))
 }
 
-// Where the statement with the number, which is no sentence, ceases to begin one: at the first of its tokens that
-// cannot stand there, or after them all.
+// Where the tokens of the statement with the number stop beginning a sentence: at the first one that cannot follow
+// those before it, or after them all.
 fn stop_of(alloc: Global, text: &[u8], number: u64) -> Result<usize, Memory>
     requires { length text.now ≤ longest_text }
     ensures { IfOk result (IsStopOf text.now number) }
@@ -103,9 +103,9 @@ fn type_place(alloc: Global, text: &[u8], fault: &TypeFault) -> Result<usize, Me
     }
 }
 
-/// Where a fault of the text stands: at the byte or the name that it tells, or where its statement begins, or in a
-/// statement that is no sentence at the first token with which it begins none (`docs/LANGUAGE.md`, "Refused texts").
-/// Bytes are counted from 0. `Err` is "out of memory", also where the fault is that.
+/// Where a fault of the text stands: at the byte or the name that it tells, or where its statement begins; for
+/// `NoSentence` where the tokens stop beginning a sentence, and for `WrongType` in the statement (`docs/LANGUAGE.md`,
+/// "Refused texts"). Bytes are counted from 0. `Err` is "out of memory", also where the fault is that.
 pub(crate) fn place_of(alloc: Global, text: &[u8], cause: &SessionCause) -> Result<usize, Memory>
     requires { length text.now ≤ longest_text }
     ensures { IfOk result (IsPlaceOf text.now cause.now) }

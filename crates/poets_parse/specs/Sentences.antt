@@ -1,4 +1,4 @@
--- Tokens that are a sentence: a statement which is not too deep.
+-- Tokens that are a statement and not too deep.
 use Rattle.std.specs.Prelude.{◌≡◌, ℕ, List}
 use Rattle.poets_lex.specs.declared.token.Tok.{Tok}
 use Rattle.poets_command.specs.Said.{Statement}
@@ -22,6 +22,7 @@ AreNoSentenceStored tokens = AreNoSentenceFor most_open_stored tokens
 abbrev pub IfSentence : List Tok → Type 0 → Type 0
 IfSentence tokens fact = ¬ (IsTooDeep tokens) → (s : Statement) → IsStatement tokens s → fact
 
--- so many of the tokens begin a sentence, and no more of them do; none where the tokens are too deep to be read
+-- the greatest number of the tokens with which some sentence begins; 0 if the tokens are too deep,
+-- whatever they begin
 abbrev pub AreBegun : List Tok → ℕ → Type 0
 AreBegun tokens count = (¬ (IsTooDeep tokens) → IsBegun tokens count) × (IsTooDeep tokens → count ≡ 0)

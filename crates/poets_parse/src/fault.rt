@@ -26,7 +26,7 @@ pub enum SyntaxFault {
 /// Why a reader gave up.
 #[derive(Debug, Clone, Copy, PartialEq, Eq)]
 pub(crate) enum ReadFault {
-    /// The first token that is not yet read, with which so many are left, is not what has to be there.
+    /// So many tokens are left from the first one on that is not what has to be there, or none where more have to follow.
     Unfit { left: usize },
 
     /// Out of memory.

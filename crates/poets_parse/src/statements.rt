@@ -102,8 +102,8 @@ pub fn statement_stored(alloc: Global, tokens: &[Token]) -> Result<Statement, Sy
     statement_within(alloc, MOST_OPEN_STORED, tokens)
 }
 
-/// How many of the tokens, which come before a `;;`, begin a sentence: all, or those before the first one that cannot
-/// be there. Of tokens that are nested too deep it is none.
+/// The greatest number of the tokens, counted from the first, with which some sentence of the grammar begins. It is 0 if
+/// the tokens are too deep.
 ///
 /// The readers look at one token, take it or give up, and never go back.
 pub fn begun(alloc: Global, tokens: &[Token]) -> Result<usize, Memory>

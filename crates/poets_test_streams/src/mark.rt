@@ -77,7 +77,7 @@ const BOOKS: [(&[u8], &str); 15] = [
         b"agents ann\nkinds Oil\n",
         "line 2, column 1\nkinds Oil\n^\nthe statement before the mark lacks its ;;\n",
     ),
-    // The first token with which no sentence begins, and the `;;` where one goes on.
+    // The first token that cannot follow those before it, and the `;;` where all begin a sentence.
     (
         b"kinds Oil, Gas Coal;;",
         "line 1, column 16\nkinds Oil, Gas Coal;;\n               ^\n",

@@ -22,3 +22,7 @@ returns-clause-cut_off c = no_sentence cut_off 0 refl
 pub returns-clause-begun : goal.returns-clause-begun
 unfolding listed listed_at whole_names statement
 returns-clause-begun c = begun two_commas 1 refl
+
+pub returns-clause-all_begun : goal.returns-clause-all_begun
+unfolding listed listed_at whole_names statement
+returns-clause-all_begun c = begun cut_off 0 refl
