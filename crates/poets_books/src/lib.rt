@@ -15,6 +15,3 @@ mod replies;
 pub use books::book_texts;
 pub use parts::{day_text, value_text};
 pub use replies::kind_text;
-
-#[cfg(test)]
-mod tests;

@@ -9,6 +9,3 @@ mod replies;
 pub use export::{book_value, document_text, export_text};
 pub use exported::Exported;
 pub use replies::entry_value;
-
-#[cfg(test)]
-mod tests;

@@ -13,6 +13,3 @@ mod values;
 
 pub use days::read_day;
 pub use values::read_value;
-
-#[cfg(test)]
-mod tests;

@@ -3,7 +3,5 @@
 
 pub mod laws;
 mod put;
-#[cfg(test)]
-mod tried;
 
 pub use put::CommandPut;

@@ -8,6 +8,8 @@ mod names;
 #[cfg(test)]
 mod print;
 #[cfg(test)]
+mod put;
+#[cfg(test)]
 mod session;
 #[cfg(test)]
 mod stored;

@@ -8,4 +8,6 @@ mod opening;
 #[cfg(test)]
 mod sentences;
 #[cfg(test)]
+mod texts;
+#[cfg(test)]
 mod ways;

@@ -9,8 +9,6 @@ mod sides;
 mod table;
 mod texts;
 mod trails;
-#[cfg(test)]
-mod tries;
 mod verifying;
 mod way;
 

@@ -1,8 +1,8 @@
 //! Values from texts that are worked by hand.
 
-use crate::{read_day, read_value};
 use poets_expr::Decls;
 use poets_lex::{Names, tokens};
+use poets_literals::{read_day, read_value};
 use poets_value::{Day, Memory, Name, Resource, Ty, Value};
 use std::alloc::Global;
 use std::collections::BTreeMap;

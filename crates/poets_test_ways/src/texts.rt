@@ -1,7 +1,7 @@
 //! Ways that are made by hand.
 
-use crate::{Trails, Way, way_text};
 use poets_value::Memory;
+use poets_way::{Trails, Way, way_text};
 use std::alloc::Global;
 
 // A way of one part, by its number.

@@ -1,12 +1,12 @@
-//! The text of a session's first command.
+//! The text in a journal of the first command of a session.
 ghost use Rattle.std.specs.Prelude.{◌≤◌, length};
 ghost use Rattle.poets_value.specs.Limits.{longest_text};
 ghost use Rattle.poets_stored.specs.Laws.{AreStorableScripts};
 
-use crate::CommandPut;
 use poets_journal::Put;
 use poets_lex::Names;
 use poets_session::{Form, Session, read};
+use poets_stored::CommandPut;
 use poets_value::{List, Memory};
 use std::alloc::Global;
 use std::test::Fail;
@@ -14,7 +14,7 @@ use std::test::Fail;
 const SESSION: &[u8] = b"agents ann;; clerk;; register a=(Success);; show a;; clerk;;";
 
 // The text of the first command of the first clerk, if there is one.
-#[tactic(auto, using(crate::proofs::Storing::storable_at))]
+#[tactic(auto, using(poets_stored::proofs::Storing::storable_at))]
 fn first_text(alloc: Global, session: &Session) -> Result<Option<List<u8>>, Memory>
     requires { AreStorableScripts session.now.names session.now.scripts.items }
 {
@@ -29,7 +29,7 @@ fn first_text(alloc: Global, session: &Session) -> Result<Option<List<u8>>, Memo
 }
 
 // That of the session that the text is.
-#[tactic(auto, using(crate::proofs::Storing::sessions_storable))]
+#[tactic(auto, using(poets_stored::proofs::Storing::sessions_storable))]
 fn first_text_in(alloc: Global, text: &[u8]) -> Result<Option<List<u8>>, Memory>
     requires { length text.now ≤ longest_text }
 {

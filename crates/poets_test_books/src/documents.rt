@@ -1,8 +1,8 @@
 //! Documents of histories that are built by hand.
 
-use crate::{Exported, export_text};
 use poets_command::{Command, Entry, Folio, Reply};
 use poets_expr::Decls;
+use poets_json::{Exported, export_text};
 use poets_lex::{Names, tokens};
 use poets_report::Answer;
 use poets_syntax::{Book, Term};

@@ -1,6 +1,6 @@
 //! The texts of books that are built by hand.
 
-use crate::{book_texts, day_text, value_text};
+use poets_books::{book_texts, day_text, value_text};
 use poets_expr::build::boxed;
 use poets_expr::{Decls, Expr, Op};
 use poets_lex::{Names, tokens};
