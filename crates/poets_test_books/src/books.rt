@@ -70,23 +70,22 @@ fn are(texts: &List<String>, wanted: &[&str]) -> bool {
             .all(|(text, wanted)| text.as_str() == *wanted)
 }
 
+// Whether a book that declares these names alone has these texts.
+fn has_texts(alloc: Global, declared: &[(Name, Ty)], wanted: &[&str]) -> Result<bool, Memory> {
+    let book = Book {
+        decls: decls(alloc, declared)?,
+        templates: List::new(alloc),
+    };
+    let texts = book_texts(alloc, &names(alloc)?, &book, &List::new(alloc))?;
+    Ok(are(&texts, wanted))
+}
+
 #[test]
 fn what_is_not_declared_has_no_statement(rt: HostRuntime) -> Result<(), Memory> {
     let alloc = rt.alloc();
-    let names = names(alloc)?;
-    let mut book = Book {
-        decls: decls(alloc, &[])?,
-        templates: List::new(alloc),
-    };
-    let reports = List::new(alloc);
-    let none = book_texts(alloc, &names, &book, &reports)?;
-    assert!(rt; are(&none, &[]));
-    book.decls = decls(alloc, &[(BOB, Ty::Agent)])?;
-    let agents = book_texts(alloc, &names, &book, &reports)?;
-    assert!(rt; are(&agents, &["agents bob"]));
-    book.decls = decls(alloc, &[(OIL, Ty::Kind)])?;
-    let kinds = book_texts(alloc, &names, &book, &reports)?;
-    assert!(rt; are(&kinds, &["kinds Oil"]));
+    assert!(rt; has_texts(alloc, &[], &[])?);
+    assert!(rt; has_texts(alloc, &[(BOB, Ty::Agent)], &["agents bob"])?);
+    assert!(rt; has_texts(alloc, &[(OIL, Ty::Kind)], &["kinds Oil"])?);
     Ok(())
 }
 
@@ -151,23 +150,36 @@ fn a_book_that_is_not_typed_has_texts(rt: HostRuntime) -> Result<(), Memory> {
     Ok(())
 }
 
+// Whether the value has this text.
+fn has_text(alloc: Global, value: Value, wanted: &str) -> Result<bool, Memory> {
+    Ok(value_text(alloc, &names(alloc)?, value)?.as_str() == wanted)
+}
+
 #[test]
-fn values_and_days_have_texts(rt: HostRuntime) -> Result<(), Memory> {
+fn values_have_texts(rt: HostRuntime) -> Result<(), Memory> {
     let alloc = rt.alloc();
-    let names = names(alloc)?;
     let owed = Resource {
         kind: OIL,
         amount: -3,
     };
-    assert!(rt; value_text(alloc, &names, Value::Int(-12))?.as_str() == "-12");
-    assert!(rt; value_text(alloc, &names, Value::Bool(true))?.as_str() == "true");
-    assert!(rt; value_text(alloc, &names, Value::Resource(owed))?.as_str() == "[-3 Oil]");
-    assert!(rt; value_text(alloc, &names, Value::Agent(BOB))?.as_str() == "bob");
-    assert!(rt; value_text(alloc, &names, Value::Kind(USD))?.as_str() == "USD");
+    let have = [
+        has_text(alloc, Value::Int(-12), "-12")?,
+        has_text(alloc, Value::Bool(true), "true")?,
+        has_text(alloc, Value::Resource(owed), "[-3 Oil]")?,
+        has_text(alloc, Value::Agent(BOB), "bob")?,
+        has_text(alloc, Value::Kind(USD), "USD")?,
+    ];
+    assert_eq!(rt; have, [true; 5]);
+    Ok(())
+}
+
+#[test]
+fn days_have_texts(rt: HostRuntime) -> Result<(), Memory> {
+    let alloc = rt.alloc();
     let Some(day) = Day::from_number(0) else {
         return Err(Memory);
     };
-    assert!(rt; value_text(alloc, &names, Value::Day(day))?.as_str() == "@1970-01-01");
+    assert!(rt; has_text(alloc, Value::Day(day), "@1970-01-01")?);
     assert!(rt; day_text(alloc, day)?.as_str() == "1970-01-01");
     Ok(())
 }

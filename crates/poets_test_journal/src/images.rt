@@ -1,30 +1,31 @@
 //! Images of a disk in memory, and its faults.
 
-use crate::making::{bytes, disk, write};
-use poets_disk::Disk;
-use poets_value::List;
+use crate::making::{bytes, disk, leaves, write};
+use poets_disk::{Disk, MemoryDisk};
+use poets_value::{List, Memory};
+use std::alloc::Global;
 use std::test::Fail;
 
 // What was not synced reads as written, is gone in the image of the last sync, and is any byte in another.
+fn unsynced(alloc: Global, disk: &mut MemoryDisk) -> Result<[bool; 9], Memory> {
+    Ok([
+        write(disk, 1, &[5]),
+        disk.sync().is_ok(),
+        write(disk, 2, &[4, 4, 4]),
+        leaves(alloc, disk, 0, &[9, 5, 4, 4, 4])?,
+        leaves(alloc, disk, 1, &[9, 5, 7])?,
+        leaves(alloc, disk, 257, &[9, 5, 1, 1, 1])?,
+        disk.sync().is_ok(),
+        leaves(alloc, disk, 1, &[9, 5, 4, 4, 4])?,
+        leaves(alloc, disk, 257, &[9, 5, 4, 4, 4])?,
+    ])
+}
+
 #[test]
 fn unsynced_bytes_may_be_any(rt: HostRuntime) -> Result<(), Fail> {
     let alloc = rt.alloc();
     let mut disk = disk(alloc, bytes(alloc, &[9, 8, 7])?, &[])?;
-    assert!(rt; write(&mut disk, 1, &[5]));
-    assert!(rt; disk.sync().is_ok());
-    assert!(rt; write(&mut disk, 2, &[4, 4, 4]));
-    assert_eq!(rt; disk.left(alloc, 0)?.as_slice(), [9, 5, 4, 4, 4].as_slice());
-    assert_eq!(rt; disk.left(alloc, 1)?.as_slice(), [9, 5, 7].as_slice());
-    assert_eq!(rt;
-        disk.left(alloc, 257)?.as_slice(),
-        [9, 5, 1, 1, 1].as_slice()
-    );
-    assert!(rt; disk.sync().is_ok());
-    assert_eq!(rt; disk.left(alloc, 1)?.as_slice(), [9, 5, 4, 4, 4].as_slice());
-    assert_eq!(rt;
-        disk.left(alloc, 257)?.as_slice(),
-        [9, 5, 4, 4, 4].as_slice()
-    );
+    assert_eq!(rt; unsynced(alloc, &mut disk)?, [true; 9]);
     Ok(())
 }
 
@@ -34,8 +35,8 @@ fn nothing_was_synced(rt: HostRuntime) -> Result<(), Fail> {
     let alloc = rt.alloc();
     let mut disk = disk(alloc, bytes(alloc, &[3])?, &[])?;
     assert!(rt; write(&mut disk, 0, &[1, 2]));
-    assert_eq!(rt; disk.left(alloc, 1)?.as_slice(), [3].as_slice());
-    assert_eq!(rt; disk.left(alloc, 2)?.as_slice(), [2, 2].as_slice());
+    assert!(rt; leaves(alloc, &disk, 1, &[3])?);
+    assert!(rt; leaves(alloc, &disk, 2, &[2, 2])?);
     Ok(())
 }
 

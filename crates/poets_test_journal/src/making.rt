@@ -26,6 +26,16 @@ pub(crate) fn disk(alloc: Global, file: List<u8>, fails: &[u64]) -> Result<Memor
     MemoryDisk::new(alloc, file, named)
 }
 
+// Whether the disk leaves these bytes, where an image is picked so.
+pub(crate) fn leaves(
+    alloc: Global,
+    disk: &MemoryDisk,
+    pick: u64,
+    wanted: &[u8],
+) -> Result<bool, Memory> {
+    Ok(disk.left(alloc, pick)?.as_slice() == wanted)
+}
+
 // Writes the piece at a place in the file, and says whether that went well.
 pub(crate) fn write(disk: &mut MemoryDisk, at: u64, piece: &[u8]) -> bool {
     match disk.length() {

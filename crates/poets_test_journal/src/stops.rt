@@ -90,19 +90,28 @@ fn a_crash_at_each_call_leaves_the_acknowledged_texts(rt: HostRuntime) -> Result
     Ok(())
 }
 
-// The second gate byte is not written, or it is and is not synced.
+// The second gate byte is not written, or it is and is not synced: the call that fails, the image that is picked, how
+// many texts are acknowledged, and how many the image holds.
+const GATES: [(u64, u64, usize, usize); 5] = [
+    (10, 0, 1, 1),
+    (10, 257, 1, 1),
+    (11, 0, 1, 2),
+    (11, 1, 1, 1),
+    (11, 257, 1, 2),
+];
+
+// How many texts are acknowledged where this call fails, and how many the image that is picked holds.
+fn kept(alloc: Global, call: u64, pick: u64) -> Result<(usize, usize), Memory> {
+    let run = put_all(alloc, &[call])?;
+    let image = run.disk.left(alloc, pick)?;
+    Ok((run.stored, held(alloc, image)?.len()))
+}
+
 #[test]
 fn the_second_gate_fails(rt: HostRuntime) -> Result<(), Fail> {
-    let alloc = rt.alloc();
-    let run = put_all(alloc, &[10])?;
-    assert_eq!(rt; run.stored, 1);
-    assert_eq!(rt; held(alloc, run.disk.left(alloc, 0)?)?.len(), 1);
-    assert_eq!(rt; held(alloc, run.disk.left(alloc, 257)?)?.len(), 1);
-    let next = put_all(alloc, &[11])?;
-    assert_eq!(rt; next.stored, 1);
-    assert_eq!(rt; held(alloc, next.disk.left(alloc, 0)?)?.len(), 2);
-    assert_eq!(rt; held(alloc, next.disk.left(alloc, 1)?)?.len(), 1);
-    assert_eq!(rt; held(alloc, next.disk.left(alloc, 257)?)?.len(), 2);
+    for (call, pick, stored, texts) in GATES {
+        assert_eq!(rt; kept(rt.alloc(), call, pick)?, (stored, texts));
+    }
     Ok(())
 }
 

@@ -12,11 +12,13 @@ fn a_reply_is_finished_after_other_turns(rt: HostRuntime) -> Result<(), Fail> {
     let five = Arc::new(alloc, 5)?;
     let one = adder.turn(&rt, alloc, 1, &five)?;
     let two = adder.turn(&rt, alloc, 2, &five)?;
-    assert_eq!(rt; Adder::place(&one), 0);
-    assert_eq!(rt; Adder::place(&two), 1);
-    assert_eq!(rt; Adder::finish(&rt, alloc, two)?, 10);
-    assert_eq!(rt; Adder::finish(&rt, alloc, one)?, 5);
-    assert_eq!(rt; adder.sum(), 10);
-    assert_eq!(rt; adder.entries().len(), 2);
+    let places = (Adder::place(&one), Adder::place(&two));
+    let second = Adder::finish(&rt, alloc, two)?;
+    let first = Adder::finish(&rt, alloc, one)?;
+    let made = (adder.sum(), adder.entries().len());
+    drop(adder);
+    assert_eq!(rt; places, (0, 1));
+    assert_eq!(rt; (first, second), (5, 10));
+    assert_eq!(rt; made, (10, 2));
     Ok(())
 }

@@ -113,22 +113,28 @@ fn a_note_tells_what_was_seen(rt: HostRuntime) -> Result<(), Fail> {
         mut one,
         mut two,
     } = two_clerks(alloc)?;
-    assert_eq!(rt; give(&rt, alloc, &turn, &mut one, 5)?, (0, 5));
-    assert_eq!(rt; give(&rt, alloc, &turn, &mut one, 5)?, (1, 10));
-    assert_eq!(rt; give(&rt, alloc, &turn, &mut one, 5)?, (2, 15));
-    assert_eq!(rt; one.number(), 1);
-    assert_eq!(rt; one.front_length(), 3);
-    assert_eq!(rt; two.front_length(), 0);
+    let first = [
+        give(&rt, alloc, &turn, &mut one, 5)?,
+        give(&rt, alloc, &turn, &mut one, 5)?,
+        give(&rt, alloc, &turn, &mut one, 5)?,
+    ];
+    let before = [one.front_length(), two.front_length()];
     let note = turn.note(&mut one);
     turn.hear(&mut two, note);
-    assert_eq!(rt; two.front_length(), 3);
-    assert_eq!(rt; give(&rt, alloc, &turn, &mut two, 5)?, (3, 20));
+    let heard = two.front_length();
+    let last = give(&rt, alloc, &turn, &mut two, 5)?;
     let older = turn.note(&mut one);
     turn.hear(&mut two, older);
-    assert_eq!(rt; two.front_length(), 4);
+    let numbers = [one.number(), two.number()];
+    let after = two.front_length();
     let adder = closed_pair(turn, list, one, two);
-    assert_eq!(rt; adder.entries().len(), 4);
-    assert_eq!(rt; adder.sum(), 20);
+    let closed = (adder.entries().len(), adder.sum());
+    drop(adder);
+    assert_eq!(rt; first, [(0, 5), (1, 10), (2, 15)]);
+    assert_eq!(rt; numbers, [1, 2]);
+    assert_eq!(rt; (before, heard), ([3, 0], 3));
+    assert_eq!(rt; (last, after), ((3, 20), 4));
+    assert_eq!(rt; closed, (4, 20));
     Ok(())
 }
 
