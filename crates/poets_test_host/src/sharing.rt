@@ -1,5 +1,5 @@
 //! Two clerks share the engine.
-ghost use Rattle.std.specs.Prelude.{◌≡◌, [], IfOk};
+ghost use Rattle.std.specs.Prelude.{IfOk};
 ghost use Rattle.std.specs.Arc.{arc_value};
 ghost use Rattle.poets_command.specs.Calls.{command_of};
 ghost use Rattle.poets_engine.specs.Takes.{IsTakenBy};
