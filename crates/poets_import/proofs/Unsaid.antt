@@ -14,12 +14,13 @@ use Rattle.poets_parse.specs.declared.fault.SyntaxFault.TheVariants as S
 use Rattle.poets_parse.specs.Sentences.{AreNoSentenceStored}
 use Rattle.poets_command.specs.Said.{Statement}
 use Rattle.poets_import.specs.Phrases.{AreSentence, Phrase, Say}
-use Rattle.poets_import.specs.code.Faults.{fault_of, unread_of_lex, unread_of_syntax}
+use Rattle.poets_parse.specs.Faults.{unread_of_lex, unread_of_syntax}
+use Rattle.poets_import.specs.Faults.{fault_of}
 use Rattle.poets_import.specs.code.Spoken.{HasNoTokens, SaysNo}
 use Rattle.poets_import.specs.code.Finding.{Finds}
 use Rattle.poets_import.specs.declared.fault.ImportFault.TheVariants as F
-use Rattle.poets_import.specs.declared.fault.Unread.{Unread}
-use Rattle.poets_import.specs.declared.fault.Unread.TheVariants as U
+use Rattle.poets_parse.specs.declared.fault.Unread.{Unread}
+use Rattle.poets_parse.specs.declared.fault.Unread.TheVariants as U
 use Rattle.poets_import.proofs.OneWay.{say_same}
 
 -- the fault that a `?` hands on

@@ -1,3 +1,4 @@
+pub mod Faults
 pub mod Phrases
 pub mod Reading
 pub mod Laws

@@ -1,6 +1,5 @@
 -- What ties the code to the definitions: invariants of its loops, and what its private functions
 -- promise.
-pub mod Faults
 pub mod Finding
 pub mod Gathering
 pub mod Members

@@ -13,12 +13,12 @@ ghost use Rattle.poets_import.specs.code.Finding.{FindsAll, FindsOnly, FindsSome
 ghost use Rattle.poets_import.specs.code.Finding.{folio_as_data, folio_of};
 ghost use Rattle.poets_import.specs.code.Members as members;
 
-use crate::fault::Unread;
 use crate::members::{first_text, items_at};
 use poets_command::Folio;
 use poets_expr::Decls;
 use poets_lex::Names;
 use poets_literals::read_value;
+use poets_parse::Unread;
 use poets_report::Answer;
 use poets_value::{List, Name, Value, push};
 use serde_json::Value as Json;

@@ -6,12 +6,12 @@ ghost use Rattle.poets_command.specs.Statements.{statement_of, statements_of};
 ghost use Rattle.poets_import.specs.code.Gathering.{Adds, Declares, IsDeclaredBy};
 ghost use Rattle.poets_import.specs.code.Spoken.{AreRead, IsBookSaid, IsNone, IsSentence};
 
-use crate::fault::Unread;
 use crate::members::items_in;
 use crate::phrases::statement_in;
 use poets_command::Statement;
 use poets_expr::Decls;
 use poets_lex::Names;
+use poets_parse::Unread;
 use poets_report::Report;
 use poets_syntax::Book;
 use poets_value::{List, Memory, Name, Ty, push};

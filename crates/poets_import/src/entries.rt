@@ -12,7 +12,6 @@ ghost use Rattle.poets_import.specs.code.Finding.{FindsOnly};
 ghost use Rattle.poets_import.specs.code.Members as members;
 ghost use Rattle.poets_import.specs.code.Parts.{AreNoEntries, IsFoundEntry, IsSaidEntry, data_of, said_of};
 
-use crate::fault::Unread;
 use crate::members::number_at;
 use crate::replies::reply_in;
 use crate::spoken::Spoken;
@@ -20,6 +19,7 @@ use poets_command::Entry;
 use poets_expr::Decls;
 use poets_json::entry_value;
 use poets_lex::Names;
+use poets_parse::Unread;
 use poets_value::{List, Memory, push};
 use serde_json::Value as Json;
 use std::alloc::Global;

@@ -12,10 +12,10 @@ ghost use Rattle.poets_import.specs.code.Parts.{book_data_of, HasNoParts, HasPar
 use crate::ImportFault;
 use crate::book::{Declared, book_in, gather};
 use crate::entries::{entries_in, same};
-use crate::fault::Unread;
 use crate::spoken::all_spoken;
 use poets_json::{Exported, book_value};
 use poets_lex::Names;
+use poets_parse::Unread;
 use poets_value::Memory;
 use serde_json::Value as Json;
 use std::alloc::Global;

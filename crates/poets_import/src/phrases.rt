@@ -14,10 +14,9 @@ ghost use Rattle.poets_import.specs.code.Spoken.{AreNoContract, AreNoName, AreNo
 ghost use Rattle.poets_import.specs.code.Spoken.{IsCalled, IsNoRegistration, IsNone, IsOtherThan, Registers, SaysNo};
 ghost use Rattle.poets_import.specs.code.Spoken.{SaysNoCommand};
 
-use crate::fault::Unread;
 use poets_command::{Command, Statement};
 use poets_lex::{Names, Sign, Tok, Token, Word, is_name, tokens};
-use poets_parse::statement_stored;
+use poets_parse::{Unread, statement_stored};
 use poets_syntax::{Term, copy};
 use poets_value::{List, Memory, Name, push};
 use std::alloc::Global;

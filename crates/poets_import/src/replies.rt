@@ -15,12 +15,12 @@ ghost use Rattle.poets_import.specs.code.Telling.{answer_told, day_told, name_to
 ghost use Rattle.poets_import.specs.code.Telling as telling;
 
 use crate::answers::{answer_in, folio_in};
-use crate::fault::Unread;
 use crate::members::{number_at, text_at, truth_at};
 use poets_command::Reply;
 use poets_expr::Decls;
 use poets_lex::Names;
 use poets_literals::read_day;
+use poets_parse::Unread;
 use poets_report::Answer;
 use poets_syntax::Term;
 use poets_value::{Day, Name};

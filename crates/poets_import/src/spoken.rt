@@ -8,11 +8,11 @@ ghost use Rattle.poets_import.specs.code.Parts.{said_of};
 ghost use Rattle.poets_import.specs.code.Spoken.{AreRead, EntrySaid, IsNone, IsNowhere, IsRowOf, NameSaid, OwedSaid};
 ghost use Rattle.poets_import.specs.code.Spoken.{ReplySaid, RowsSaid};
 
-use crate::fault::Unread;
 use crate::members::{first_text, items_at, text_at};
 use crate::phrases::{command_in, name_in, owed_in};
 use poets_command::Command;
 use poets_lex::Names;
+use poets_parse::Unread;
 use poets_syntax::Term;
 use poets_value::{List, Name, push};
 use serde_json::Value as Json;

@@ -3,7 +3,7 @@ ghost use Rattle.std.specs.Prelude.{◌≡◌, suc, length};
 ghost use Rattle.poets_grammar.specs.Tokens.{toks};
 ghost use Rattle.poets_parse.specs.declared.fault.ReadFault.TheVariants as R;
 
-use poets_lex::Token;
+use poets_lex::{LexFault, Token};
 use poets_value::Memory;
 use thiserror::Error;
 
@@ -20,6 +20,16 @@ pub enum SyntaxFault {
 
     /// Out of memory.
     #[error("no memory is left")]
+    Memory,
+}
+
+/// Why bytes or tokens were not read as what was sought.
+#[derive(Debug, Clone, Copy, PartialEq, Eq)]
+pub enum Unread {
+    /// They have not the shape of it.
+    Shape,
+
+    /// Out of memory.
     Memory,
 }
 
@@ -74,6 +84,45 @@ impl From<ReadFault> for SyntaxFault {
         match fault {
             ReadFault::Unfit { .. } => SyntaxFault::NoSentence,
             ReadFault::Memory => SyntaxFault::Memory,
+        }
+    }
+}
+
+impl From<Memory> for Unread {
+    ghost use Rattle.std.specs.Prelude.{◌≡◌};
+    ghost use Rattle.poets_parse.specs.declared.fault.Unread.TheVariants as U;
+
+    ghost from_gives = { λ _ fault. fault ≡ U.Memory };
+
+    fn from(_: Memory) -> Unread {
+        Unread::Memory
+    }
+}
+
+impl From<LexFault> for Unread {
+    ghost use Rattle.std.specs.Prelude.{◌≡◌};
+    ghost use Rattle.poets_parse.specs.Faults.{unread_of_lex};
+
+    ghost from_gives = { λ fault told. told ≡ unread_of_lex fault };
+
+    fn from(fault: LexFault) -> Unread {
+        match fault {
+            LexFault::Memory => Unread::Memory,
+            _ => Unread::Shape,
+        }
+    }
+}
+
+impl From<SyntaxFault> for Unread {
+    ghost use Rattle.std.specs.Prelude.{◌≡◌};
+    ghost use Rattle.poets_parse.specs.Faults.{unread_of_syntax};
+
+    ghost from_gives = { λ fault told. told ≡ unread_of_syntax fault };
+
+    fn from(fault: SyntaxFault) -> Unread {
+        match fault {
+            SyntaxFault::Memory => Unread::Memory,
+            SyntaxFault::TooDeep | SyntaxFault::NoSentence => Unread::Shape,
         }
     }
 }

@@ -16,5 +16,5 @@ mod statements;
 mod step;
 
 pub use depth::is_too_deep;
-pub use fault::SyntaxFault;
+pub use fault::{SyntaxFault, Unread};
 pub use statements::{begun, statement, statement_stored};

@@ -17,7 +17,9 @@ use Rattle.poets_grammar.proofs.Statements.{statement_complete}
 use Rattle.poets_grammar.proofs.Steps.{one_answer}
 use Rattle.poets_parse.specs.declared.fault.SyntaxFault.{SyntaxFault}
 use Rattle.poets_parse.specs.declared.fault.SyntaxFault.TheVariants as S
+use Rattle.poets_parse.specs.declared.fault.Unread.TheVariants as U
 use Rattle.poets_parse.specs.Sentences.{AreNoSentenceStored}
+use Rattle.poets_parse.specs.Faults.{unread_of_lex, unread_of_syntax}
 use Rattle.poets_command.specs.declared.call.Command.{Command as CodeCommand}
 use Rattle.poets_command.specs.declared.statement.Statement as code
 use Rattle.poets_command.specs.declared.statement.Statement.TheVariants as V
@@ -26,8 +28,6 @@ use Rattle.poets_command.specs.Plain.{Command}
 use Rattle.poets_command.specs.Said.{Statement, Numbered}
 use Rattle.poets_command.specs.Taken.{IsWholeCommand}
 use Rattle.poets_session.proofs.LawsFitting.{stand_fit, statement_fits}
-use Rattle.poets_recover.specs.declared.fault.TextFault.TheVariants as T
-use Rattle.poets_recover.specs.code.Faults.{fault_of_lex, fault_of_syntax}
 use Rattle.poets_recover.specs.code.Reading.{IsUnnumbered, SayCall, AreTokensOfNone, SaysCall, SaysNone}
 
 -- the fault that a `?` hands on
@@ -50,7 +50,7 @@ pub none-other : (ts : List Tok) (s : Statement) → IsStatement ts s →
     ((clerk : ℕ) (command : Command) → s ≡ Numbered clerk command → 1 ≤ clerk → clerk ≤ most_clerks → ⊥) → AreTokensOfNone ts
 none-other ts s is other clerk command h = other clerk command (one_statement ts s (Numbered clerk command) is h.said) h.from h.to
 
-pub none-unread : (ts : List Tok) (fault : SyntaxFault) → fault_of_syntax fault ≡ T.NoCall → (fault ≡ S.NoSentence → AreNoSentenceStored ts) → (fault ≡ S.TooDeep → IsTooDeepStored ts) → AreTokensOfNone ts
+pub none-unread : (ts : List Tok) (fault : SyntaxFault) → unread_of_syntax fault ≡ U.Shape → (fault ≡ S.NoSentence → AreNoSentenceStored ts) → (fault ≡ S.TooDeep → IsTooDeepStored ts) → AreTokensOfNone ts
 none-unread ts S.NoSentence e none deep = none-no_sentence ts (none refl)
 none-unread ts S.TooDeep e none deep = none-deep ts (deep refl)
 none-unread ts S.Memory e none deep = absurd cc
@@ -81,7 +81,7 @@ none-no_clerk ts clerk command is out = none-other ts (Numbered clerk command) i
 pub none-fault : (before : Table) (text : List ℕ) (fault : LexFault) → FirstFault before text fault → SaysNone before text
 none-fault before text fault first clerk command after h = no-reading-at-fault before text fault h.tokens after first h.lexed
 
-pub none-uncut : (before : Table) (text : List ℕ) (fault : LexFault) → fault_of_lex fault ≡ T.NoCall → UnlessMemory (FirstFault before text) fault → SaysNone before text
+pub none-uncut : (before : Table) (text : List ℕ) (fault : LexFault) → unread_of_lex fault ≡ U.Shape → UnlessMemory (FirstFault before text) fault → SaysNone before text
 none-uncut before text (L.BadByte at) e h = none-fault before text (L.BadByte at) (h (λ f. absurd cc))
 none-uncut before text (L.LongNumber at) e h = none-fault before text (L.LongNumber at) (h (λ f. absurd cc))
 none-uncut before text (L.LongName at) e h = none-fault before text (L.LongName at) (h (λ f. absurd cc))

@@ -1,4 +1,3 @@
 -- What ties the code to the definitions: invariants of its loops and structs, and what its private
 -- functions promise.
-pub mod Faults
 pub mod Reading

@@ -10,11 +10,10 @@ ghost use Rattle.poets_recover.specs.Stored.{bytes_in};
 ghost use Rattle.poets_recover.specs.code.Reading.{IsUnnumbered, AreTokensOf, AreTokensOfNone, SaysCallOf, SaysNone};
 ghost use Rattle.poets_recover.specs.code.Reading.{AreRead};
 
-use crate::fault::TextFault;
 use crate::limits::MOST_STORED;
 use poets_command::{Command, Statement};
 use poets_lex::{Names, Token, tokens};
-use poets_parse::statement_stored;
+use poets_parse::{Unread, statement_stored};
 use poets_value::{List, MOST_CLERKS, Memory, push};
 use std::alloc::Global;
 use std::sync::Arc;
@@ -31,33 +30,29 @@ fn numbered(statement: Statement) -> Option<(u64, Command)>
 }
 
 // The call that the tokens of a text say.
-fn call_of(alloc: Global, tokens: &[Token]) -> Result<(u32, Arc<Command>), TextFault>
+fn call_of(alloc: Global, tokens: &[Token]) -> Result<(u32, Arc<Command>), Unread>
     requires { AreNatural tokens.now }
     ensures said { IfOk result (AreTokensOf (toks tokens.now)) }
-    ensures none { result ≡ Err TextFault.NoCall → AreTokensOfNone (toks tokens.now) }
+    ensures none { result ≡ Err Unread.Shape → AreTokensOfNone (toks tokens.now) }
 {
     let statement = statement_stored(alloc, tokens)?;
     let Some((clerk, command)) = numbered(statement) else {
-        return Err(TextFault::NoCall);
+        return Err(Unread::Shape);
     };
     if clerk < 1 || clerk > MOST_CLERKS {
-        return Err(TextFault::NoCall);
+        return Err(Unread::Shape);
     }
     let Ok(command) = Arc::new(alloc, command) else {
-        return Err(TextFault::Memory);
+        return Err(Unread::Memory);
     };
     Ok((clerk as u32, command))
 }
 
 // The call that the text says.
-fn read_call(
-    alloc: Global,
-    names: &mut Names,
-    text: &[u8],
-) -> Result<(u32, Arc<Command>), TextFault>
+fn read_call(alloc: Global, names: &mut Names, text: &[u8]) -> Result<(u32, Arc<Command>), Unread>
     requires { length text.now + length names.old < 2 ^ 32 }
     ensures said { IfOk result (SaysCallOf names.old text.now names.new) }
-    ensures none { result ≡ Err TextFault.NoCall → SaysNone names.old text.now }
+    ensures none { result ≡ Err Unread.Shape → SaysNone names.old text.now }
     ensures names { Extends names.old names.new }
     ensures few { length names.new ≤ length names.old + length text.now }
 {
@@ -85,8 +80,8 @@ pub(crate) fn read_calls(
         room -= text.len();
         match read_call(alloc, names, text) {
             Ok(call) => push(&mut calls, call)?,
-            Err(TextFault::NoCall) => return Ok(calls),
-            Err(TextFault::Memory) => return Err(Memory),
+            Err(Unread::Shape) => return Ok(calls),
+            Err(Unread::Memory) => return Err(Memory),
         }
     }
     Ok(calls)

@@ -15,8 +15,8 @@ use Rattle.poets_json.specs.Document.{reply_data}
 use Rattle.poets_syntax.specs.Contract.{Contract}
 use Rattle.serde_json.specs.Data.{Data}
 use Rattle.poets_import.specs.Reading.{HasReplied, HasTotal, HasValues, IsIfDefined}
-use Rattle.poets_import.specs.declared.fault.Unread.{Unread}
-use Rattle.poets_import.specs.declared.fault.Unread.TheVariants as U
+use Rattle.poets_parse.specs.declared.fault.Unread.{Unread}
+use Rattle.poets_parse.specs.declared.fault.Unread.TheVariants as U
 
 -- what was found has this value, or memory was not enough
 abbrev pub Finds : {A B D : Type 0} → (A → B) → (B → D) → D → Result A Unread → Type 0

@@ -5,7 +5,7 @@ use Rattle.poets_expr.specs.Env.{declared_of}
 use Rattle.poets_report.specs.Answers.{answer_of}
 use Rattle.poets_report.specs.Plain.{Rows}
 use Rattle.poets_json.specs.Document.{answer_data}
-use Rattle.poets_import.specs.declared.fault.Unread.TheVariants as U
+use Rattle.poets_parse.specs.declared.fault.Unread.TheVariants as U
 use Rattle.poets_import.proofs.AnswerRows.{other_rows, rows_of}
 use Rattle.poets_import.proofs.Unsaid.{finds_handed}
 use Rattle.poets_import.proofs.answers.answer_in.Goals as goal

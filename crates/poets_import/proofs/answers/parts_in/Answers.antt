@@ -7,7 +7,7 @@ use Rattle.poets_expr.specs.Env.{declared_of}
 use Rattle.poets_command.specs.Calls.{folio_row_of}
 use Rattle.poets_json.specs.Document.{part_data}
 use Rattle.poets_import.specs.code.Finding.{IsPart}
-use Rattle.poets_import.specs.declared.fault.Unread.TheVariants as U
+use Rattle.poets_parse.specs.declared.fault.Unread.TheVariants as U
 use Rattle.poets_import.proofs.Lists.{comes_of, map_cut, map_more, one_more, so_nothing}
 use Rattle.poets_import.proofs.Unsaid.{finds_handed}
 use Rattle.poets_import.proofs.answers.parts_in.Goals as goal

@@ -5,7 +5,7 @@ use Rattle.serde_json.specs.View.{view}
 use Rattle.poets_expr.specs.Env.{declared_of}
 use Rattle.poets_json.specs.Document.{row_data}
 use Rattle.poets_import.specs.code.Finding.{IsRow}
-use Rattle.poets_import.specs.declared.fault.Unread.TheVariants as U
+use Rattle.poets_parse.specs.declared.fault.Unread.TheVariants as U
 use Rattle.poets_import.proofs.Lists.{comes_of, map_cut, map_more, one_more, so_nothing}
 use Rattle.poets_import.proofs.Unsaid.{finds_handed}
 use Rattle.poets_import.proofs.answers.rows_in.Goals as goal

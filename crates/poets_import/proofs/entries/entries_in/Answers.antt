@@ -7,7 +7,7 @@ use Rattle.poets_expr.specs.Env.{declared_of}
 use Rattle.poets_command.specs.Calls.{entry_of, history_of}
 use Rattle.poets_json.specs.Document.{entry_data}
 use Rattle.poets_import.specs.code.Parts.{data_of, said_of}
-use Rattle.poets_import.specs.declared.fault.Unread.TheVariants as U
+use Rattle.poets_parse.specs.declared.fault.Unread.TheVariants as U
 use Rattle.poets_import.proofs.ManyEntries.{entry_at, found_more}
 use Rattle.poets_import.proofs.Unsaid.{handed_on, memory_is_no_shape}
 use Rattle.poets_import.proofs.entries.entries_in.Goals as goal

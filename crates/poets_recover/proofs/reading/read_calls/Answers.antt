@@ -13,9 +13,9 @@ returns-then-room-text-clause-read c =
     said-stopped c.args.names.now c.args.texts.now l.text-index c.text-item.result c.loop-text-test.true c.text-item.is l.room l.calls.items l.names l.invariant
     l.names (inl (rw c.as_slice-text.ensures at c.if-room-text.true))
 
-pub returns-in-Err-NoCall-clause-read : goal.returns-in-Err-NoCall-clause-read
-returns-in-Err-NoCall-clause-read c =
-    let l = c.loop-text in let none = c.read_call.ensures.none (c.in-Err-NoCall.is ∙ ap Err c.in-Err-NoCall.field-0-is) in
+pub returns-in-Err-Shape-clause-read : goal.returns-in-Err-Shape-clause-read
+returns-in-Err-Shape-clause-read c =
+    let l = c.loop-text in let none = c.read_call.ensures.none (c.in-Err-Shape.is ∙ ap Err c.in-Err-Shape.field-0-is) in
     said-stopped c.args.names.now c.args.texts.now l.text-index c.text-item.result c.loop-text-test.true c.text-item.is l.room l.calls.items l.names l.invariant
     c.read_call.new.names (inr (rw c.as_slice-text.ensures at none))
 
