@@ -99,4 +99,5 @@ module _ {M C R K F : Type 0} (frame : M → F) (answers : F → List (ℕ × C)
   -- the clerks worked at the scripts, and this came of it
   abbrev pub IsWorkOf : Listed (Listed (Arc C Global)) → Listed (ClerkOf M C F) → WorkedOf M C F R → Type 0
   IsWorkOf scripts clerks work =
-      HaveWorked work.memory (calls_of_scripts scripts) clerks.items work.clerks.items (map answers_of work.answers.items)
+      HaveWorked work.memory (calls_of_scripts scripts) clerks.items work.clerks.items
+      (map answers_of work.answers.items)
