@@ -59,16 +59,20 @@ const ALIKE: [(&str, bool); 10] = [
     ("f(1) || (f(2) + f(3)) + (f(3) + f(2)) || f(1)", false),
 ];
 
+// Whether the rows of both sides of the choice are alike.
+fn have_like_sides(alloc: Global, arena: &mut Arena, choice: &Term) -> Result<bool, Memory> {
+    let Term::Plus(first, second) = choice else {
+        return Err(Memory);
+    };
+    let first = enter(alloc, arena, first)?;
+    let second = enter(alloc, arena, second)?;
+    arena.alike(first, second)
+}
+
 // Whether the choice is of two contracts that are alike.
 fn are_alike(alloc: Global, text: &str) -> Result<bool, Memory> {
     let term = contract(alloc, text)?;
-    let Term::Plus(first, second) = &term else {
-        return Err(Memory);
-    };
-    let mut arena = Arena::new(alloc);
-    let first = enter(alloc, &mut arena, first)?;
-    let second = enter(alloc, &mut arena, second)?;
-    arena.alike(first, second)
+    have_like_sides(alloc, &mut Arena::new(alloc), &term)
 }
 
 #[test]

@@ -46,12 +46,16 @@ const NORMAL: [Row; 2] = [
     (ANYTHING_THRICE, (ANYTHING, 2, 0)),
 ];
 
+// Whether this is the normal form of the contract, as a tree and as rows.
+fn has_form(alloc: Global, studied: &Studied, term: &Term, wanted: Wanted) -> Result<bool, Memory> {
+    let tree = is_made(alloc, by_tree(alloc, studied, term)?, wanted)?;
+    let rows = is_made(alloc, by_rows(alloc, studied, term)?, wanted)?;
+    Ok(tree && rows)
+}
+
 // Whether the row holds of trees and of rows.
 fn is_normal(alloc: Global, studied: &Studied, row: &Row) -> Result<bool, Memory> {
-    let term = contract(alloc, row.0)?;
-    let tree = is_made(alloc, by_tree(alloc, studied, &term)?, row.1)?;
-    let rows = is_made(alloc, by_rows(alloc, studied, &term)?, row.1)?;
-    Ok(tree && rows)
+    has_form(alloc, studied, &contract(alloc, row.0)?, row.1)
 }
 
 #[test]
@@ -85,11 +89,16 @@ fn opened(
 
 const OPEN: &str = "transmit(a, b, r, t | true). f(amount(r) + 1)";
 
+// Whether the template is found with its mark, and its argument stays as it is.
+fn stays_open(alloc: Global) -> Result<bool, Memory> {
+    let studied = book(alloc)?;
+    let found = opened(alloc, &studied, &contract(alloc, OPEN)?)?;
+    Ok(matches!(found, Some((mark, true, 0)) if mark.hopeful && !mark.nullable))
+}
+
 #[test]
 fn open_arguments_stay(rt: HostRuntime) -> Result<(), Memory> {
-    let found = opened(rt.alloc(), &book(rt.alloc())?, &contract(rt.alloc(), OPEN)?)?;
-    // The template is found with its mark.
-    assert!(rt; matches!(found, Some((mark, true, 0)) if mark.hopeful && !mark.nullable));
+    assert!(rt; stays_open(rt.alloc())?);
     Ok(())
 }
 

@@ -107,13 +107,23 @@ const STEPS: [Step; 9] = [
     (TEN_SIDES, 1, (NINE_SIDES, 10, 1)),
 ];
 
-// Whether the step is taken so, over trees and over rows.
-fn is_taken(alloc: Global, studied: &Studied, step: &Step) -> Result<bool, Memory> {
-    let term = contract(alloc, step.0)?;
-    let event = delivered(alloc, step.1)?;
-    let tree = is_made(alloc, after(alloc, studied, &term, &event)?, step.2)?;
-    let rows = is_made(alloc, rows_after(alloc, studied, &term, &event)?, step.2)?;
+// Whether the event leaves this of the contract, over trees and over rows.
+fn leaves(
+    alloc: Global,
+    studied: &Studied,
+    term: &Term,
+    event: &Event,
+    left: Left,
+) -> Result<bool, Memory> {
+    let tree = is_made(alloc, after(alloc, studied, term, event)?, left)?;
+    let rows = is_made(alloc, rows_after(alloc, studied, term, event)?, left)?;
     Ok(tree && rows)
+}
+
+// Whether the step is taken so.
+fn is_taken(alloc: Global, studied: &Studied, step: &Step) -> Result<bool, Memory> {
+    let event = delivered(alloc, step.1)?;
+    leaves(alloc, studied, &contract(alloc, step.0)?, &event, step.2)
 }
 
 #[test]

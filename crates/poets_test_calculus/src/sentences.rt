@@ -66,13 +66,18 @@ pub(crate) fn expressions(alloc: Global, text: &str) -> Result<List<Expr>, Memor
     }
 }
 
-/// The contract of the text.
-pub(crate) fn contract(alloc: Global, text: &str) -> Result<Term, Memory> {
-    let declared = format!(in alloc; "template f() = {text}")?;
-    match sentence(alloc, declared.as_str())? {
+// The contract of a template.
+fn body_of(said: Statement) -> Result<Term, Memory> {
+    match said {
         Statement::Template(Template { body, .. }) => Ok(body),
         _ => Err(Memory),
     }
+}
+
+/// The contract of the text.
+pub(crate) fn contract(alloc: Global, text: &str) -> Result<Term, Memory> {
+    let declared = format!(in alloc; "template f() = {text}")?;
+    body_of(sentence(alloc, declared.as_str())?)
 }
 
 /// The text with a piece between its two parts, which is repeated.

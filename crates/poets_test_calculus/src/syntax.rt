@@ -8,14 +8,17 @@ use poets_syntax::{Term, same, subst};
 use poets_value::{Memory, Name, Ty, Value};
 use std::alloc::Global;
 
-// Whether the body is the choice of a contract and of another, which it is with the names replaced.
-fn is_replaced(alloc: Global, text: &str, pairs: &[(Name, Given)]) -> Result<bool, Memory> {
-    let read = contract(alloc, text)?;
-    let Term::Plus(term, wanted) = &read else {
+// Whether the choice is of a contract and of another, which it is with the names replaced.
+fn has_replaced(alloc: Global, choice: &Term, pairs: &[(Name, Given)]) -> Result<bool, Memory> {
+    let Term::Plus(term, wanted) = choice else {
         return Ok(false);
     };
     let found = subst(alloc, term, pairs)?;
     Ok(same(&found, wanted) && !same(&found, term))
+}
+
+fn is_replaced(alloc: Global, text: &str, pairs: &[(Name, Given)]) -> Result<bool, Memory> {
+    has_replaced(alloc, &contract(alloc, text)?, pairs)
 }
 
 // The name n is replaced below both transmits, and a, which they bind, below none.

@@ -45,17 +45,27 @@ fn contract_cause(
     Ok(check_term(alloc, &checked.book, checked.reports.as_slice(), &term).err())
 }
 
+// Why the command is not typed.
+fn cause_of(
+    alloc: Global,
+    checked: &Checked,
+    said: &Statement,
+) -> Result<Option<TypeCause>, Memory> {
+    match said {
+        Statement::Command(command) => {
+            Ok(check_call(alloc, &checked.book, checked.reports.as_slice(), command).err())
+        }
+        _ => Err(Memory),
+    }
+}
+
 // Why the command of the text is not typed.
 fn command_cause(
     alloc: Global,
     checked: &Checked,
     text: &str,
 ) -> Result<Option<TypeCause>, Memory> {
-    let statement = sentence(alloc, text)?;
-    let Statement::Command(command) = &statement else {
-        return Err(Memory);
-    };
-    Ok(check_call(alloc, &checked.book, checked.reports.as_slice(), command).err())
+    cause_of(alloc, checked, &sentence(alloc, text)?)
 }
 
 #[test]

@@ -81,6 +81,8 @@ fn a_changed_template_gives_calls_another_meaning(rt: HostRuntime) -> Result<(),
     let file = owed_file(alloc)?;
     let day = ask(&rt, alloc, &["resume"], CHANGED, &holding(file.as_slice()))?;
     let lines = "3 1: end d => not performed\n4 1: show d => events 0, ";
-    assert!(rt; day.written().starts_with(lines.as_bytes()));
+    let holds = day.written().starts_with(lines.as_bytes());
+    drop((file, day));
+    assert!(rt; holds);
     Ok(())
 }

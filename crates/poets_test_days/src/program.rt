@@ -156,6 +156,19 @@ pub(crate) fn ask<R: Threads + Wait + Sync>(
     })
 }
 
+// Whether the program, called with the word, ends so over a journal with this file, and what it leaves of the file.
+fn ended<R: Threads + Wait + Sync>(
+    rt: &R,
+    alloc: Global,
+    (word, text): (&str, &str),
+    file: &[u8],
+    wanted: End,
+) -> Result<(bool, List<u8>), Fail> {
+    let answer = ask(rt, alloc, &[word], text, &holding(file))?;
+    let left = answer.left(alloc, 0)?;
+    Ok((answer.is(wanted), left))
+}
+
 /// The program, called with the word, ends so over a journal with this file. What it leaves of the file.
 pub(crate) fn leaves<R: Abort + Threads + Wait + Sync>(
     rt: &R,
@@ -164,9 +177,9 @@ pub(crate) fn leaves<R: Abort + Threads + Wait + Sync>(
     file: &[u8],
     wanted: End,
 ) -> Result<List<u8>, Fail> {
-    let answer = ask(rt, alloc, &[word], text, &holding(file))?;
-    assert!(rt; answer.is(wanted), "{word} over {file:?}");
-    Ok(answer.left(alloc, 0)?)
+    let (holds, left) = ended(rt, alloc, (word, text), file, wanted)?;
+    assert!(rt; holds, "{word} over {file:?}");
+    Ok(left)
 }
 
 /// The same, and the file stays as it is.

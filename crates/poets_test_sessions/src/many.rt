@@ -1,9 +1,8 @@
 //! Many commands on a contract that is not there, and many templates.
 
 use crate::books::HEAD;
-use crate::program::{SOUND, answered, ask, joined, numbered, repeated};
+use crate::program::{SOUND, answered, answers, joined, numbered, repeated};
 use std::alloc::Global;
-use std::process::Abort;
 use std::sync::Wait;
 use std::test::Fail;
 use std::thread::Threads;
@@ -31,23 +30,23 @@ fn a_contract_is_not_shown_65537_times(rt: HostRuntime) -> Result<(), Fail> {
     answered(&rt, alloc, ("65537 times show", text.as_str()), too_many)
 }
 
-// A book of so many templates, each with a name of its own, is answered so.
-fn templates_checked<R: Abort + Threads + Wait + Sync>(
+// Whether a book of so many templates, each with a name of its own, is answered so.
+fn are_checked<R: Threads + Wait + Sync>(
     rt: &R,
     alloc: Global,
     count: u32,
-    (status, line): (u8, &str),
-) -> Result<(), Fail> {
+    wanted: (u8, usize, &str),
+) -> Result<bool, Fail> {
     let text = numbered(alloc, (1, count), ("template t", "() = Success;;\n"))?;
-    let answer = ask(rt, alloc, &["check"], text.as_str(), &SOUND)?;
-    assert!(rt; answer.is((status, 0, line)), "{count} templates");
-    Ok(())
+    answers(rt, alloc, (&["check"], text.as_str()), &SOUND, wanted)
 }
 
 #[test]
 fn a_book_has_at_most_256_templates(rt: HostRuntime) -> Result<(), Fail> {
     let alloc = rt.alloc();
-    let whole = (0, "book: templates 256, reports 0\n");
-    templates_checked(&rt, alloc, 256, whole)?;
-    templates_checked(&rt, alloc, 257, (1, "refused in statement 257: TooMany\n"))
+    let whole = (0, 0, "book: templates 256, reports 0\n");
+    assert!(rt; are_checked(&rt, alloc, 256, whole)?);
+    let too_many = (1, 0, "refused in statement 257: TooMany\n");
+    assert!(rt; are_checked(&rt, alloc, 257, too_many)?);
+    Ok(())
 }

@@ -134,6 +134,26 @@ pub(crate) fn ask<R: Threads + Wait + Sync>(
     })
 }
 
+/// Whether the program, called with the words, answers the text with the status, so many entries and these lines.
+pub(crate) fn answers<R: Threads + Wait + Sync>(
+    rt: &R,
+    alloc: Global,
+    (words, text): (&[&str], &str),
+    edges: &Edges,
+    wanted: (u8, usize, &str),
+) -> Result<bool, Fail> {
+    Ok(ask(rt, alloc, words, text, edges)?.is(wanted))
+}
+
+/// The first of the lines, so many.
+pub(crate) fn first_lines(alloc: Global, lines: &[&str], count: usize) -> Result<String, Fail> {
+    let mut text = String::new(alloc);
+    for line in lines.iter().take(count) {
+        text.push_str(line)?;
+    }
+    Ok(text)
+}
+
 /// `run` answers the text with the status, so many entries and these lines.
 pub(crate) fn answered<R: Abort + Threads + Wait + Sync>(
     rt: &R,
@@ -141,7 +161,7 @@ pub(crate) fn answered<R: Abort + Threads + Wait + Sync>(
     (about, text): (&str, &str),
     wanted: (u8, usize, &str),
 ) -> Result<(), Fail> {
-    let answer = ask(rt, alloc, &["run"], text, &SOUND)?;
-    assert!(rt; answer.is(wanted), "{about}");
+    let holds = answers(rt, alloc, (&["run"], text), &SOUND, wanted)?;
+    assert!(rt; holds, "{about}");
     Ok(())
 }

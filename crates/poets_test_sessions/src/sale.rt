@@ -1,7 +1,7 @@
 //! A sale whose reads are short or fail, whose writes fail, and whose text is cut.
 
 use crate::books::{HEAD, SALE};
-use crate::program::{Edges, SOUND, answered, ask, joined};
+use crate::program::{Edges, SOUND, answered, answers, first_lines, joined};
 use std::alloc::Global;
 use std::process::Abort;
 use std::sync::Wait;
@@ -26,25 +26,32 @@ fn session(alloc: Global) -> Result<String, Fail> {
     joined(alloc, &[HEAD, SALE, COMMANDS])
 }
 
-// The sale, or a front of it, is answered so: the status, the number of entries, and how many of the lines are written.
+// The status, the number of entries, and how many of the lines are written.
+type End = (u8, usize, usize);
+
+// Whether the sale, or a prefix of it, is answered so.
+fn sale_ends<R: Threads + Wait + Sync>(
+    rt: &R,
+    alloc: Global,
+    text: &str,
+    edges: &Edges,
+    (status, entries, written): End,
+) -> Result<bool, Fail> {
+    let lines = first_lines(alloc, &LINES, written)?;
+    let wanted = (status, entries, lines.as_str());
+    answers(rt, alloc, (&["run"], text), edges, wanted)
+}
+
+// The sale, or a prefix of it, is answered so.
 fn sale_answered<R: Abort + Threads + Wait + Sync>(
     rt: &R,
     alloc: Global,
     text: &str,
     edges: &Edges,
-    (status, entries, written): (u8, usize, usize),
+    end: End,
 ) -> Result<(), Fail> {
-    let mut lines = String::new(alloc);
-    for line in LINES.iter().take(written) {
-        lines.push_str(line)?;
-    }
-    let answer = ask(rt, alloc, &["run"], text, edges)?;
-    let holds = answer.is((status, entries, lines.as_str()));
-    let step = edges.step;
-    assert!(rt;
-        holds,
-        "{text}, by {step} bytes: status {status}, {written} lines"
-    );
+    let holds = sale_ends(rt, alloc, text, edges, end)?;
+    assert!(rt; holds, "{text}, by {} bytes: {end:?}", edges.step);
     Ok(())
 }
 
@@ -84,7 +91,7 @@ fn a_sale_fails_at_each_read_and_each_write(rt: HostRuntime) -> Result<(), Fail>
     Ok(())
 }
 
-// The line of a front that is refused: a day that is cut begins no token, and else the last statement is no sentence.
+// The line of a prefix that is refused: a day that is cut begins no token, and else the last statement is no sentence.
 fn refusal(alloc: Global, text: &str) -> Result<String, Fail> {
     if let Some((before, day)) = text.rsplit_once("@")
         && day.len() < 10
@@ -95,8 +102,8 @@ fn refusal(alloc: Global, text: &str) -> Result<String, Fail> {
     Ok(format!(in alloc; "refused in statement {statement}: NoSentence\n")?)
 }
 
-// A front of the sale that ends with `;;` is answered by the lines of its commands, before which four statements stand.
-fn front_answered<R: Abort + Threads + Wait + Sync>(
+// A prefix of the sale that ends with `;;` is answered by the lines of its commands, before which four statements stand.
+fn prefix_answered<R: Abort + Threads + Wait + Sync>(
     rt: &R,
     alloc: Global,
     text: &str,
@@ -115,10 +122,10 @@ fn a_sale_is_cut_after_each_byte(rt: HostRuntime) -> Result<(), Fail> {
     let alloc = rt.alloc();
     let sale = session(alloc)?;
     let mut text = String::new(alloc);
-    front_answered(&rt, alloc, text.as_str())?;
+    prefix_answered(&rt, alloc, text.as_str())?;
     for next in sale.as_str().chars() {
         text.push(next)?;
-        front_answered(&rt, alloc, text.as_str())?;
+        prefix_answered(&rt, alloc, text.as_str())?;
     }
     Ok(())
 }

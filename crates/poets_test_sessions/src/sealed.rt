@@ -2,7 +2,7 @@
 
 use crate::books::{ANY, HEAD, SUM};
 use crate::past::{commands, replies};
-use crate::program::{Edges, SOUND, answered, ask, joined};
+use crate::program::{Edges, SOUND, answered, answers, joined};
 use poets_table::PIECE_LENGTH;
 use std::alloc::Global;
 use std::test::Fail;
@@ -86,7 +86,8 @@ fn a_portfolio_is_made_while_others_work(rt: HostRuntime) -> Result<(), Fail> {
         held_outside: &[((1, 2), (2, 1))],
         ..SOUND
     };
-    let answer = ask(&rt, alloc, &["run"], text.as_str(), &edges)?;
-    assert!(rt; answer.is((0, 3, BEHIND)));
+    let asked: (&[&str], &str) = (&["run"], text.as_str());
+    let holds = answers(&rt, alloc, asked, &edges, (0, 3, BEHIND))?;
+    assert!(rt; holds);
     Ok(())
 }

@@ -1,6 +1,6 @@
 //! Reads and writes that are short, fail or cannot fail.
 
-use crate::program::{Edges, SOUND, all_words, ask, joined, list};
+use crate::program::{Edges, SOUND, all_words, answers, first_lines, joined, list};
 use poets_clerks::NoGate;
 use poets_io::{SureSink, SureSource};
 use poets_top::run;
@@ -23,22 +23,31 @@ const LINES: [&str; 4] = [
 
 const REFUSED: &str = "agents ann, ann;;";
 
-// The program, called with the words, answers the text so over such a source and sink: the status, the number of
-// entries, and how many of the lines are written.
+// The status, the number of entries, and how many of the lines are written.
+type End = (u8, usize, usize);
+
+// Whether the program, called with the words, answers the text so over such a source and sink.
+fn ends<R: Threads + Wait + Sync>(
+    rt: &R,
+    alloc: Global,
+    asked: (&[&str], &str),
+    edges: &Edges,
+    (status, entries, written): End,
+) -> Result<bool, Fail> {
+    let lines = first_lines(alloc, &LINES, written)?;
+    answers(rt, alloc, asked, edges, (status, entries, lines.as_str()))
+}
+
+// The program, called with the words, answers the text so over such a source and sink.
 fn answered<R: Abort + Threads + Wait + Sync>(
     rt: &R,
     alloc: Global,
-    (words, text): (&[&str], &str),
+    asked: (&[&str], &str),
     edges: &Edges,
-    (status, entries, written): (u8, usize, usize),
+    end: End,
 ) -> Result<(), Fail> {
-    let mut lines = String::new(alloc);
-    for line in LINES.iter().take(written) {
-        lines.push_str(line)?;
-    }
-    let answer = ask(rt, alloc, words, text, edges)?;
-    let holds = answer.is((status, entries, lines.as_str()));
-    assert!(rt; holds, "{words:?}, {text}, {written}");
+    let holds = ends(rt, alloc, asked, edges, end)?;
+    assert!(rt; holds, "{asked:?}: {end:?}");
     Ok(())
 }
 
@@ -127,34 +136,28 @@ fn oil_is_offered_until_a_read_or_a_write_fails(rt: HostRuntime) -> Result<(), F
         writes: &[2],
         ..SOUND
     };
-    let unwritten = ask(&rt, alloc, &["run"], OFFERED, &edges)?;
-    assert!(rt; unwritten.is((5, 3, REGISTERED)));
+    let asked: (&[&str], &str) = (&["run"], OFFERED);
+    assert!(rt; answers(&rt, alloc, asked, &edges, (5, 3, REGISTERED))?);
     let edges = Edges {
         reads: &[1],
         ..SOUND
     };
-    let unread = ask(&rt, alloc, &["run"], OFFERED, &edges)?;
-    assert!(rt; unread.is((4, 0, "")));
+    assert!(rt; answers(&rt, alloc, asked, &edges, (4, 0, ""))?);
     Ok(())
+}
+
+// The status of a run over such a source and sink, how many entries its history has, and how many bytes are written.
+fn sure_run<R: Threads + Wait + Sync>(rt: &R, alloc: Global) -> Result<(u8, usize, u64), Fail> {
+    let words = all_words(alloc, &["run"])?;
+    let mut source = SureSource::new(alloc, list(alloc, ENDED.as_bytes())?);
+    let mut sink = SureSink::new();
+    let outcome = run(rt, alloc, words.as_slice(), &mut source, &mut sink, &NoGate);
+    Ok((outcome.status, outcome.history.len(), sink.taken()))
 }
 
 #[test]
 fn a_sure_source_and_a_sure_sink_never_fail(rt: HostRuntime) -> Result<(), Fail> {
-    let alloc = rt.alloc();
-    let words = all_words(alloc, &["run"])?;
-    let mut source = SureSource::new(alloc, list(alloc, ENDED.as_bytes())?);
-    let mut sink = SureSink::new();
-    let outcome = run(
-        &rt,
-        alloc,
-        words.as_slice(),
-        &mut source,
-        &mut sink,
-        &NoGate,
-    );
-    assert_eq!(rt; outcome.status, 0);
-    assert_eq!(rt; outcome.history.len(), 4);
-    let lines = joined(alloc, &LINES)?;
-    assert_eq!(rt; sink.taken(), lines.len() as u64);
+    let bytes = joined(rt.alloc(), &LINES)?.len() as u64;
+    assert_eq!(rt; sure_run(&rt, rt.alloc())?, (0, 4, bytes));
     Ok(())
 }

@@ -108,6 +108,21 @@ impl Row<'_> {
     }
 }
 
+// Whether the program answers the row so.
+fn is_answered<R: Threads + Wait + Sync>(
+    rt: &R,
+    alloc: Global,
+    call: &Call,
+    row: &Row,
+) -> Result<bool, Fail> {
+    let edges = Edges {
+        held: row.held.as_slice(),
+        ..SOUND
+    };
+    let answer = ask(rt, alloc, &[call.word], row.text.as_str(), &edges)?;
+    Ok(row.has_answer(call.status, &answer))
+}
+
 // The program answers the row so.
 fn one_row<R: Abort + Threads + Wait + Sync>(
     rt: &R,
@@ -115,12 +130,7 @@ fn one_row<R: Abort + Threads + Wait + Sync>(
     call: &Call,
     row: &Row,
 ) -> Result<(), Fail> {
-    let edges = Edges {
-        held: row.held.as_slice(),
-        ..SOUND
-    };
-    let answer = ask(rt, alloc, &[call.word], row.text.as_str(), &edges)?;
-    let holds = row.has_answer(call.status, &answer);
+    let holds = is_answered(rt, alloc, call, row)?;
     assert!(rt; holds, "{}: {}: {}", row.about, call.word, row.text);
     Ok(())
 }

@@ -8,6 +8,23 @@ use std::sync::Wait;
 use std::test::Fail;
 use std::thread::Threads;
 
+// Whether the program, called with the words, answers so over a sink that fails at these calls, and reads nothing.
+fn answers_unread<R: Threads + Wait + Sync>(
+    rt: &R,
+    alloc: Global,
+    words: &[&str],
+    writes: &[u64],
+    wanted: (u8, usize, &str),
+) -> Result<bool, Fail> {
+    let edges = Edges {
+        reads: &[1],
+        writes,
+        ..SOUND
+    };
+    let mut answer = ask(rt, alloc, words, ENDED, &edges)?;
+    Ok(answer.is(wanted) && answer.is_unread(alloc, ENDED))
+}
+
 // The program, called with the words, answers so over a sink that fails at these calls, and reads nothing.
 fn unread<R: Abort + Threads + Wait + Sync>(
     rt: &R,
@@ -16,14 +33,8 @@ fn unread<R: Abort + Threads + Wait + Sync>(
     writes: &[u64],
     wanted: (u8, usize, &str),
 ) -> Result<(), Fail> {
-    let edges = Edges {
-        reads: &[1],
-        writes,
-        ..SOUND
-    };
-    let mut answer = ask(rt, alloc, words, ENDED, &edges)?;
-    assert!(rt; answer.is(wanted), "{words:?}");
-    assert!(rt; answer.is_unread(alloc, ENDED), "{words:?}");
+    let holds = answers_unread(rt, alloc, words, writes, wanted)?;
+    assert!(rt; holds, "{words:?}");
     Ok(())
 }
 

@@ -3,7 +3,9 @@
 use crate::program::{ask, file_of, holding, stays};
 use crate::session::{ENDED, HEAD, all_lines, kept_file};
 use std::alloc::Global;
+use std::sync::Wait;
 use std::test::Fail;
+use std::thread::Threads;
 
 // The line of a damaged record.
 fn damaged(alloc: Global, number: u64) -> Result<String, Fail> {
@@ -65,19 +67,23 @@ fn a_text_that_is_no_call_is_told(rt: HostRuntime) -> Result<(), Fail> {
     Ok(())
 }
 
+// Whether a session is kept over this file as over an empty one.
+fn is_kept<R: Threads + Wait + Sync>(rt: &R, alloc: Global, file: &[u8]) -> Result<bool, Fail> {
+    let lines = all_lines(alloc)?;
+    let wanted = kept_file(alloc)?;
+    let kept = ask(rt, alloc, &["keep"], ENDED, &holding(file))?;
+    let left = kept.left(alloc, 1)?;
+    Ok(kept.is((0, 4, 4, lines.as_str())) && left.as_slice() == wanted.as_slice())
+}
+
 // A file of at most one byte, or with a closed gate, holds no call.
 #[test]
 fn a_journal_may_hold_no_call(rt: HostRuntime) -> Result<(), Fail> {
     let alloc = rt.alloc();
-    let lines = all_lines(alloc)?;
-    let wanted = kept_file(alloc)?;
     let files: [&[u8]; 5] = [&[], &[0], &[1], &[7], &[0, 1, 0, 0, 0, 5]];
     for file in files {
-        let recovered = ask(&rt, alloc, &["recover"], HEAD, &holding(file))?;
-        assert!(rt; recovered.is((0, 0, 0, "")), "recover over {file:?}");
-        let kept = ask(&rt, alloc, &["keep"], ENDED, &holding(file))?;
-        assert!(rt; kept.is((0, 4, 4, lines.as_str())), "keep over {file:?}");
-        assert_eq!(rt; kept.left(alloc, 1)?.as_slice(), wanted.as_slice());
+        stays(&rt, alloc, ("recover", HEAD), file, (0, 0, 0, ""))?;
+        assert!(rt; is_kept(&rt, alloc, file)?, "keep over {file:?}");
     }
     Ok(())
 }

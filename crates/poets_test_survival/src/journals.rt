@@ -39,8 +39,10 @@ fn kept_calls_are_recovered_and_not_kept_again(rt: HostRuntime) -> Result<(), Fa
 fn a_book_leaves_an_empty_journal(rt: HostRuntime) -> Result<(), Fail> {
     let alloc = rt.alloc();
     let kept = ask(&rt, alloc, &["keep"], HEAD, &EMPTY)?;
-    assert!(rt; kept.is((0, 0, 0, "")));
-    assert_eq!(rt; kept.left(alloc, 1)?.as_slice(), [0].as_slice());
+    let file = kept.left(alloc, 1)?;
+    let holds = kept.is((0, 0, 0, "")) && file.as_slice() == [0].as_slice();
+    drop((kept, file));
+    assert!(rt; holds);
     Ok(())
 }
 

@@ -1,21 +1,32 @@
 //! Runs that do not touch the disk: with other words, and with texts that are refused or cannot be read.
 
-use crate::program::{EMPTY, Edges, ask, repeated};
+use crate::program::{Answer, EMPTY, Edges, ask, repeated};
 use crate::session::{ENDED, HEAD, all_lines, kept_file};
+use poets_value::Memory;
 use std::alloc::Global;
 use std::process::Abort;
 use std::sync::Wait;
 use std::test::Fail;
 use std::thread::Threads;
 
-// The program ends so over a journal whose disk fails at its first call, and leaves it as it is.
-fn is_untouched<R: Abort + Threads + Wait + Sync>(
+// Whether each image of the disk is this file.
+fn is_left(alloc: Global, answer: &Answer, file: &[u8]) -> Result<bool, Memory> {
+    for pick in [0, 1, 257] {
+        if answer.left(alloc, pick)?.as_slice() != file {
+            return Ok(false);
+        }
+    }
+    Ok(true)
+}
+
+// Whether the program ends so over a journal whose disk fails at its first call, and leaves it as it is.
+fn leaves_disk<R: Threads + Wait + Sync>(
     rt: &R,
     alloc: Global,
     (words, text): (&[&str], &str),
     read: u64,
     (status, entries, lines): (u8, usize, &str),
-) -> Result<(), Fail> {
+) -> Result<bool, Fail> {
     let file = kept_file(alloc)?;
     let file = file.as_slice();
     let edges = Edges {
@@ -25,11 +36,23 @@ fn is_untouched<R: Abort + Threads + Wait + Sync>(
         ..EMPTY
     };
     let mut answer = ask(rt, alloc, words, text, &edges)?;
-    assert!(rt; answer.is((status, entries, 0, lines)), "{words:?}");
-    for pick in [0, 1, 257] {
-        assert_eq!(rt; answer.left(alloc, pick)?.as_slice(), file);
-    }
-    assert!(rt; answer.is_untouched(), "{words:?}");
+    let holds = answer.is((status, entries, 0, lines)) && is_left(alloc, &answer, file)?;
+    Ok(answer.is_untouched() && holds)
+}
+
+// The program ends so over a journal whose disk fails at its first call, and leaves it as it is.
+fn is_untouched<R: Abort + Threads + Wait + Sync>(
+    rt: &R,
+    alloc: Global,
+    asked: (&[&str], &str),
+    read: u64,
+    wanted: (u8, usize, &str),
+) -> Result<(), Fail> {
+    assert!(rt;
+        leaves_disk(rt, alloc, asked, read, wanted)?,
+        "{:?}",
+        asked.0
+    );
     Ok(())
 }
 
