@@ -33,11 +33,16 @@ pub(crate) fn statements(alloc: Global, texts: &[&str]) -> Result<List<Statement
     Ok(statements)
 }
 
-/// The contract of the text.
-pub(crate) fn contract(alloc: Global, text: &str) -> Result<Term, Memory> {
-    let declared = format!(in alloc; "template f() = {text}")?;
-    match sentence(alloc, declared.as_str())? {
+// The contract of a template.
+fn body_of(said: Statement) -> Result<Term, Memory> {
+    match said {
         Statement::Template(Template { body, .. }) => Ok(body),
         _ => Err(Memory),
     }
+}
+
+/// The contract of the text.
+pub(crate) fn contract(alloc: Global, text: &str) -> Result<Term, Memory> {
+    let declared = format!(in alloc; "template f() = {text}")?;
+    body_of(sentence(alloc, declared.as_str())?)
 }
