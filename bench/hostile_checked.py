@@ -60,7 +60,7 @@ def answers(number):
 
 
 def is_right(answer):
-    """Whether the run ended with the whole history, or with want of memory and a prefix of its lines."""
+    """Whether the run ended with the whole history, or ran out of memory and wrote a prefix of its lines."""
     found = ANSWER.fullmatch(answer)
     if not found:
         return False

@@ -113,7 +113,7 @@ def is_whole(ran, name):
 
 
 def is_prefix(ran, name):
-    """Whether the run of the session ended with the whole result, or with want of memory and a prefix of its lines."""
+    """Whether the run of the session ended with the whole result, or ran out of memory and wrote a prefix of its lines."""
     _, _, whole = SESSIONS[name]
     if whole is None:
         told = MEMORY if ran.status else b""
@@ -126,7 +126,7 @@ def is_prefix(ran, name):
 
 
 def is_refused(ran, name):
-    """Whether the text was refused as it must be, or there was want of memory and nothing is written."""
+    """Whether the text was refused as it must be, or memory ran out and nothing is written."""
     _, _, line, status = REFUSALS[name]
     return is_so(ran, status, line) or is_so(ran, 3, b"")
 
