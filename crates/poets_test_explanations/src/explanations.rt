@@ -1,7 +1,7 @@
 //! Journals of which a contract is explained.
 
 use crate::books::{ANY, HEAD};
-use crate::program::{Edges, SOUND, ask, joined, repeated};
+use crate::program::{Edges, SOUND, answers, joined, repeated};
 use std::alloc::Global;
 use std::process::Abort;
 use std::sync::Wait;
@@ -124,8 +124,15 @@ fn explained<R: Abort + Threads + Wait + Sync>(
     (about, calls, entries, lines): Journal,
 ) -> Result<(), Fail> {
     let text = joined(alloc, &[HEAD, ANY, "journal;;\n", calls])?;
-    let answer = ask(rt, alloc, &["explain", "c"], text.as_str(), &SOUND)?;
-    assert!(rt; answer.is((0, entries, lines)), "{about}");
+    let holds = answers(
+        rt,
+        alloc,
+        &["explain", "c"],
+        text.as_str(),
+        &SOUND,
+        (0, entries, lines),
+    )?;
+    assert!(rt; holds, "{about}");
     Ok(())
 }
 
@@ -244,8 +251,15 @@ fn deliveries_are_explained(rt: HostRuntime) -> Result<(), Fail> {
     for (contract, kinds, entries, lines) in DELIVERED {
         let calls = deliveries(alloc, contract, kinds)?;
         let text = joined(alloc, &[HEAD, TEMPLATES, calls.as_str()])?;
-        let answer = ask(&rt, alloc, &["explain", "c"], text.as_str(), &SOUND)?;
-        assert!(rt; answer.is((0, entries, lines)), "{contract}");
+        let holds = answers(
+            &rt,
+            alloc,
+            &["explain", "c"],
+            text.as_str(),
+            &SOUND,
+            (0, entries, lines),
+        )?;
+        assert!(rt; holds, "{contract}");
     }
     Ok(())
 }
@@ -254,8 +268,15 @@ fn deliveries_are_explained(rt: HostRuntime) -> Result<(), Fail> {
 fn a_name_of_an_agent_is_no_contracts(rt: HostRuntime) -> Result<(), Fail> {
     let alloc = rt.alloc();
     let text = joined(alloc, &[HEAD, "journal;; 1: register c = Success;;"])?;
-    let answer = ask(&rt, alloc, &["explain", "ann"], text.as_str(), &SOUND)?;
-    assert!(rt; answer.is((0, 1, "no contract ann\n")));
+    let holds = answers(
+        &rt,
+        alloc,
+        &["explain", "ann"],
+        text.as_str(),
+        &SOUND,
+        (0, 1, "no contract ann\n"),
+    )?;
+    assert!(rt; holds);
     Ok(())
 }
 
@@ -298,10 +319,10 @@ const NO_JOURNALS: [(&str, &str); 5] = [
 fn other_texts_are_told(rt: HostRuntime) -> Result<(), Fail> {
     let alloc = rt.alloc();
     for (text, line) in NO_JOURNALS {
-        let answer = ask(&rt, alloc, &["explain", "c"], text, &SOUND)?;
-        assert!(rt; answer.is((1, 0, line)), "explain c: {text}");
-        let answer = ask(&rt, alloc, &["replay"], text, &SOUND)?;
-        assert!(rt; answer.is((1, 0, line)), "replay: {text}");
+        let holds = answers(&rt, alloc, &["explain", "c"], text, &SOUND, (1, 0, line))?;
+        assert!(rt; holds, "explain c: {text}");
+        let holds = answers(&rt, alloc, &["replay"], text, &SOUND, (1, 0, line))?;
+        assert!(rt; holds, "replay: {text}");
     }
     Ok(())
 }
@@ -314,8 +335,8 @@ fn answered<R: Abort + Threads + Wait + Sync>(
     wanted: (u8, usize, &str),
 ) -> Result<(), Fail> {
     let text = joined(alloc, &[HEAD, "journal;; 1: register c = Success;;"])?;
-    let answer = ask(rt, alloc, &["explain", "c"], text.as_str(), edges)?;
-    assert!(rt; answer.is(wanted), "status {}", wanted.0);
+    let holds = answers(rt, alloc, &["explain", "c"], text.as_str(), edges, wanted)?;
+    assert!(rt; holds, "status {}", wanted.0);
     Ok(())
 }
 

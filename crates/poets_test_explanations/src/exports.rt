@@ -1,7 +1,7 @@
 //! Journals that are exported.
 
 use crate::books::{ANY, HEAD};
-use crate::program::{Edges, SOUND, ask, joined};
+use crate::program::{Edges, SOUND, answers, joined};
 use std::alloc::Global;
 use std::process::Abort;
 use std::sync::Wait;
@@ -18,8 +18,15 @@ const FIRST_LINE: &str =
 fn a_journal_is_exported(rt: HostRuntime) -> Result<(), Fail> {
     let alloc = rt.alloc();
     let text = joined(alloc, &[HEAD, FIRST])?;
-    let answer = ask(&rt, alloc, &["export"], text.as_str(), &SOUND)?;
-    assert!(rt; answer.is((0, 2, FIRST_LINE)));
+    let holds = answers(
+        &rt,
+        alloc,
+        &["export"],
+        text.as_str(),
+        &SOUND,
+        (0, 2, FIRST_LINE),
+    )?;
+    assert!(rt; holds);
     Ok(())
 }
 
@@ -98,8 +105,15 @@ fn each_reply_is_exported(rt: HostRuntime) -> Result<(), Fail> {
         line.push_str(entry)?;
     }
     line.push_str("]}\n")?;
-    let answer = ask(&rt, alloc, &["export"], text.as_str(), &SOUND)?;
-    assert!(rt; answer.is((0, ENTRIES.len(), line.as_str())));
+    let holds = answers(
+        &rt,
+        alloc,
+        &["export"],
+        text.as_str(),
+        &SOUND,
+        (0, ENTRIES.len(), line.as_str()),
+    )?;
+    assert!(rt; holds);
     Ok(())
 }
 
@@ -122,16 +136,30 @@ const TYPES_LINE: &str =
 fn a_template_with_each_type_of_parameter(rt: HostRuntime) -> Result<(), Fail> {
     let alloc = rt.alloc();
     let text = joined(alloc, &[HEAD, TYPES])?;
-    let answer = ask(&rt, alloc, &["export"], text.as_str(), &SOUND)?;
-    assert!(rt; answer.is((0, 3, TYPES_LINE)));
+    let holds = answers(
+        &rt,
+        alloc,
+        &["export"],
+        text.as_str(),
+        &SOUND,
+        (0, 3, TYPES_LINE),
+    )?;
+    assert!(rt; holds);
     Ok(())
 }
 
 #[test]
 fn an_empty_journal_is_exported(rt: HostRuntime) -> Result<(), Fail> {
     let line = "{\"book\":[],\"format\":\"poets 1\",\"history\":[]}\n";
-    let answer = ask(&rt, rt.alloc(), &["export"], "journal;;", &SOUND)?;
-    assert!(rt; answer.is((0, 0, line)));
+    let holds = answers(
+        &rt,
+        rt.alloc(),
+        &["export"],
+        "journal;;",
+        &SOUND,
+        (0, 0, line),
+    )?;
+    assert!(rt; holds);
     Ok(())
 }
 
@@ -152,11 +180,18 @@ const NO_JOURNALS: [(&str, &str); 3] = [
 fn other_texts_are_not_exported(rt: HostRuntime) -> Result<(), Fail> {
     let alloc = rt.alloc();
     for (text, line) in NO_JOURNALS {
-        let answer = ask(&rt, alloc, &["export"], text, &SOUND)?;
-        assert!(rt; answer.is((1, 0, line)), "{text}");
+        let holds = answers(&rt, alloc, &["export"], text, &SOUND, (1, 0, line))?;
+        assert!(rt; holds, "{text}");
     }
-    let answer = ask(&rt, alloc, &["export", "c"], "journal;;", &SOUND)?;
-    assert!(rt; answer.is((2, 0, "")));
+    let holds = answers(
+        &rt,
+        alloc,
+        &["export", "c"],
+        "journal;;",
+        &SOUND,
+        (2, 0, ""),
+    )?;
+    assert!(rt; holds);
     Ok(())
 }
 
@@ -168,8 +203,8 @@ fn answered<R: Abort + Threads + Wait + Sync>(
     wanted: (u8, usize, &str),
 ) -> Result<(), Fail> {
     let text = joined(alloc, &[HEAD, FIRST])?;
-    let answer = ask(rt, alloc, &["export"], text.as_str(), edges)?;
-    assert!(rt; answer.is(wanted), "status {}", wanted.0);
+    let holds = answers(rt, alloc, &["export"], text.as_str(), edges, wanted)?;
+    assert!(rt; holds, "status {}", wanted.0);
     Ok(())
 }
 

@@ -58,29 +58,15 @@ pub(crate) fn repeated(alloc: Global, piece: &str, count: usize) -> Result<Strin
     Ok(text)
 }
 
-/// What the program answered.
-#[derive(Drop)]
-pub(crate) struct Answer {
-    status: u8,
-    entries: usize,
-    sink: TextSink,
-}
-
-impl Answer {
-    /// Whether this is the status, there are so many entries, and these lines are written.
-    pub(crate) fn is(&self, (status, entries, lines): (u8, usize, &str)) -> bool {
-        self.status == status && self.entries == entries && self.sink.bytes() == lines.as_bytes()
-    }
-}
-
-/// What the program, called with the words, answers to the text.
-pub(crate) fn ask<R: Threads + Wait + Sync>(
+/// Whether the program, called with the words, answers the text with the status, so many entries and these lines.
+pub(crate) fn answers<R: Threads + Wait + Sync>(
     rt: &R,
     alloc: Global,
     words: &[&str],
     text: &str,
     edges: &Edges,
-) -> Result<Answer, Fail> {
+    (status, entries, lines): (u8, usize, &str),
+) -> Result<bool, Fail> {
     let words = all_words(alloc, words)?;
     let bytes = list(alloc, text.as_bytes())?;
     let reads = list(alloc, edges.reads)?;
@@ -88,9 +74,6 @@ pub(crate) fn ask<R: Threads + Wait + Sync>(
     let mut source = TextSource::new(alloc, bytes, edges.step.max(1), reads);
     let mut sink = TextSink::new(alloc, writes)?;
     let outcome = run(rt, alloc, words.as_slice(), &mut source, &mut sink, &NoGate);
-    Ok(Answer {
-        status: outcome.status,
-        entries: outcome.history.len(),
-        sink,
-    })
+    let is_told = outcome.status == status && outcome.history.len() == entries;
+    Ok(is_told && sink.bytes() == lines.as_bytes())
 }
