@@ -51,8 +51,8 @@ fn held(alloc: Global, image: List<u8>) -> Result<List<List<u8>>, Memory> {
 }
 
 // The texts are the first ones.
-fn are_first(texts: &List<List<u8>>) -> bool {
-    for (text, wanted) in texts.as_slice().iter().zip(TEXTS) {
+fn are_first(texts: &[List<u8>]) -> bool {
+    for (text, wanted) in texts.iter().zip(TEXTS) {
         if text.as_slice() != wanted.as_bytes() {
             return false;
         }
@@ -60,31 +60,45 @@ fn are_first(texts: &List<List<u8>>) -> bool {
     texts.len() <= TEXTS.len()
 }
 
+// How many texts a journal holds on a disk with these bytes, if they are the first ones.
+fn first_texts(alloc: Global, image: List<u8>) -> Result<Option<usize>, Memory> {
+    let texts = held(alloc, image)?;
+    Ok(are_first(texts.as_slice()).then_some(texts.len()))
+}
+
+// Whether the bytes begin with a record whose text has 23 bytes.
+fn begins(image: &[u8]) -> bool {
+    image.starts_with(&[1, 0, 0, 0, 0x17])
+}
+
 #[test]
 fn texts_are_kept_and_read_again(rt: HostRuntime) -> Result<(), Fail> {
-    let alloc = rt.alloc();
-    let run = put_all(alloc, &[])?;
-    assert_eq!(rt; run.stored, 4);
-    let image = run.disk.left(alloc, 0)?;
-    assert!(rt; image.as_slice().starts_with(&[1, 0, 0, 0, 0x17]));
-    let texts = held(alloc, image)?;
-    assert_eq!(rt; texts.len(), 4);
-    assert!(rt; are_first(&texts));
+    let run = put_all(rt.alloc(), &[])?;
+    let begins = begins(run.disk.left(rt.alloc(), 0)?.as_slice());
+    let texts = first_texts(rt.alloc(), run.disk.left(rt.alloc(), 0)?)?;
+    let stored = run.stored;
+    drop(run);
+    assert_eq!(rt; (stored, begins, texts), (4, true, Some(4)));
     Ok(())
+}
+
+// How many texts are acknowledged where this call fails, and how many the image that is picked holds, if they are the
+// first ones.
+fn kept(alloc: Global, call: u64, pick: u64) -> Result<(usize, Option<usize>), Memory> {
+    let run = put_all(alloc, &[call])?;
+    let image = run.disk.left(alloc, pick)?;
+    Ok((run.stored, first_texts(alloc, image)?))
 }
 
 // Two calls start an empty journal after the first sync, and four put a text. Each image has the acknowledged texts, and
 // at most one more.
 #[test]
 fn a_crash_at_each_call_leaves_the_acknowledged_texts(rt: HostRuntime) -> Result<(), Fail> {
-    let alloc = rt.alloc();
     for call in 1..20 {
-        let run = put_all(alloc, &[call])?;
-        assert_eq!(rt; run.stored as u64, call.saturating_sub(4) / 4);
         for pick in [0, 1, 257] {
-            let texts = held(alloc, run.disk.left(alloc, pick)?)?;
-            assert!(rt; run.stored <= texts.len() && texts.len() - run.stored <= 1);
-            assert!(rt; are_first(&texts));
+            let (stored, texts) = kept(rt.alloc(), call, pick)?;
+            assert_eq!(rt; stored as u64, call.saturating_sub(4) / 4);
+            assert!(rt; texts == Some(stored) || texts == Some(stored + 1));
         }
     }
     Ok(())
@@ -100,33 +114,28 @@ const GATES: [(u64, u64, usize, usize); 5] = [
     (11, 257, 1, 2),
 ];
 
-// How many texts are acknowledged where this call fails, and how many the image that is picked holds.
-fn kept(alloc: Global, call: u64, pick: u64) -> Result<(usize, usize), Memory> {
-    let run = put_all(alloc, &[call])?;
-    let image = run.disk.left(alloc, pick)?;
-    Ok((run.stored, held(alloc, image)?.len()))
-}
-
 #[test]
 fn the_second_gate_fails(rt: HostRuntime) -> Result<(), Fail> {
     for (call, pick, stored, texts) in GATES {
-        assert_eq!(rt; kept(rt.alloc(), call, pick)?, (stored, texts));
+        assert_eq!(rt; kept(rt.alloc(), call, pick)?, (stored, Some(texts)));
     }
     Ok(())
+}
+
+// How many texts the image that is picked holds where this call of the start fails, of a file that is one byte.
+fn kept_at_start(alloc: Global, call: u64, pick: u64) -> Result<Option<usize>, Memory> {
+    match Journal::start(alloc, disk(alloc, bytes(alloc, &[1])?, &[call])?) {
+        Err(StartFault::Disk { disk }) => first_texts(alloc, disk.left(alloc, pick)?),
+        _ => Ok(None),
+    }
 }
 
 // A start that fails leaves at most one byte, and the next one takes it for an empty journal.
 #[test]
 fn a_start_is_stopped(rt: HostRuntime) -> Result<(), Fail> {
-    let alloc = rt.alloc();
     for call in 1..4 {
-        let file = bytes(alloc, &[1])?;
-        let Err(StartFault::Disk { disk }) = Journal::start(alloc, disk(alloc, file, &[call])?)
-        else {
-            return Ok(assert!(rt; false));
-        };
         for pick in [0, 1, 257] {
-            assert_eq!(rt; held(alloc, disk.left(alloc, pick)?)?.len(), 0);
+            assert_eq!(rt; kept_at_start(rt.alloc(), call, pick)?, Some(0));
         }
     }
     Ok(())

@@ -1,8 +1,8 @@
 //! An adder whose amounts are stored.
 ghost use Rattle.std.specs.Prelude.{◌≡◌, IfOk};
 
-use crate::making::{bytes, disk};
-use poets_disk::{Disk, FileDisk};
+use crate::making::{bytes, disk, leaves};
+use poets_disk::{Disk, FileDisk, MemoryDisk};
 use poets_journal::{Journal, Journaled, Put};
 use poets_machine::Machine;
 use poets_test_adder::Adder;
@@ -10,6 +10,7 @@ use poets_value::{List, Memory, push};
 use std::alloc::Global;
 use std::sync::Arc;
 use std::test::Fail;
+use std::thread::Threads;
 
 // Writes an amount as one byte.
 #[derive(Clone, Copy)]
@@ -43,39 +44,43 @@ fn adder<D: Disk + Drop>(alloc: Global, disk: D) -> Result<Journaled<Adder, D, O
     Ok(Journaled::new(Adder::new(alloc, 9), started.journal, OneByte))
 }
 
+// What came of a run: how many amounts were stored, their sum, and whether an image of the disk has these bytes.
+type Came = (u64, u64, bool);
+
+// Adds five, so many times, to an adder with a journal on the disk.
+fn came<R: Threads + Sync>(
+    rt: &R,
+    alloc: Global,
+    disk: MemoryDisk,
+    times: usize,
+    pick: u64,
+    wanted: &[u8],
+) -> Result<Came, Memory> {
+    let mut machine = adder(alloc, disk)?;
+    let five = Arc::new(alloc, 5)?;
+    for _ in 0..times {
+        let _ = machine.turn(rt, alloc, 1, &five)?;
+    }
+    let stored = machine.stored();
+    let (adder, disk) = machine.end();
+    Ok((stored, adder.sum(), leaves(alloc, &disk, pick, wanted)?))
+}
+
 #[test]
 fn amounts_are_stored_until_the_disk_fails(rt: HostRuntime) -> Result<(), Fail> {
-    let alloc = rt.alloc();
-    let mut machine = adder(alloc, disk(alloc, List::new(alloc), &[12])?)?;
-    let five = Arc::new(alloc, 5)?;
-    for _ in 0..4 {
-        let _ = machine.turn(&rt, alloc, 1, &five)?;
-    }
-    assert_eq!(rt; machine.stored(), 2);
-    let (adder, disk) = machine.end();
-    assert_eq!(rt; adder.sum(), 20);
-    assert_eq!(rt;
-        disk.left(alloc, 0)?.as_slice(),
-        [1, 0, 0, 0, 1, 5, 1, 0, 0, 0, 1, 5, 0].as_slice()
-    );
+    let disk = disk(rt.alloc(), List::new(rt.alloc()), &[12])?;
+    let wanted = [1, 0, 0, 0, 1, 5, 1, 0, 0, 0, 1, 5, 0];
+    assert_eq!(rt; came(&rt, rt.alloc(), disk, 4, 0, &wanted)?, (2, 20, true));
     Ok(())
 }
 
 // A journal holds the text of the byte 7 already.
 #[test]
 fn amounts_are_stored_behind_earlier_texts(rt: HostRuntime) -> Result<(), Fail> {
-    let alloc = rt.alloc();
-    let file = bytes(alloc, &[1, 0, 0, 0, 1, 7, 0])?;
-    let mut machine = adder(alloc, disk(alloc, file, &[])?)?;
-    let five = Arc::new(alloc, 5)?;
-    let _ = machine.turn(&rt, alloc, 1, &five)?;
-    assert_eq!(rt; machine.stored(), 1);
-    let (adder, disk) = machine.end();
-    assert_eq!(rt; adder.sum(), 5);
-    assert_eq!(rt;
-        disk.left(alloc, 1)?.as_slice(),
-        [1, 0, 0, 0, 1, 7, 1, 0, 0, 0, 1, 5, 0].as_slice()
-    );
+    let file = bytes(rt.alloc(), &[1, 0, 0, 0, 1, 7, 0])?;
+    let disk = disk(rt.alloc(), file, &[])?;
+    let wanted = [1, 0, 0, 0, 1, 7, 1, 0, 0, 0, 1, 5, 0];
+    assert_eq!(rt; came(&rt, rt.alloc(), disk, 1, 1, &wanted)?, (1, 5, true));
     Ok(())
 }
 

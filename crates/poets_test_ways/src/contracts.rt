@@ -43,14 +43,18 @@ pub(crate) fn book(alloc: Global) -> Result<Studied, Memory> {
     studied(alloc, &BOOK).or(Err(Memory))
 }
 
-/// The event that ann gives bob so much oil.
-pub(crate) fn delivered(alloc: Global, amount: u64) -> Result<Event, Memory> {
-    let text = format!(in alloc; "transmit c ann bob {amount} Oil @2006-01-01")?;
-    let said = sentence(alloc, &text)?;
-    match &said {
+// The event of a transmission.
+fn event_of(said: &Statement) -> Result<Event, Memory> {
+    match said {
         Statement::Command(Command::Transmit { event, .. }) => Ok(*event),
         _ => Err(Memory),
     }
+}
+
+/// The event that ann gives bob so much oil.
+pub(crate) fn delivered(alloc: Global, amount: u64) -> Result<Event, Memory> {
+    let text = format!(in alloc; "transmit c ann bob {amount} Oil @2006-01-01")?;
+    event_of(&sentence(alloc, &text)?)
 }
 
 /// Whether each application of a template has as many arguments as the template has parameters.

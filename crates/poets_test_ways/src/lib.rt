@@ -4,6 +4,8 @@
 #[cfg(test)]
 mod contracts;
 #[cfg(test)]
+mod made;
+#[cfg(test)]
 mod opening;
 #[cfg(test)]
 mod sentences;

@@ -71,6 +71,19 @@ fn is_step(step: &Step, wanted: &Term) -> bool {
     }
 }
 
+// Whether the steps are those of the transmissions of the texts.
+fn are_steps(alloc: Global, steps: &[Step], wanted: &[&str]) -> Result<bool, Memory> {
+    if steps.len() != wanted.len() {
+        return Ok(false);
+    }
+    for (step, text) in steps.iter().zip(wanted) {
+        if !is_step(step, &contract(alloc, text)?) {
+            return Ok(false);
+        }
+    }
+    Ok(true)
+}
+
 // Whether the contract of the text is open for the transmissions of the texts.
 fn is_open_for(
     alloc: Global,
@@ -83,15 +96,7 @@ fn is_open_for(
         return Err(Memory);
     }
     let steps = next(alloc, studied, &term)?;
-    if steps.len() != wanted.len() {
-        return Ok(false);
-    }
-    for (step, text) in steps.as_slice().iter().zip(wanted) {
-        if !is_step(step, &contract(alloc, text)?) {
-            return Ok(false);
-        }
-    }
-    Ok(true)
+    are_steps(alloc, steps.as_slice(), wanted)
 }
 
 #[test]

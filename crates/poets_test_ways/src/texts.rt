@@ -1,140 +1,61 @@
-//! Ways that are made by hand.
+//! How ways are written.
 
+use crate::made::{deep_way, long_way, way};
 use poets_value::Memory;
-use poets_way::{Trails, Way, way_text};
+use poets_way::{Way, way_text};
 use std::alloc::Global;
 
-// A way of one part, by its number.
-fn plain_way(alloc: Global, number: u32) -> Result<Way, Memory> {
-    let mut trails = Trails::new(alloc);
-    let done = trails.nothing()?;
-    let took = trails.take(done)?;
-    match number {
-        0 => trails.way(alloc, done),
-        1 => trails.way(alloc, took),
-        2 => {
-            let way = trails.left(took)?;
-            trails.way(alloc, way)
-        }
-        3 => {
-            let way = trails.right(done)?;
-            trails.way(alloc, way)
-        }
-        4 => {
-            let way = trails.take(took)?;
-            trails.way(alloc, way)
-        }
-        _ => {
-            let way = trails.left(done)?;
-            let way = trails.enter(way)?;
-            let way = trails.take(way)?;
-            let way = trails.right(way)?;
-            let way = trails.enter(way)?;
-            trails.way(alloc, way)
-        }
-    }
-}
-
-// A way of two contracts side by side, by its number.
-fn beside(alloc: Global, number: u32) -> Result<Way, Memory> {
-    let mut trails = Trails::new(alloc);
-    let done = trails.nothing()?;
-    let took = trails.take(done)?;
-    let none = trails.no_sides();
-    let left = trails.side(false, none)?;
-    let both = trails.side(true, left)?;
-    match number {
-        0 => {
-            let way = trails.both(both, took, took)?;
-            trails.way(alloc, way)
-        }
-        1 => {
-            let way = trails.both(left, took, took)?;
-            trails.way(alloc, way)
-        }
-        _ => {
-            let way = trails.both(none, done, done)?;
-            trails.way(alloc, way)
-        }
-    }
-}
-
-// The way of a sequence, with so many events for the first part. Each part takes one.
-fn in_turn(alloc: Global, count: u64) -> Result<Way, Memory> {
-    let mut trails = Trails::new(alloc);
-    let done = trails.nothing()?;
-    let took = trails.take(done)?;
-    let way = trails.then(count, took, took)?;
-    trails.way(alloc, way)
-}
-
-// A way by its number.
-fn way_by(alloc: Global, number: u32) -> Result<Way, Memory> {
-    match number {
-        0..10 => plain_way(alloc, number),
-        10..20 => beside(alloc, number - 10),
-        _ => in_turn(alloc, number as u64 - 20),
-    }
-}
-
-const TEXTS: [(u32, &str); 10] = [
-    (0, "done"),
-    (1, "take done"),
-    (2, "left take done"),
-    (3, "right done"),
-    (4, "take take done"),
-    (5, "enter right take enter left done"),
-    (10, "both RL (take done) (take done)"),
-    (11, "both L (take done) (take done)"),
-    (12, "both - (done) (done)"),
-    (22, "then 2 (take done) (take done)"),
+// A way without its brackets, and as it is written.
+const TEXTS: [(&str, &str); 10] = [
+    ("done", "done"),
+    ("take done", "take done"),
+    ("left take done", "left take done"),
+    ("right done", "right done"),
+    ("take take done", "take take done"),
+    (
+        "enter right take enter left done",
+        "enter right take enter left done",
+    ),
+    (
+        "both RL take done take done",
+        "both RL (take done) (take done)",
+    ),
+    (
+        "both L take done take done",
+        "both L (take done) (take done)",
+    ),
+    ("both - done done", "both - (done) (done)"),
+    (
+        "then 2 take done take done",
+        "then 2 (take done) (take done)",
+    ),
 ];
+
+// Whether the way is written so.
+fn is_written(alloc: Global, moves: &str, wanted: &str) -> Result<bool, Memory> {
+    let text = way_text(alloc, &way(alloc, moves)?)?;
+    Ok(text.as_str() == wanted)
+}
 
 #[test]
 fn ways_are_written(rt: HostRuntime) -> Result<(), Memory> {
-    let alloc = rt.alloc();
-    for (number, wanted) in &TEXTS {
-        let way = way_by(alloc, *number)?;
-        let text = way_text(alloc, &way)?;
-        assert!(rt; text.as_str() == *wanted, "{text}");
+    for (moves, wanted) in &TEXTS {
+        assert!(rt; is_written(rt.alloc(), moves, wanted)?, "{wanted}");
     }
     Ok(())
 }
 
-// A way that enters a template for each of so many events.
-fn long_way(alloc: Global, count: u64) -> Result<Way, Memory> {
-    let mut trails = Trails::new(alloc);
-    let done = trails.nothing()?;
-    let done = trails.left(done)?;
-    let mut way = trails.enter(done)?;
-    for _ in 0..count {
-        way = trails.take(way)?;
-        way = trails.right(way)?;
-        way = trails.enter(way)?;
-    }
-    trails.way(alloc, way)
-}
-
-// So many ways, each of which is the first part of the next one.
-fn deep_way(alloc: Global, count: u64) -> Result<Way, Memory> {
-    let mut trails = Trails::new(alloc);
-    let none = trails.no_sides();
-    let done = trails.nothing()?;
-    let mut way = done;
-    for _ in 0..count {
-        way = trails.both(none, way, done)?;
-    }
-    trails.way(alloc, way)
+// How many bytes the text of the way has.
+fn text_length(alloc: Global, way: &Way) -> Result<usize, Memory> {
+    Ok(way_text(alloc, way)?.len())
 }
 
 #[test]
 fn no_way_is_too_deep(rt: HostRuntime) -> Result<(), Memory> {
     let alloc = rt.alloc();
-    let way = long_way(alloc, 70_000)?;
-    let text = way_text(alloc, &way)?;
-    assert!(rt; text.len() == 70_000 * 17 + 15, "{}", text.len());
-    let way = deep_way(alloc, 200_000)?;
-    let text = way_text(alloc, &way)?;
-    assert!(rt; text.len() == 200_000 * 16 + 4, "{}", text.len());
+    let long = text_length(alloc, &long_way(alloc, 70_000)?)?;
+    let deep = text_length(alloc, &deep_way(alloc, 200_000)?)?;
+    assert!(rt; long == 70_000 * 17 + 15, "{long}");
+    assert!(rt; deep == 200_000 * 16 + 4, "{deep}");
     Ok(())
 }

@@ -1,5 +1,5 @@
 use Rattle.std.proofs.Common.{◌<◌, length}
-use Rattle.poets_test_ways.proofs.texts.deep_way.Given as goal
+use Rattle.poets_test_ways.proofs.made.deep_way.Given as goal
 
 abbrev pub invariant-loop : goal.invariant-loop
 invariant-loop l = record {

@@ -1,5 +1,5 @@
 use Rattle.std.proofs.Common.{◌≡◌, ◌+◌, length}
-use Rattle.poets_test_ways.proofs.ways.way.Given as goal
+use Rattle.poets_test_ways.proofs.made.way.Given as goal
 use denote.Shadow.{shadow}
 use denote.Text.{Utf8}
 
